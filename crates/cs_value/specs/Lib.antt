@@ -1,0 +1,6 @@
+pub mod Id
+pub mod Pairs
+pub mod Tree
+pub mod Value
+pub mod View
+pub mod Words

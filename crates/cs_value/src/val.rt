@@ -1,0 +1,116 @@
+ghost use Rattle.std.specs.Prelude.{◌≡◌, option_map, IfOk, OnErr, ◌<◌, ◌^◌, ◌↔◌, IsTrue};
+ghost use Rattle.cs_value.specs.Tree.{no_pairs, depth as tree_depth};
+ghost use Rattle.cs_value.specs.Pairs.{find, put, without, attribute};
+ghost use Rattle.cs_value.specs.Value.{IsValue};
+ghost use Rattle.cs_value.specs.View.{tree, fields};
+
+use crate::memory::NoMemory;
+use crate::txt::Txt;
+use crate::{copy, depth, same};
+use std::alloc::Global;
+use std::collections::BTreeMap;
+
+/// A value of JSON (RFC 8259, section 3) whose numbers are whole and have 64 bits. Contracts speak
+/// of it by its tree.
+#[cycle(value)]
+#[derive(Drop)]
+pub enum Val {
+    /// `null`.
+    Null,
+    /// `true` or `false`.
+    Bool(bool),
+    /// A whole number from -2^63 to 2^63-1.
+    Num(i64),
+    /// A text.
+    Text(Txt),
+    /// A list of values, in order.
+    List(Vec<Val>),
+    /// An object.
+    Obj(Fields),
+}
+
+/// The attributes of an object: distinct names, each with its value, in ascending order of the
+/// names' bytes.
+#[cycle(value)]
+#[derive(Drop)]
+pub struct Fields {
+    /// The attributes, in the order of their names.
+    pub pairs: BTreeMap<String, Val>,
+}
+
+impl Val {
+    /// The attribute of the name. `None` exactly where the value is no object or lacks the name.
+    pub fn field(&self, name: &str) -> Option<&Val>
+        ensures { option_map (λ v. tree v.now) result ≡ attribute name.now (tree self.now) }
+    {
+        if let Val::Obj(object) = self {
+            object.get(name)
+        } else {
+            None
+        }
+    }
+}
+
+impl Val {
+    /// How deep lists and objects nest: 0 for a value that is neither, and 1 for an empty one.
+    pub fn depth(&self) -> u32
+        requires { tree_depth (tree self.now) < 2 ^ 32 }
+        ensures depth { result ≡ tree_depth (tree self.now) }
+        ensures value { IsValue (tree self.now) }
+    {
+        depth::depth(self)
+    }
+
+    /// Whether the two are the same tree.
+    pub fn same(&self, other: &Val) -> bool
+        ensures { IsTrue result ↔ (tree self.now ≡ tree other.now) }
+    {
+        same::same(self, other)
+    }
+
+    /// A copy of the whole value. `NoMemory` where the allocator has no room for it.
+    pub fn copy(&self, alloc: Global) -> Result<Val, NoMemory>
+        ensures { IfOk result (λ v. tree v ≡ tree self.now) }
+    {
+        copy::copy(alloc, self)
+    }
+}
+
+impl Fields {
+    /// An object without attributes. It takes no memory.
+    pub fn new(alloc: Global) -> Fields
+        ensures { fields result ≡ no_pairs }
+    {
+        Fields {
+            pairs: BTreeMap::new(alloc),
+        }
+    }
+
+    /// The value of the name. `None` exactly where the object lacks the name.
+    pub fn get(&self, name: &str) -> Option<&Val>
+        ensures { option_map (λ v. tree v.now) result ≡ find name.now (fields self.now) }
+    {
+        self.pairs.get(name)
+    }
+
+    /// Puts the value at the name, and gives back the value that it replaces: `Ok(None)` exactly
+    /// where the name was not there. `NoMemory` where the object cannot grow; it is unchanged then.
+    pub fn put(&mut self, name: Txt, val: Val) -> Result<Option<Val>, NoMemory>
+        ensures replaced { IfOk result (λ old. option_map tree old ≡ find name (fields self.old)) }
+        ensures put { IfOk result (λ _. fields self.new ≡ put name (tree val) (fields self.old)) }
+        ensures kept { OnErr result (fields self.new ≡ fields self.old) }
+    {
+        match self.pairs.insert(name.into_string(), val) {
+            Ok(old) => Ok(old),
+            Err(_) => Err(NoMemory),
+        }
+    }
+
+    /// Takes the name out, and gives its value. `None` exactly where the object lacks the name.
+    pub fn take(&mut self, name: &str) -> Option<Val>
+        ensures taken { option_map tree result ≡ find name.now (fields self.old) }
+        ensures left { fields self.new ≡ without name.now (fields self.old) }
+    {
+        self.pairs.remove(name)
+    }
+}
