@@ -9,6 +9,7 @@ mod same;
 mod steps;
 mod txt;
 mod val;
+mod within;
 
 pub use id::is_id;
 pub use memory::{NoMemory, NoName};

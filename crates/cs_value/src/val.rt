@@ -1,4 +1,4 @@
-ghost use Rattle.std.specs.Prelude.{◌≡◌, option_map, IfOk, OnErr, ◌<◌, ◌^◌, ◌↔◌, IsTrue};
+ghost use Rattle.std.specs.Prelude.{◌≡◌, option_map, IfOk, OnErr, ◌<◌, ◌^◌, ◌↔◌, IsTrue, nat_le};
 ghost use Rattle.cs_value.specs.Tree.{no_pairs, depth as tree_depth};
 ghost use Rattle.cs_value.specs.Pairs.{find, put, without, attribute};
 ghost use Rattle.cs_value.specs.Value.{IsValue};
@@ -6,7 +6,7 @@ ghost use Rattle.cs_value.specs.View.{tree, fields};
 
 use crate::memory::NoMemory;
 use crate::txt::Txt;
-use crate::{copy, depth, same};
+use crate::{copy, depth, same, within};
 use std::alloc::Global;
 use std::collections::BTreeMap;
 
@@ -59,6 +59,13 @@ impl Val {
         ensures value { IsValue (tree self.now) }
     {
         depth::depth(self)
+    }
+
+    /// Whether lists and objects nest at most `deepest` levels. It looks no deeper than that.
+    pub fn within(&self, deepest: u32) -> bool
+        ensures { result ≡ nat_le (tree_depth (tree self.now)) deepest }
+    {
+        within::within(self, deepest)
     }
 
     /// Whether the two are the same tree.
