@@ -1,0 +1,3 @@
+pub mod Dataset
+pub mod Document
+pub mod View

@@ -1,0 +1,6 @@
+//! Documents.
+#![tactic(auto)]
+
+mod doc;
+
+pub use doc::{Doc, is_body};
