@@ -1,0 +1,3 @@
+mod Bytes
+mod Finding
+mod Keeping

@@ -1,0 +1,4 @@
+pub mod Bytes
+pub mod Causes
+pub mod Held
+pub mod Names

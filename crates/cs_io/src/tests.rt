@@ -1,0 +1,134 @@
+ghost use Rattle.std.specs.Prelude.{◌<◌, ◌≡◌, true, [], IfOk};
+ghost use Rattle.cs_io.specs.Names.{is_open};
+
+use crate::{FileLibrary, Library, MemLibrary, MemSink, OutSink, Sink, write_whole};
+use cs_value::Txt;
+use std::alloc::{AllocError, Global};
+use std::fs;
+use std::test::Fail;
+
+// What was read under a number before a read gave nothing or failed.
+#[derive(Drop)]
+struct Seen {
+    bytes: Vec<u8>,
+    reads: u32,
+    failed: bool,
+}
+
+fn read_on<Lb: Library>(alloc: Global, library: &mut Lb, which: u32) -> Result<Seen, AllocError>
+    requires { is_open (Lb.asked library.old) which ≡ true }
+{
+    let mut bytes = Vec::new(alloc);
+    let mut piece = [0u8; 4];
+    for reads in 0..100 {
+        match library.read(which, &mut piece) {
+            Ok(0) => return Ok(Seen {
+                bytes,
+                reads,
+                failed: false,
+            }),
+            Ok(count) => bytes.extend_from_slice(&piece[..count])?,
+            Err(_) => return Ok(Seen {
+                bytes,
+                reads,
+                failed: true,
+            }),
+        }
+    }
+    Ok(Seen {
+        bytes,
+        reads: 100,
+        failed: false,
+    })
+}
+
+fn mem_library(alloc: Global, piece: usize, fail: &[u64]) -> Result<MemLibrary, AllocError>
+    requires { 0 < piece }
+    ensures { IfOk result (λ library. ⟦<MemLibrary as Library>⟧.asked library ≡ []) }
+{
+    let mut files = Vec::new(alloc);
+    for (name, bytes) in [("a", "hello"), ("b", ""), ("a", "later")] {
+        let name = Txt::from_string(String::from_str(alloc, name)?);
+        files.push((name, Vec::from_slice(alloc, bytes.as_bytes())?))?;
+    }
+    Ok(MemLibrary::new(alloc, files, piece, Vec::from_slice(alloc, fail)?))
+}
+
+#[test]
+fn mem_library_gives_pieces_and_fails_the_numbered_calls(rt: HostRuntime) -> Result<(), Fail> {
+    // the bytes that were read, in how many reads, and whether a read failed; none where the open did
+    let cases = [
+        ("a", 9, 0, Some(("hello", 2, false))),
+        ("a", 4, 0, Some(("hello", 2, false))),
+        ("a", 2, 0, Some(("hello", 3, false))),
+        ("a", 1, 0, Some(("hello", 5, false))),
+        ("b", 1, 0, Some(("", 0, false))),
+        ("c", 1, 0, None),
+        ("a", 2, 1, None),
+        ("a", 2, 2, Some(("", 0, true))),
+        ("a", 2, 4, Some(("hell", 2, true))),
+        ("a", 2, 6, Some(("hello", 3, false))),
+    ];
+    for (name, piece, fail, want) in cases {
+        let mut library = mem_library(rt.alloc(), piece, &[fail])?;
+        let opened = library.open(name);
+        assert_eq!(rt; opened.is_ok(), want.is_some(), "{name} {fail}");
+        if let (Ok(number), Some((bytes, reads, failed))) = (opened, want) {
+            let seen = read_on(rt.alloc(), &mut library, number)?;
+            assert_eq!(rt;
+                seen.bytes.as_slice(),
+                bytes.as_bytes(),
+                "{name} {piece} {fail}"
+            );
+            assert_eq!(rt; seen.reads, reads, "{name} {piece} {fail}");
+            assert_eq!(rt; seen.failed, failed, "{name} {piece} {fail}");
+        }
+    }
+    Ok(())
+}
+
+#[test]
+fn mem_sink_takes_pieces_whole_and_fails_the_numbered_writes(rt: HostRuntime) -> Result<(), Fail> {
+    for (fail, want) in [
+        (0, "abcdef"),
+        (1, "cdef"),
+        (2, "abef"),
+        (3, "abcd"),
+        (4, "abcdef"),
+    ] {
+        let mut sink = MemSink::new(rt.alloc(), Vec::from_slice(rt.alloc(), &[fail])?);
+        for (number, text) in [(1, "ab"), (2, "cd"), (3, "ef")] {
+            let wrote = write_whole(&mut sink, text.as_bytes());
+            assert_eq!(rt; wrote.is_ok(), number != fail, "{number} {fail}");
+        }
+        assert_eq!(rt; sink.taken(), want.as_bytes(), "{fail}");
+    }
+    Ok(())
+}
+
+#[test]
+fn file_library_reads_a_file_and_refuses_a_missing_name(rt: HostRuntime) -> Result<(), Fail> {
+    let path = "cs_io_file_library_test";
+    fs::write(&rt, path, "two\nlines")?;
+    let mut library = FileLibrary::new(rt.alloc(), &rt);
+    let opened = library.open(path);
+    assert!(rt; opened.is_ok());
+    if let Ok(number) = opened {
+        let seen = read_on(rt.alloc(), &mut library, number)?;
+        assert_eq!(rt; seen.bytes.as_slice(), b"two\nlines".as_slice());
+        assert!(rt; !seen.failed);
+    }
+    fs::remove_file(&rt, path)?;
+    assert!(rt; library.open(path).is_err());
+    assert!(rt; library.open("-").is_ok());
+    Ok(())
+}
+
+#[test]
+fn out_sink_writes(rt: HostRuntime) -> Result<(), Fail> {
+    let mut sink = OutSink::new(&rt);
+    assert!(rt; write_whole(&mut sink, b"written\n".as_slice()).is_ok());
+    let nothing = sink.write(b"".as_slice());
+    assert!(rt; nothing == Ok(0));
+    Ok(())
+}
