@@ -1,4 +1,10 @@
 pub mod Bytes
 pub mod Causes
 pub mod Held
+pub mod Laws
+pub mod Lines
+pub mod Moves
 pub mod Names
+pub mod Next
+pub mod Parts
+pub mod Reader

@@ -1,7 +1,7 @@
 ghost use Rattle.std.specs.Prelude.{◌<◌, ◌≡◌, true, [], IfOk};
 ghost use Rattle.cs_io.specs.Names.{is_open};
 
-use crate::{FileLibrary, Library, MemLibrary, MemSink, OutSink, Sink, write_whole};
+use crate::{FileLibrary, Library, Line, Lines, MemLibrary, MemSink, OutSink, Sink, write_whole};
 use cs_value::Txt;
 use std::alloc::{AllocError, Global};
 use std::fs;
@@ -42,20 +42,27 @@ fn read_on<Lb: Library>(alloc: Global, library: &mut Lb, which: u32) -> Result<S
     })
 }
 
-fn mem_library(alloc: Global, piece: usize, fail: &[u64]) -> Result<MemLibrary, AllocError>
+// A library in memory whose call of one number fails.
+fn mem_library(
+    alloc: Global,
+    held: &[(&str, &str)],
+    piece: usize,
+    fail: u64,
+) -> Result<MemLibrary, AllocError>
     requires { 0 < piece }
     ensures { IfOk result (λ library. ⟦<MemLibrary as Library>⟧.asked library ≡ []) }
 {
     let mut files = Vec::new(alloc);
-    for (name, bytes) in [("a", "hello"), ("b", ""), ("a", "later")] {
+    for (name, bytes) in held {
         let name = Txt::from_string(String::from_str(alloc, name)?);
         files.push((name, Vec::from_slice(alloc, bytes.as_bytes())?))?;
     }
-    Ok(MemLibrary::new(alloc, files, piece, Vec::from_slice(alloc, fail)?))
+    Ok(MemLibrary::new(alloc, files, piece, Vec::from_slice(alloc, &[fail])?))
 }
 
 #[test]
 fn mem_library_gives_pieces_and_fails_the_numbered_calls(rt: HostRuntime) -> Result<(), Fail> {
+    let held = [("a", "hello"), ("b", ""), ("a", "later")];
     // the bytes that were read, in how many reads, and whether a read failed; none where the open did
     let cases = [
         ("a", 9, 0, Some(("hello", 2, false))),
@@ -70,7 +77,7 @@ fn mem_library_gives_pieces_and_fails_the_numbered_calls(rt: HostRuntime) -> Res
         ("a", 2, 6, Some(("hello", 3, false))),
     ];
     for (name, piece, fail, want) in cases {
-        let mut library = mem_library(rt.alloc(), piece, &[fail])?;
+        let mut library = mem_library(rt.alloc(), &held, piece, fail)?;
         let opened = library.open(name);
         assert_eq!(rt; opened.is_ok(), want.is_some(), "{name} {fail}");
         if let (Ok(number), Some((bytes, reads, failed))) = (opened, want) {
@@ -130,5 +137,51 @@ fn out_sink_writes(rt: HostRuntime) -> Result<(), Fail> {
     assert!(rt; write_whole(&mut sink, b"written\n".as_slice()).is_ok());
     let nothing = sink.write(b"".as_slice());
     assert!(rt; nothing == Ok(0));
+    Ok(())
+}
+
+// The lines under a number, or none where a line has another number than its place, or a fault came.
+fn lines_under<Lb: Library>(
+    alloc: Global,
+    library: &mut Lb,
+    which: u32,
+) -> Result<Option<Vec<Line>>, AllocError>
+    requires { is_open (Lb.asked library.old) which ≡ true }
+{
+    let mut given = Vec::new(alloc);
+    let mut lines = Lines::new(alloc, which);
+    for before in 0..100 {
+        match lines.next(library) {
+            Ok(Some(line)) if line.number == before + 1 => given.push(line)?,
+            Ok(None) => return Ok(Some(given)),
+            _ => return Ok(None),
+        }
+    }
+    Ok(None)
+}
+
+#[test]
+fn lines_are_the_same_in_any_pieces(rt: HostRuntime) -> Result<(), Fail> {
+    let cases = [
+        ("", [].as_slice()),
+        ("\n", [""].as_slice()),
+        ("a", ["a"].as_slice()),
+        ("ab\n", ["ab"].as_slice()),
+        ("ab\n\n", ["ab", ""].as_slice()),
+        ("\n\nabc", ["", "", "abc"].as_slice()),
+        ("ab\ncde", ["ab", "cde"].as_slice()),
+        ("abcdef\r\n \t\ng\n", ["abcdef\r", " \t", "g"].as_slice()),
+    ];
+    for (source, want) in cases {
+        for piece in [1, 2, 3, 65_536] {
+            let mut library = mem_library(rt.alloc(), &[("a", source)], piece, 0)?;
+            let number = library.open("a").expect(&rt, "the file is held");
+            let lines = lines_under(rt.alloc(), &mut library, number)?.expect(&rt, "no call fails");
+            assert_eq!(rt; lines.len(), want.len(), "{source} {piece}");
+            for (line, bytes) in lines.iter().zip(want) {
+                assert_eq!(rt; line.bytes.as_slice(), bytes.as_bytes(), "{source} {piece}");
+            }
+        }
+    }
     Ok(())
 }
