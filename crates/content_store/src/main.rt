@@ -1,0 +1,57 @@
+//! The program: files and the standard streams, handed to the top call.
+#![tactic(auto)]
+
+ghost use Rattle.std.specs.Prelude.{◌≡◌, ◌<◌};
+
+use cs_io::{FileLibrary, OutSink};
+use cs_run::{Status, run};
+use cs_value::{NoMemory, Steps, Txt};
+use std::alloc::Global;
+use std::fs::Files;
+use std::io::{Input, Print};
+use std::marker::Brand;
+use std::process::ExitCode;
+use std::sync::ledger::{Blank, Ledger};
+
+/// The status where the machine hands over no words, or words that are no text.
+const NO_WORDS: u8 = 8;
+
+// Runs over files and the standard streams, with a counter of the run's own ledger.
+fn counted<L: Ledger, R: Files + Input + Print>(
+    blank: Blank,
+    rt: &R,
+    alloc: Global,
+    words: &[Txt],
+) -> Status
+    requires name { blank.name ≡ L.name }
+    requires parts { blank.parts ≡ L.parts }
+    requires some { 0 < blank.parts }
+{
+    let mut steps = Steps::<L>::new(blank);
+    let mut library = FileLibrary::new(alloc, rt);
+    let mut sink = OutSink::new(rt);
+    run(alloc, words, &mut library, &mut sink, &mut steps)
+}
+
+fn texts(alloc: Global, words: Vec<String>) -> Result<Vec<Txt>, NoMemory> {
+    let mut texts = Vec::with_capacity(alloc, words.len())?;
+    for word in words {
+        texts.push(Txt::from_string(word))?;
+    }
+    Ok(texts)
+}
+
+fn main(rt: HostRuntime) -> ExitCode {
+    let alloc = rt.alloc();
+    let Ok(arguments) = std::env::args(&rt) else {
+        return ExitCode::from(NO_WORDS);
+    };
+    let Ok(words) = arguments.collect(alloc) else {
+        return ExitCode::from(Status::NoMemory as u8);
+    };
+    let Ok(words) = texts(alloc, words) else {
+        return ExitCode::from(Status::NoMemory as u8);
+    };
+    let status = counted::<Brand, HostRuntime>(Blank::new(1), &rt, alloc, words.as_slice());
+    ExitCode::from(status as u8)
+}

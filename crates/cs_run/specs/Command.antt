@@ -1,0 +1,112 @@
+-- What a line of a script asks for: this project's profile of what is built so far.
+use Rattle.std.specs.Prelude.{ℕ, List, [], ◌∷◌, Bool, true, false, not, ◌&&◌, ◌||◌, cond, ◌==◌, Option, Some, None, option_and_then, codes}
+use Rattle.std.specs.Str.{bytes_eq}
+use Rattle.std.specs.List.{list_all}
+use Rattle.cs_value.specs.Tree.{Tree, null, boolean, integer, text, list, object, Trees, no_trees, more_trees, Pairs, no_pairs, more_pairs}
+use Rattle.cs_view.specs.Document.{is_body, is_shallow}
+use Rattle.cs_json.specs.Reading.{Outcome, not_json, too_deep, not_whole, value, outcome}
+
+abbrev pub is_blank_byte : ℕ → Bool
+is_blank_byte b = b == 32 || b == 9 || b == 13
+
+-- spaces, tabs and carriage returns alone
+abbrev pub is_blank : List ℕ → Bool
+is_blank line = list_all is_blank_byte line
+
+-- the value of the one attribute, where it has the name
+abbrev pub sole_pair : List ℕ → Pairs → Option Tree
+sole_pair name no_pairs = None
+sole_pair name (more_pairs k t no_pairs) = cond (bytes_eq name k) (Some t) None
+sole_pair name (more_pairs k t (more_pairs l u ps)) = None
+
+-- the value of an object whose one attribute has the name
+abbrev pub sole_attribute : List ℕ → Tree → Option Tree
+sole_attribute name null = None
+sole_attribute name (boolean b) = None
+sole_attribute name (integer n) = None
+sole_attribute name (text s) = None
+sole_attribute name (list ts) = None
+sole_attribute name (object ps) = sole_pair name ps
+
+abbrev pub sole_tree : Trees → Option Tree
+sole_tree no_trees = None
+sole_tree (more_trees t no_trees) = Some t
+sole_tree (more_trees t (more_trees u ts)) = None
+
+-- the one member of a list
+abbrev pub sole_member : Tree → Option Tree
+sole_member null = None
+sole_member (boolean b) = None
+sole_member (integer n) = None
+sole_member (text s) = None
+sole_member (list ts) = sole_tree ts
+sole_member (object ps) = None
+
+abbrev pub is_star : Option Tree → Bool
+is_star None = false
+is_star (Some null) = false
+is_star (Some (boolean b)) = false
+is_star (Some (integer n)) = false
+is_star (Some (text s)) = bytes_eq (codes "*") s
+is_star (Some (list ts)) = false
+is_star (Some (object ps)) = false
+
+-- the query for all documents
+abbrev pub is_query_all : Tree → Bool
+is_query_all t = is_star (sole_attribute (codes "query") t)
+
+-- an attribute `_ref` at any depth
+abbrev mutual
+  pub names_ref : Tree → Bool
+  names_ref null = false
+  names_ref (boolean b) = false
+  names_ref (integer n) = false
+  names_ref (text s) = false
+  names_ref (list ts) = some_names_ref ts
+  names_ref (object ps) = pairs_name_ref ps
+
+  pub some_names_ref : Trees → Bool
+  some_names_ref no_trees = false
+  some_names_ref (more_trees t ts) = names_ref t || some_names_ref ts
+
+  pub pairs_name_ref : Pairs → Bool
+  pairs_name_ref no_pairs = false
+  pairs_name_ref (more_pairs k t ps) = (bytes_eq (codes "_ref") k || names_ref t) || pairs_name_ref ps
+
+-- an object that can be installed as it stands, and that refers to nothing
+abbrev pub is_creatable : Tree → Bool
+is_creatable t = is_body t && is_shallow t && not (names_ref t)
+
+abbrev pub creatable : Tree → Option Tree
+creatable t = cond (is_creatable t) (Some t) None
+
+-- what a transaction of one create is to create
+abbrev pub created_by : Tree → Option Tree
+created_by t =
+    option_and_then (λ body. option_and_then (λ mutations. option_and_then (λ mutation. option_and_then creatable (sole_attribute (codes "create") mutation)) (sole_member mutations)) (sole_attribute (codes "mutations") body)) (sole_attribute (codes "mutate") t)
+
+pub data Command : Type 0 where
+  no_json : Command
+  query_all : Command
+  create : Tree → Command
+  not_built : Command
+
+abbrev pub creating : Option Tree → Command
+creating None = not_built
+creating (Some t) = create t
+
+abbrev pub asked : Tree → Command
+asked t = cond (is_query_all t) query_all (creating (created_by t))
+
+abbrev pub of_outcome : Outcome → Command
+of_outcome not_json = no_json
+of_outcome too_deep = not_built
+of_outcome not_whole = not_built
+of_outcome (value t) = asked t
+
+-- how many levels of lists and objects a line may nest
+abbrev pub deepest_line : ℕ
+deepest_line = 64
+
+abbrev pub command_of : List ℕ → Command
+command_of line = of_outcome (outcome deepest_line line)

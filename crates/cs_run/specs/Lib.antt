@@ -1,0 +1,10 @@
+pub mod Asking
+pub mod Command
+pub mod Expected
+pub mod Headline
+pub mod Install
+pub mod Machine
+pub mod Places
+pub mod Replies
+pub mod Script
+pub mod Store

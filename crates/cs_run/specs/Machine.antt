@@ -1,0 +1,64 @@
+-- The plain machine: what each line of a script does to the documents, and what it replies. It holds a list of documents and nothing else: no index and no cache.
+use Rattle.std.specs.Prelude.{ℕ, ◌+◌, List, [], ◌∷◌, ◌++◌, cond, codes}
+use Rattle.cs_value.specs.Tree.{Tree, list, trees}
+use Rattle.cs_view.specs.Document.{id_of}
+use Rattle.cs_view.specs.Dataset.{stands, with_doc}
+use Rattle.cs_run.specs.Command.{is_blank, Command, no_json, query_all, create, not_built, command_of}
+use Rattle.cs_run.specs.Install.{stamped, tx_of_line}
+use Rattle.cs_run.specs.Replies.{refusal, exists_reply, query_reply, change_of, transaction_reply, reply_lines}
+
+-- the documents, in ascending order of their ids
+pub record State : Type 0 where
+  pub docs : List Tree
+
+abbrev pub first_state : State
+first_state = record { docs = [] }
+
+-- the moment at which every run begins
+abbrev pub first_moment : List ℕ
+first_moment = codes "1970-01-01T00:00:00Z"
+
+-- what one line leads to
+pub record Stepped : Type 0 where
+  pub state : State
+  pub replies : List Tree
+
+-- the line has a reply, and changes nothing
+abbrev pub answered : State → Tree → Stepped
+answered s reply = record { state = s; replies = reply ∷ [] }
+
+-- one mutation, the first of its transaction: refused where a document has the id, else installed
+abbrev pub created : State → ℕ → Tree → Stepped
+created s n t =
+    cond (stands (id_of t) s.docs) (answered s (exists_reply (id_of t) 0 n))
+    (record {
+      state = record { docs = with_doc (stamped (tx_of_line n) first_moment t) s.docs };
+      replies = transaction_reply (change_of (codes "create") (id_of t) ∷ []) (tx_of_line n) n ∷ [];
+    })
+
+abbrev pub done : State → ℕ → Command → Stepped
+done s n no_json = answered s (refusal (codes "not-json") n)
+done s n query_all = answered s (query_reply (list (trees s.docs)) n)
+done s n (create t) = created s n t
+done s n not_built = answered s (refusal (codes "not-built") n)
+
+-- what the line with this number leads to: a blank line to nothing
+unfoldable pub step : State → ℕ → List ℕ → Stepped
+step s n line = cond (is_blank line) (record { state = s; replies = [] }) (done s n (command_of line))
+
+-- what the line has the machine write
+abbrev pub step_reply : State → ℕ → List ℕ → List ℕ
+step_reply s n line = reply_lines (step s n line).replies
+
+abbrev pub step_state : State → ℕ → List ℕ → State
+step_state s n line = (step s n line).state
+
+-- the state after the lines, the first of which has the number n
+abbrev pub state_after : State → ℕ → List (List ℕ) → State
+state_after s n [] = s
+state_after s n (line ∷ lines) = state_after (step_state s n line) (n + 1) lines
+
+-- what the lines have the machine write
+abbrev pub replies : State → ℕ → List (List ℕ) → List ℕ
+replies s n [] = []
+replies s n (line ∷ lines) = step_reply s n line ++ replies (step_state s n line) (n + 1) lines
