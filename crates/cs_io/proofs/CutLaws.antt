@@ -17,7 +17,8 @@ cut_plain : (b : ℕ) (line : List ℕ) → IsPlain (b ∷ line) → cut (b ∷ 
 cut_plain b [] p = let no : (b == 10) ≡ false = grind (arith, nat_tests) in rw no refl
 cut_plain b (x ∷ line) p = let no : (b == 10) ≡ false = grind (arith, nat_tests) in rw (no, cut_plain x line p.1) refl
 
--- what is given from a line under way: all lines, or those before the faulty one, whose number counts them
+-- what is given from a line under way: all lines, or those before the faulty one, whose number
+-- counts them
 pub record Follows (n : ℕ) (f : Feed) (lines : List (List ℕ)) : Type 0 where
   pub whole : fault_line f ≡ None → given_lines f ≡ lines
   pub part : (m : ℕ) → fault_line f ≡ Some m → (m ≡ n + length (given_lines f)) × (given_lines f ≡ take (length (given_lines f)) lines)

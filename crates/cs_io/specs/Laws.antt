@@ -1,4 +1,5 @@
--- What a source gives is the lines of its bytes, up to the line that passes a limit: this project's profile.
+-- What a source gives is the lines of its bytes, up to the line that passes a limit: this project's
+-- profile.
 use Rattle.std.specs.Prelude.{◌≡◌, ◌≢◌, ◌⊎◌, ℕ, ◌-◌, List, [], ◌∷◌, ◌++◌, take, Option, None, Some, MatchOption}
 use Rattle.cs_io.specs.Lines.{Feed, End, LineTooLong, SourceTooMuch, More, feed_of, cut, whole_lines, IsPlain}
 

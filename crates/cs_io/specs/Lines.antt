@@ -2,7 +2,8 @@
 use Rattle.std.specs.Prelude.{ℕ, ◌+◌, ◌≢◌, cond, ◌==◌, List, [], ◌∷◌, ◌++◌, length}
 use Rattle.std.specs.List.{onto_first}
 
--- the bytes are cut at each newline; a last line without one is a line, an empty rest after the last newline is none
+-- the bytes are cut at each newline; a last line without one is a line, an empty rest after the
+-- last newline is none
 abbrev pub cut : List ℕ → List (List ℕ)
 cut [] = []
 cut (b ∷ bytes) = cond (b == 10) ([] ∷ cut bytes) (onto_first b (cut bytes))
@@ -30,15 +31,17 @@ longest_line = 16777216
 abbrev pub largest_source : ℕ
 largest_source = 268435456
 
--- what a source gives: numbered lines, and then its end or the number of the line that passes a limit
+-- what a source gives: numbered lines, and then its end or the number of the line that passes a
+-- limit
 pub data Feed : Type 0 where
   End : Feed
   LineTooLong : ℕ → Feed
   SourceTooMuch : ℕ → Feed
   More : ℕ → List ℕ → Feed → Feed
 
--- n is the number of the line that begins with `line`, and t counts the bytes before those that are listed last;
--- the first byte past a limit decides, and where it passes both limits, that of the line
+-- n is the number of the line that begins with `line`, and t counts the bytes before those that are
+-- listed last; the first byte past a limit decides, and where it passes both limits, that of the
+-- line
 abbrev pub feed : ℕ → ℕ → List ℕ → List ℕ → Feed
 feed n t [] [] = End
 feed n t (b ∷ line) [] = More n (b ∷ line) End

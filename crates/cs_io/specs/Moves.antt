@@ -57,7 +57,8 @@ Advances (Err (TooMuch n)) old new line line' = (n ≡ old.given + 1) × ((rest 
 Advances (Err NoMemory) old new line line' = ⊤
 Advances (Err Read) old new line line' = ⊥
 
--- a call that only reads has no other fault than a failed read, whose count rose, and want of memory
+-- a call that only reads has no other fault than a failed read, whose count rose, and want of
+-- memory
 abbrev pub FillFails : ℕ → ℕ → LineFault → Type 0
 FillFails before now Read = Rose before now
 FillFails before now (TooLong n) = ⊥

@@ -6,8 +6,8 @@ use Rattle.cs_io.specs.Lines.{feed, Feed}
 use Rattle.cs_io.specs.Names.{Files}
 use Rattle.cs_io.specs.declared.library.Asked.{Asked}
 
--- the number that is read, how many lines were given, how many bytes these took with their newlines, the bytes that
--- were read and not yet given, and whether the source's end was met
+-- the number that is read, how many lines were given, how many bytes these took with their
+-- newlines, the bytes that were read and not yet given, and whether the source's end was met
 pub record Reader : Type 0 where
   pub which : ℕ
   pub given : ℕ
@@ -27,9 +27,10 @@ feed_at r left = option_map (λ rest. feed (r.given + 1) r.taken [] (r.ahead ++ 
 abbrev pub InStep : Reader → Option (List ℕ) → Type 0
 InStep r left = r.ended ≡ true → (r.ahead ≡ []) × IsAtEnd left
 
--- the calls read and opened nothing
-pub record OnlyReads (files files' : Option Files) (asked asked' : List Asked) (opens opens' reads reads' : ℕ) : Type 0 where
-  pub same_files : files' ≡ files
-  pub same_asked : asked' ≡ asked
-  pub same_opens : opens' ≡ opens
-  pub later : reads ≤ reads'
+-- of what is seen of a library, a call changed nothing but the bytes left and the count of failed
+-- reads
+pub record OnlyReads {L : Type 0} (files : L → Option Files) (asked : L → List Asked) (opens reads : L → ℕ) (old new : L) : Type 0 where
+  pub same_files : files new ≡ files old
+  pub same_asked : asked new ≡ asked old
+  pub same_opens : opens new ≡ opens old
+  pub later : reads old ≤ reads new

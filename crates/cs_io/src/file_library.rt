@@ -29,8 +29,8 @@ pub struct FileLibrary<'a, R: Files + Input> {
 }
 
 impl<'a, R: Files + Input> FileLibrary<'a, R> {
-    /// The machine's files, nothing of them opened yet. In [`Library::open`] a refused growth and the
-    /// want of a free number are faults too.
+    /// The machine's files, nothing of them opened yet. In [`Library::open`] a refused growth and
+    /// the want of a free number are faults too.
     pub fn new(alloc: Global, rt: &'a R) -> FileLibrary<'a, R>
         ensures none { ⟦<FileLibrary<'a, R> as Library>⟧.asked result ≡ [] }
         ensures opens { ⟦<FileLibrary<'a, R> as Library>⟧.open_faults result ≡ 0 }

@@ -26,8 +26,8 @@ pub struct Asked {
 /// [`Library::open`] answers.
 ///
 /// Contracts see five things of a library: the bytes that each name holds, and the bytes left under
-/// each opened number, both only where the library tells them; the names that it was asked for, each
-/// with its number or with none; and two counts of faults, of opens and of reads.
+/// each opened number, both only where the library tells them; the names that it was asked for,
+/// each with its number or with none; and two counts of faults, of opens and of reads.
 pub trait Library {
     // the bytes that each name holds, where told
     ghost files: { Self → Option Files };
@@ -40,22 +40,25 @@ pub trait Library {
     // how many reads have failed
     ghost read_faults: { Self → ℕ };
 
-    /// Opens the bytes of a name, and answers a number that was not open before. [`Failed`] comes only
-    /// where the count of failed opens rose; the opened numbers then have what they had.
+    /// Opens the bytes of a name, and answers a number that was not open before. [`Failed`] comes
+    /// only where the count of failed opens rose; the opened numbers then have what they had.
     fn open(&mut self, name: &str) -> Result<u32, Failed>
         ensures files { files self.new ≡ files self.old }
         ensures reads { read_faults self.new ≡ read_faults self.old }
         ensures cause { HasCause (open_faults self.old) (open_faults self.new) result }
         ensures fresh { IfOk result (λ number. is_open (asked self.old) number ≡ false) }
         ensures bytes { IfOk result (λ number. left self.new number ≡ told_bytes (files self.old) name.now) }
-        ensures others { IfOk result (λ number. (other : ℕ) → other ≢ number → left self.new other ≡ left self.old other) }
-        ensures added { IfOk result (λ number. asked self.new ≡ asked self.old ++ record { name = name.now; number = Option.Some number } ∷ []) }
+        ensures others { IfOk result (λ number.
+            (other : ℕ) → other ≢ number → left self.new other ≡ left self.old other) }
+        ensures added { IfOk result (λ number. asked self.new
+            ≡ asked self.old ++ record { name = name.now; number = Option.Some number } ∷ []) }
         ensures failed { OnErr result (AddsNone (asked self.old) (asked self.new) name.now) }
-        ensures kept { OnErr result ((other : ℕ) → is_open (asked self.old) other ≡ true → left self.new other ≡ left self.old other) };
+        ensures kept { OnErr result ((other : ℕ) → is_open (asked self.old) other ≡ true
+            → left self.new other ≡ left self.old other) };
 
     /// Reads the next bytes under an opened number into the front of a piece that is not empty, and
-    /// answers how many came, at most the piece's length: 0 only at the end. [`Failed`] comes only where
-    /// the count of failed reads rose; no byte is then lost.
+    /// answers how many came, at most the piece's length: 0 only at the end. [`Failed`] comes only
+    /// where the count of failed reads rose; no byte is then lost.
     fn read(&mut self, which: u32, piece: &mut [u8]) -> Result<usize, Failed>
         requires opened { is_open (asked self.old) which ≡ true }
         requires room { 0 < length piece.old }

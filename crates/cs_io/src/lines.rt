@@ -6,7 +6,7 @@ ghost use Rattle.cs_io.specs.Reader.{Reader, OnlyReads, InStep, feed_at, rest_at
 ghost use Rattle.cs_io.specs.Moves.{SamePlace, FillFails, Advances};
 ghost use Rattle.cs_io.specs.Names.{is_open};
 ghost use Rattle.cs_io.specs.Laws.{FollowsCut, FollowsWhole};
-ghost use Rattle.cs_io.specs.Next.{FaultHasCause, Gives, Texts, ReadStands};
+ghost use Rattle.cs_io.specs.Next.{FaultHasCause, Gives, IsNext, Texts, ReadStands};
 
 use crate::library::Library;
 use crate::pieces::{Part, Refusal, take_part};
@@ -41,8 +41,8 @@ pub enum LineFault {
     /// The source has more than 268,435,456 bytes.
     #[error("line {line} passes the limit of the source")]
     TooMuch {
-        /// The number of the line in which the first byte past the limit stands. A newline belongs to the
-        /// line that it ends.
+        /// The number of the line in which the first byte past the limit stands. A newline belongs
+        /// to the line that it ends.
         line: u32,
     },
     /// The allocator has no room for the line.
@@ -54,10 +54,13 @@ pub enum LineFault {
 fn fill<Lb: Library>(library: &mut Lb, which: u32, piece: &mut Vec<u8>) -> Result<usize, LineFault>
     requires opened { is_open (Lb.asked library.old) which ≡ true }
     ensures within { IfOk result (λ n. n ≤ length piece.new.items) }
-    ensures bytes { IfOk result (λ n. Consumes (Lb.left library.old which) (Lb.left library.new which) (take n piece.new.items)) }
+    ensures bytes { IfOk result (λ n. Consumes
+        (Lb.left library.old which)
+        (Lb.left library.new which)
+        (take n piece.new.items)) }
     ensures end { IfOk result (λ n. n ≡ 0 → IsAtEnd (Lb.left library.new which)) }
     ensures kept { OnErr result (Keeps (Lb.left library.old which) (Lb.left library.new which)) }
-    ensures calls { OnlyReads (Lb.files library.old) (Lb.files library.new) (Lb.asked library.old) (Lb.asked library.new) (Lb.open_faults library.old) (Lb.open_faults library.new) (Lb.read_faults library.old) (Lb.read_faults library.new) }
+    ensures calls { OnlyReads Lb.files Lb.asked Lb.open_faults Lb.read_faults library.old library.new }
     ensures others { (other : ℕ) → other ≢ which → Lb.left library.new other ≡ Lb.left library.old other }
     ensures fault { IfErr result (FillFails (Lb.read_faults library.old) (Lb.read_faults library.new)) }
 {
@@ -73,8 +76,8 @@ fn fill<Lb: Library>(library: &mut Lb, which: u32, piece: &mut Vec<u8>) -> Resul
 /// The lines of a source: what is read under one opened number of a library, cut at newline bytes
 /// (0x0A). A last line without its newline is a line; an empty rest after the last newline is none.
 ///
-/// The source is read in pieces of at most 65,536 bytes, and only where no whole line is held. One line
-/// is held at a time, and each byte is looked at once.
+/// The source is read in pieces of at most 65,536 bytes, and only where no whole line is held. One
+/// line is held at a time, and each byte is looked at once.
 #[derive(Drop)]
 pub struct Lines {
     alloc: Global,
@@ -103,7 +106,11 @@ impl Model for Lines {
       ended = s.ended;
     } };
 
-    ghost invariant = { λ s. (s.from ≤ s.to) × (s.to ≤ length s.piece.items) × (s.given ≤ s.taken) × (s.taken ≤ largest_source) };
+    ghost invariant = { λ s.
+        (s.from ≤ s.to)
+        × (s.to ≤ length s.piece.items)
+        × (s.given ≤ s.taken)
+        × (s.taken ≤ largest_source) };
 }
 
 impl Lines {
@@ -129,12 +136,19 @@ impl Lines {
         requires none { self.old.ahead ≡ [] }
         requires in_step { self.old.ended ≡ true → IsAtEnd (Lb.left library.old self.old.which) }
         ensures place { SamePlace self.old self.new }
-        ensures bytes { OnOk result (Consumes (Lb.left library.old self.old.which) (Lb.left library.new self.old.which) self.new.ahead) }
-        ensures some { IfOk result (λ more. more ≡ true → (0 < length self.new.ahead) × (self.old.ended ≡ false) × (self.new.ended ≡ false)) }
-        ensures end { IfOk result (λ more. more ≡ false → (self.new.ended ≡ true) × (self.new.ahead ≡ []) × IsAtEnd (Lb.left library.new self.old.which)) }
+        ensures bytes { OnOk result (Consumes
+            (Lb.left library.old self.old.which)
+            (Lb.left library.new self.old.which)
+            self.new.ahead) }
+        ensures some { IfOk result (λ more. more ≡ true →
+            (0 < length self.new.ahead) × (self.old.ended ≡ false) × (self.new.ended ≡ false)) }
+        ensures end { IfOk result (λ more. more ≡ false →
+            (self.new.ended ≡ true)
+            × (self.new.ahead ≡ [])
+            × IsAtEnd (Lb.left library.new self.old.which)) }
         ensures kept { OnErr result (Keeps (Lb.left library.old self.old.which) (Lb.left library.new self.old.which)) }
         ensures stands { OnErr result ((self.old.ended ≡ false) × (self.new.ahead ≡ [])) }
-        ensures calls { OnlyReads (Lb.files library.old) (Lb.files library.new) (Lb.asked library.old) (Lb.asked library.new) (Lb.open_faults library.old) (Lb.open_faults library.new) (Lb.read_faults library.old) (Lb.read_faults library.new) }
+        ensures calls { OnlyReads Lb.files Lb.asked Lb.open_faults Lb.read_faults library.old library.new }
         ensures others { (other : ℕ) → other ≢ self.old.which → Lb.left library.new other ≡ Lb.left library.old other }
         ensures fault { IfErr result (FillFails (Lb.read_faults library.old) (Lb.read_faults library.new)) }
     {
@@ -183,11 +197,17 @@ impl Lines {
         requires opened { is_open (Lb.asked library.old) self.old.which ≡ true }
         requires in_step { InStep self.old (Lb.left library.old self.old.which) }
         ensures place { SamePlace self.old self.new }
-        ensures bytes { Keeps (rest_at self.old (Lb.left library.old self.old.which)) (rest_at self.new (Lb.left library.new self.old.which)) }
-        ensures some { IfOk result (λ more. more ≡ true → (0 < length self.new.ahead) × (self.old.ended ≡ false) × (self.new.ended ≡ false)) }
-        ensures end { IfOk result (λ more. more ≡ false → (self.new.ended ≡ true) × (self.new.ahead ≡ []) × IsAtEnd (Lb.left library.new self.old.which)) }
+        ensures bytes { Keeps
+            (rest_at self.old (Lb.left library.old self.old.which))
+            (rest_at self.new (Lb.left library.new self.old.which)) }
+        ensures some { IfOk result (λ more. more ≡ true →
+            (0 < length self.new.ahead) × (self.old.ended ≡ false) × (self.new.ended ≡ false)) }
+        ensures end { IfOk result (λ more. more ≡ false →
+            (self.new.ended ≡ true)
+            × (self.new.ahead ≡ [])
+            × IsAtEnd (Lb.left library.new self.old.which)) }
         ensures stands { OnErr result ((self.old.ended ≡ false) × (self.new.ahead ≡ [])) }
-        ensures calls { OnlyReads (Lb.files library.old) (Lb.files library.new) (Lb.asked library.old) (Lb.asked library.new) (Lb.open_faults library.old) (Lb.open_faults library.new) (Lb.read_faults library.old) (Lb.read_faults library.new) }
+        ensures calls { OnlyReads Lb.files Lb.asked Lb.open_faults Lb.read_faults library.old library.new }
         ensures others { (other : ℕ) → other ≢ self.old.which → Lb.left library.new other ≡ Lb.left library.old other }
         ensures fault { IfErr result (FillFails (Lb.read_faults library.old) (Lb.read_faults library.new)) }
     {
@@ -201,7 +221,12 @@ impl Lines {
     fn last(&mut self, bytes: Vec<u8>) -> Option<Line>
         requires counted { 0 < length bytes.items → self.old.given < self.old.taken }
         ensures none { IfNone result ((self.new ≡ self.old) × (bytes.items ≡ [])) }
-        ensures some { IfSome result (λ line. (line.bytes.items ≡ bytes.items) × (0 < length bytes.items) × (line.number ≡ self.old.given + 1) × (line.number ≤ largest_source) × (self.new ≡ record self.old { given = self.old.given + 1 })) }
+        ensures some { IfSome result (λ line.
+            (line.bytes.items ≡ bytes.items)
+            × (0 < length bytes.items)
+            × (line.number ≡ self.old.given + 1)
+            × (line.number ≤ largest_source)
+            × (self.new ≡ record self.old { given = self.old.given + 1 })) }
     {
         if bytes.is_empty() {
             return None;
@@ -213,22 +238,29 @@ impl Lines {
         })
     }
 
-    /// The next line of the source, and none exactly at its end. The library is the one in which the
-    /// number is open.
+    /// The next line of the source, and none exactly at its end. The library is the one in which
+    /// the number is open. The call asks for no name.
     ///
-    /// `LineFault::Read` comes only where the library's count of failed reads rose; no byte that was read
-    /// before it is part of a whole line then. `LineFault::TooLong` and `LineFault::TooMuch` come exactly
-    /// at the first byte past a limit: that of a line is its 16,777,217th, its newline not counted, that of
-    /// the source its 268,435,457th. Where one byte passes both, it is `TooLong`. The call asks for no name.
+    /// `LineFault::Read` comes only where the library's count of failed reads rose; the bytes that
+    /// were taken after the last line then have no newline among them. `LineFault::TooLong` and
+    /// `LineFault::TooMuch` come exactly at the first byte past a limit: that of a line is its
+    /// 16,777,217th byte, its newline not counted, and that of the source its 268,435,457th. Where
+    /// one byte is both, the answer is `TooLong`. After a fault nothing is promised of a further
+    /// call.
     pub fn next<Lb: Library>(&mut self, library: &mut Lb) -> Result<Option<Line>, LineFault>
         requires opened { is_open (Lb.asked library.old) self.old.which ≡ true }
         requires in_step { InStep self.old (Lb.left library.old self.old.which) }
-        ensures line { Gives result (feed_at self.old (Lb.left library.old self.old.which)) (feed_at self.new (Lb.left library.new self.old.which)) }
-        ensures text { Texts result (rest_at self.old (Lb.left library.old self.old.which)) (rest_at self.new (Lb.left library.new self.old.which)) self.new.ended }
+        ensures line { Gives result
+            (feed_at self.old (Lb.left library.old self.old.which))
+            (feed_at self.new (Lb.left library.new self.old.which)) }
+        ensures text { Texts result
+            (rest_at self.old (Lb.left library.old self.old.which))
+            (rest_at self.new (Lb.left library.new self.old.which))
+            self.new.ended }
         ensures in_step { OnOk result (InStep self.new (Lb.left library.new self.old.which)) }
         ensures which { self.new.which ≡ self.old.which }
-        ensures count { IfOk result (λ o. IfSome o (λ line. (line.number ≡ self.old.given + 1) × (self.new.given ≡ line.number) × (line.number ≤ largest_source) × (length line.bytes.items ≤ longest_line))) }
-        ensures calls { OnlyReads (Lb.files library.old) (Lb.files library.new) (Lb.asked library.old) (Lb.asked library.new) (Lb.open_faults library.old) (Lb.open_faults library.new) (Lb.read_faults library.old) (Lb.read_faults library.new) }
+        ensures count { IfOk result (λ o. IfSome o (λ line. IsNext self.old self.new line)) }
+        ensures calls { OnlyReads Lb.files Lb.asked Lb.open_faults Lb.read_faults library.old library.new }
         ensures others { (other : ℕ) → other ≢ self.old.which → Lb.left library.new other ≡ Lb.left library.old other }
         ensures fault { IfErr result (FaultHasCause (Lb.read_faults library.old) (Lb.read_faults library.new)) }
         ensures stands { IfErr result (λ e. ReadStands e self.old self.new) }
@@ -246,9 +278,9 @@ impl Lines {
     }
 }
 
-/// The law of lines: the lines that a source gives are those of its bytes, up to the line that passes
-/// a limit; and the lines that a newline ends are these but a last one without its newline. A call
-/// does nothing.
+/// The law of lines: the lines that a source gives are those of its bytes, up to the line that
+/// passes a limit; and the lines that a newline ends are these but a last one without its newline.
+/// A call does nothing.
 pub fn lines_are_cut()
     ensures given { (bytes : List ℕ) → FollowsCut bytes }
     ensures whole { (bytes : List ℕ) → FollowsWhole bytes }

@@ -29,10 +29,10 @@ impl MemLibrary {
     ghost use Rattle.cs_io.specs.Held.{files_of};
 
     /// A library of the files, each a name and its bytes; of files of one name the first counts.
-    /// `piece`, at least 1, is the most bytes that a read gives. `fail` has the numbers of the calls that
-    /// fail, [`Library::open`] and [`Library::read`] counted together from 1; the count stays at
-    /// 2^64 - 1. In `open` also a name that is not held, a refused growth and the want of a free number
-    /// are faults.
+    /// `piece`, at least 1, is the most bytes that a read gives. `fail` has the numbers of the
+    /// calls that fail, [`Library::open`] and [`Library::read`] counted together from 1; the count
+    /// stays at 2^64 - 1. In `open` also a name that is not held, a refused growth and the want of
+    /// a free number are faults.
     pub fn new(
         alloc: Global,
         files: Vec<(Txt, Vec<u8>)>,

@@ -16,8 +16,8 @@ pub struct MemSink {
 }
 
 impl MemSink {
-    /// A sink that holds nothing yet. `fail` has the numbers of the writes that fail, counted from 1; the
-    /// count stays at 2^64 - 1. A refused growth is a fault too.
+    /// A sink that holds nothing yet. `fail` has the numbers of the writes that fail, counted from
+    /// 1; the count stays at 2^64 - 1. A refused growth is a fault too.
     pub fn new(alloc: Global, fail: Vec<u64>) -> MemSink
         ensures told { ⟦<MemSink as Sink>⟧.taken result ≡ Option.Some [] }
         ensures faults { ⟦<MemSink as Sink>⟧.faults result ≡ 0 }

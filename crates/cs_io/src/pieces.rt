@@ -39,8 +39,9 @@ fn line_end(piece: &[u8]) -> usize
     piece.len()
 }
 
-// Adds to the line under way what the piece has of it. `taken` counts the bytes of the source before
-// the piece. Where the piece has a byte past a limit, the first such byte of the line decides.
+// Adds to the line under way what the piece has of it. `taken` counts the bytes of the source
+// before the piece. Where the piece has a byte past a limit, the first such byte of the line
+// decides.
 pub fn take_part(piece: &[u8], taken: u32, line: &mut Vec<u8>) -> Result<Part, Refusal>
     requires short { length line.old.items ≤ longest_line }
     requires fits { taken ≤ largest_source }

@@ -19,7 +19,8 @@ pub fn place<T: Drop>(
     ensures fresh { IfSome result (λ n. is_open names.old.items n ≡ false) }
     ensures number { IfSome result (λ n. n ≡ length opened.old.items) }
     ensures item { IfSome result (λ _. opened.new.items ≡ opened.old.items ++ item ∷ []) }
-    ensures added { IfSome result (λ n. names.new.items ≡ names.old.items ++ record { name = name.now; number = Option.Some n } ∷ []) }
+    ensures added { IfSome result (λ n. names.new.items
+        ≡ names.old.items ++ record { name = name.now; number = Option.Some n } ∷ []) }
     ensures kept { IfNone result ((names.new.items ≡ names.old.items) × (opened.new.items ≡ opened.old.items)) }
     ensures placed { IsPlaced names.new.items opened.new.items }
 {

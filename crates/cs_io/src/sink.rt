@@ -6,16 +6,16 @@ ghost use Rattle.cs_io.specs.Causes.{HasCause};
 use crate::library::Failed;
 use thiserror::Error;
 
-/// Where a program writes. Contracts see two things of a sink: the bytes that it took, where it tells
-/// them, and the count of its faults, which never falls.
+/// Where a program writes. Contracts see two things of a sink: the bytes that it took, where it
+/// tells them, and the count of its faults, which never falls.
 pub trait Sink {
     // the bytes taken, where told
     ghost taken: { Self → Option (List ℕ) };
     // how many writes have failed
     ghost faults: { Self → ℕ };
 
-    /// Takes bytes from the front, and answers how many: at least 1 where there are any. [`Failed`] comes
-    /// only where the count of faults rose; nothing was then taken.
+    /// Takes bytes from the front, and answers how many: at least 1 where there are any. [`Failed`]
+    /// comes only where the count of faults rose; nothing was then taken.
     fn write(&mut self, bytes: &[u8]) -> Result<usize, Failed>
         ensures bound { IfOk result (λ n. n ≤ length bytes.now) }
         ensures some { IfOk result (λ n. 0 < length bytes.now → 0 < n) }

@@ -63,7 +63,8 @@ fn mem_library(
 #[test]
 fn mem_library_gives_pieces_and_fails_the_numbered_calls(rt: HostRuntime) -> Result<(), Fail> {
     let held = [("a", "hello"), ("b", ""), ("a", "later")];
-    // the bytes that were read, in how many reads, and whether a read failed; none where the open did
+    // the bytes that were read, in how many reads, and whether a read failed; none where the open
+    // did
     let cases = [
         ("a", 9, 0, Some(("hello", 2, false))),
         ("a", 4, 0, Some(("hello", 2, false))),
@@ -140,7 +141,8 @@ fn out_sink_writes(rt: HostRuntime) -> Result<(), Fail> {
     Ok(())
 }
 
-// The lines under a number, or none where a line has another number than its place, or a fault came.
+// The lines under a number, or none where a line has another number than its place, or a fault
+// came.
 fn lines_under<Lb: Library>(
     alloc: Global,
     library: &mut Lb,

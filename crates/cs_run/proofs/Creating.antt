@@ -1,12 +1,12 @@
 -- A create from the place that its id has, or would have, among the documents.
-use Rattle.std.proofs.Common.{◌≡◌, ◌∙◌, ap, sym, refl, subst, ℕ, List, [], ◌∷◌, ◌++◌, Option, Some, None, is_some, Result, Bool, true, false, cond, codes, Vec, Global}
-use Rattle.std.specs.Result.{IfOk, OnOk}
+use Rattle.std.proofs.Common.{◌≡◌, ◌∙◌, ap, sym, refl, subst, ℕ, List, [], ◌∷◌, is_some, Result, true, false, codes, Vec, Global}
+use Rattle.std.specs.Result.{IfOk}
 use Rattle.std.proofs.result.Match.{if_ok_then}
 use Rattle.std.proofs.lemmas.List.{append-nil}
 use Rattle.cs_value.specs.Tree.{Tree}
 use Rattle.cs_value.specs.declared.memory.NoMemory.{NoMemory}
 use Rattle.cs_view.specs.Document.{id_of}
-use Rattle.cs_view.specs.Dataset.{stands, At, with_doc}
+use Rattle.cs_view.specs.Dataset.{stands, with_doc}
 use Rattle.cs_run.specs.Places.{HasId, IsGapFor}
 use Rattle.cs_run.specs.Install.{stamped, tx_of_line}
 use Rattle.cs_run.specs.Machine.{State, Stepped, answered, created, first_moment}

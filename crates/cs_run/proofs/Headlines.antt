@@ -1,5 +1,5 @@
 -- The headline of a run from the parts of it.
-use Rattle.std.proofs.Common.{◌≡◌, ◌≢◌, ◌∙◌, ap, sym, refl, subst, ℕ, List, [], ◌∷◌, ◌++◌, take, drop, length, ◌+◌, ◌-◌, ◌<◌, ◌≤◌, arith, Bool, true, false, ◌||◌, ◌==◌, nat_le, cond, Option, None, Some, inl, inr, append_assoc, codes}
+use Rattle.std.proofs.Common.{◌≡◌, ◌≢◌, ◌∙◌, ap, sym, refl, subst, ℕ, List, [], ◌∷◌, ◌++◌, length, ◌-◌, ◌≤◌, arith, Bool, true, false, ◌||◌, Option, None, Some, inr}
 use Rattle.std.proofs.lemmas.List.{append-nil}
 use Rattle.std.proofs.lemmas.Bool.Decides.{nat_tests}
 use Rattle.std.specs.Io.KnownBytes.{Appends, Consumes, IsAtEnd}
@@ -7,8 +7,8 @@ use Rattle.cs_io.specs.Bytes.{AppendsPartOf}
 use Rattle.cs_io.specs.Lines.{cut}
 use Rattle.cs_io.specs.Names.{Files, file_bytes, told_bytes, is_open, number_is}
 use Rattle.cs_io.specs.declared.library.Asked.{Asked}
-use Rattle.cs_run.specs.Expected.{script_writes, script_ends, not_built_line, is_within, largest_script, WroteReplies}
-use Rattle.cs_run.specs.Headline.{ToldRun, RunWrites, RefusedWrites, takes_words, expected, expected_status, names_of, script_number, dash, usage_line}
+use Rattle.cs_run.specs.Expected.{not_built_line, is_within, largest_script}
+use Rattle.cs_run.specs.Headline.{ToldRun, RunWrites, RefusedWrites, takes_words, names_of, script_number, dash, usage_line}
 use Rattle.cs_run.specs.Machine.{first_state, replies}
 use Rattle.cs_run.specs.Script.{ScriptRuns, IsTooMuch}
 use Rattle.cs_run.specs.declared.status.Status.{Status}

@@ -1,5 +1,5 @@
 -- How far the run of a script has come.
-use Rattle.std.proofs.Common.{◌≡◌, ◌≢◌, ◌∙◌, ap, sym, refl, subst, ℕ, zero, suc, List, [], ◌∷◌, ◌++◌, take, drop, length, ◌+◌, ◌-◌, ◌<◌, ◌≤◌, append_assoc, arith, Option, None, Some, length-append}
+use Rattle.std.proofs.Common.{◌≡◌, ◌∙◌, ap, sym, refl, subst, ℕ, suc, List, [], ◌∷◌, ◌++◌, take, drop, length, ◌+◌, ◌-◌, ◌≤◌, append_assoc, arith, Option, None, Some, length-append}
 use Rattle.std.proofs.lemmas.List.{append-nil, take_at, take_all, take-append-drop, length-drop}
 use Rattle.std.specs.Io.KnownBytes.{Appends, Keeps}
 use Rattle.cs_io.specs.Bytes.{AppendsPartOf}
@@ -9,7 +9,7 @@ use Rattle.cs_run.specs.Machine.{State, first_state, replies, state_after, step_
 use Rattle.cs_run.specs.Script.{ScriptRuns, LineStops}
 use Rattle.cs_run.specs.declared.status.Status.{Status}
 use Rattle.cs_run.specs.declared.status.Status.TheVariants as status
-use Rattle.cs_run.proofs.Folding.{Next, next_of, state_push, replies_append, replies_push}
+use Rattle.cs_run.proofs.Folding.{next_of, state_push, replies_append, replies_push}
 
 Appends-nil : (a : Option (List ℕ)) → Appends a a []
 Appends-nil None = tt

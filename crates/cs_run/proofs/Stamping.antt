@@ -1,5 +1,5 @@
 -- What an object is after a text was put into it, and that a stamped body is a document.
-use Rattle.std.proofs.Common.{◌≡◌, ◌≢◌, ◌∙◌, ap, sym, refl, subst, ℕ, suc, max, ◌≤◌, List, [], ◌∷◌, length, map, Option, Some, None, is_some, Bool, true, false, ◌&&◌, cond, nat_le, nat_lt, Ordering, Less, Equal, Greater, codes, unwrap_or, arith}
+use Rattle.std.proofs.Common.{◌≡◌, ◌∙◌, ap, sym, refl, ℕ, max, ◌≤◌, List, [], ◌∷◌, length, Option, Some, is_some, Bool, true, false, ◌&&◌, cond, nat_lt, Ordering, Less, Equal, Greater, codes, unwrap_or, arith}
 use Rattle.std.proofs.lemmas.Grind.{common_steps}
 use Rattle.std.proofs.lemmas.Bool.Decides.{nat_tests}
 use Rattle.std.proofs.lemmas.Cmp.{nat_list_cmp_total}
@@ -11,9 +11,9 @@ use Rattle.cs_value.specs.Pairs.{find, put}
 use Rattle.cs_value.specs.Words.{text_at}
 use Rattle.cs_value.specs.Id.{is_id}
 use Rattle.cs_view.specs.Dataset.{id_cmp}
-use Rattle.cs_view.specs.Document.{is_body, is_shallow, has_text, is_document, passes, deepest_document, id_of}
-use Rattle.cs_view.proofs.Documents.{Parts, whole}
-use Rattle.cs_run.specs.Install.{with_text, with_created, stamped}
+use Rattle.cs_view.specs.Document.{is_body, is_shallow, has_text, is_document, passes, id_of}
+use Rattle.cs_view.proofs.Documents.{whole}
+use Rattle.cs_run.specs.Install.{with_text, stamped}
 
 by_tie : (o : Ordering) (t : Option Tree) (rest : Option Tree) → match_ordering o rest t rest ≡ cond (is_eq o) t rest
 by_tie Less t rest = refl

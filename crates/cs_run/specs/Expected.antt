@@ -1,12 +1,11 @@
 -- What a script has the program write, and how the run ends.
-use Rattle.std.specs.Prelude.{◌≡◌, ℕ, ◌≤◌, Bool, cond, nat_le, List, [], ◌∷◌, length, take, Option, None, Some, codes}
+use Rattle.std.specs.Prelude.{◌≡◌, ℕ, ◌≤◌, Bool, cond, nat_le, List, length, take, Option, codes}
 use Rattle.std.specs.Io.KnownBytes.{Appends}
-use Rattle.cs_io.specs.Bytes.{AppendsPartOf}
 use Rattle.cs_io.specs.Causes.{Rose}
 use Rattle.cs_io.specs.Lines.{cut}
 use Rattle.cs_run.specs.Machine.{first_state, replies}
 use Rattle.cs_run.specs.declared.status.Status.{Status}
-use Rattle.cs_run.specs.declared.status.Status.TheVariants.{Done, ReadFault, Usage, Input, WriteFault, NoMemory, OpenFault}
+use Rattle.cs_run.specs.declared.status.Status.TheVariants.{Done, ReadFault, Input, WriteFault, OpenFault}
 
 -- what is written where a script has too many bytes
 abbrev pub not_built_line : List ℕ

@@ -1,12 +1,10 @@
 -- What the reading of a whole script and the running of it leave. For private clauses.
-use Rattle.std.specs.Prelude.{◌≡◌, ℕ, ◌<◌, ◌≤◌, List, [], length, Option, None, Some, Result, Ok, Err, ⊤, Vec}
+use Rattle.std.specs.Prelude.{ℕ, ◌<◌, ◌≤◌, List, length, Option, None, Some, Result, Ok, Err, ⊤, Vec}
 use Rattle.std.specs.declared.alloc.Global.{Global}
 use Rattle.std.specs.Io.KnownBytes.{Appends, Consumes, IsAtEnd, Keeps}
 use Rattle.cs_io.specs.Bytes.{AppendsPartOf}
 use Rattle.cs_io.specs.Causes.{Rose}
 use Rattle.cs_io.specs.Lines.{cut}
-use Rattle.cs_io.specs.Names.{Files}
-use Rattle.cs_io.specs.declared.library.Asked.{Asked}
 use Rattle.cs_run.specs.Machine.{first_state, replies}
 use Rattle.cs_run.specs.Expected.{largest_script, WroteReplies}
 use Rattle.cs_run.specs.declared.status.Status.{Status}

@@ -46,7 +46,7 @@ fn read_more<Lb: Library>(
     ensures end { IfOk result (λ count. count ≡ 0 → IsAtEnd (Lb.left library.new number)) }
     ensures grows { IfOk result (λ count. length script.new.items ≡ length script.old.items + count) }
     ensures fault { IfErr result (λ e. FailsToRead e (Lb.read_faults library.old) (Lb.read_faults library.new)) }
-    ensures calls { OnlyReads (Lb.files library.old) (Lb.files library.new) (Lb.asked library.old) (Lb.asked library.new) (Lb.open_faults library.old) (Lb.open_faults library.new) (Lb.read_faults library.old) (Lb.read_faults library.new) }
+    ensures calls { OnlyReads Lb.files Lb.asked Lb.open_faults Lb.read_faults library.old library.new }
 {
     let Ok(count) = library.read(number, piece) else {
         return Err(WholeFault::Read);
@@ -63,7 +63,7 @@ pub(crate) fn read_whole<Lb: Library>(
 ) -> Result<Vec<u8>, WholeFault>
     requires { is_open (Lb.asked library.old) number ≡ true }
     ensures reads { ReadsWhole result (Lb.left library.old number) (Lb.left library.new number) (Lb.read_faults library.old) (Lb.read_faults library.new) }
-    ensures calls { OnlyReads (Lb.files library.old) (Lb.files library.new) (Lb.asked library.old) (Lb.asked library.new) (Lb.open_faults library.old) (Lb.open_faults library.new) (Lb.read_faults library.old) (Lb.read_faults library.new) }
+    ensures calls { OnlyReads Lb.files Lb.asked Lb.open_faults Lb.read_faults library.old library.new }
 {
     let mut script = Vec::new(alloc);
     let mut piece = [0; PIECE];

@@ -1,5 +1,4 @@
-use Rattle.std.proofs.Common.{sym, ◌∙◌, ◌≡◌, ◌≢◌, length, arith}
-use Rattle.cs_value.specs.declared.val.Fields.{out-Fields}
+use Rattle.std.proofs.Common.{sym, ◌∙◌, arith}
 use Rattle.cs_run.proofs.Soles.{sole_none, sole_find}
 use Rattle.cs_run.proofs.command.sole_field.Goals as goal
 

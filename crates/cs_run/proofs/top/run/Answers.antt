@@ -1,7 +1,6 @@
-use Rattle.std.proofs.Common.{arith, ◌≡◌, ◌≢◌, ◌∙◌, ap, ◌∷◌, ◌++◌, [], true, false, refl, Some, drop, length, sym, codes}
+use Rattle.std.proofs.Common.{arith, ◌≡◌, ◌∷◌, [], true, refl, Some}
 use Rattle.std.proofs.Math.Seq.{drop-append_seam}
 use Rattle.std.proofs.lemmas.Bool.Decides.{nat_tests}
-use Rattle.std.specs.Io.KnownBytes.{Appends, Consumes}
 use Rattle.cs_io.specs.Names.{told_bytes}
 use Rattle.cs_run.specs.Headline.{takes_words, script_number, names_of, added, dash}
 use Rattle.cs_run.specs.Script.{ScriptRuns, IsTooMuch}

@@ -1,8 +1,4 @@
-use Rattle.std.proofs.Common.{◌≡◌, ◌∙◌, ◌+◌, ◌≤◌, ap, sym, subst, arith, length, refl, ◌∷◌, Ok, Err}
-use Rattle.std.specs.Io.KnownBytes.{Appends}
-use Rattle.cs_io.specs.Lines.{cut, longest_line}
-use Rattle.cs_run.specs.Machine.{step_reply, step_state}
-use Rattle.cs_run.specs.Script.{LineStops}
+use Rattle.std.proofs.Common.{◌≡◌, ◌+◌, ap, arith, length, refl}
 use Rattle.cs_run.specs.Store.{state}
 use Rattle.cs_run.proofs.Splitting.{empty_from}
 use Rattle.cs_run.proofs.Playing.{went, stopped, all_played}

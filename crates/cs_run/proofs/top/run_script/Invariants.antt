@@ -1,4 +1,4 @@
-use Rattle.std.proofs.Common.{◌≡◌, ◌+◌, ◌≤◌, length}
+use Rattle.std.proofs.Common.{◌+◌, ◌≤◌, length}
 use Rattle.cs_run.specs.Store.{state}
 use Rattle.cs_run.specs.Expected.{largest_script}
 use Rattle.cs_run.proofs.Playing.{Played}

@@ -1,4 +1,4 @@
-use Rattle.std.proofs.Common.{◌≡◌, ◌∙◌, ap, sym, arith, ◌+◌, ◌-◌, ◌∷◌, take, drop}
+use Rattle.std.proofs.Common.{◌∙◌, ap, sym, arith, ◌+◌, ◌∷◌, take}
 use Rattle.std.proofs.lemmas.List.{take_rest}
 use Rattle.cs_io.specs.Lines.{cut}
 use Rattle.cs_run.proofs.Splitting.{split_found, split_last, IsPlain-more}

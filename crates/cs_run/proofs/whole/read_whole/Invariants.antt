@@ -1,5 +1,4 @@
-use Rattle.std.proofs.Common.{◌≡◌, ◌-◌, ◌≤◌, ◌<◌, length, true}
-use Rattle.std.specs.Vec.{vec_len}
+use Rattle.std.proofs.Common.{◌≡◌, ◌-◌, length, true}
 use Rattle.std.specs.Io.KnownBytes.{Consumes}
 use Rattle.cs_io.specs.Names.{is_open}
 use Rattle.cs_io.specs.Reader.{OnlyReads}
@@ -9,7 +8,7 @@ abbrev pub invariant-loop-piece : goal.invariant-loop-piece
 invariant-loop-piece g l = record {
   opened : is_open (g.Lb.Library.asked l.library) l.number ≡ true;
   so_far : Consumes (g.Lb.Library.left l.initial.library l.number) (g.Lb.Library.left l.library l.number) l.script.items;
-  calls : OnlyReads (g.Lb.Library.files l.initial.library) (g.Lb.Library.files l.library) (g.Lb.Library.asked l.initial.library) (g.Lb.Library.asked l.library) (g.Lb.Library.open_faults l.initial.library) (g.Lb.Library.open_faults l.library) (g.Lb.Library.read_faults l.initial.library) (g.Lb.Library.read_faults l.library);
+  calls : OnlyReads g.Lb.Library.files g.Lb.Library.asked g.Lb.Library.open_faults g.Lb.Library.read_faults l.initial.library l.library;
 }
 
 abbrev pub decreases-loop-piece : goal.decreases-loop-piece

@@ -18,7 +18,7 @@ invariant-loop-bytes g l = record {
   plain : IsPlain l.bytes.items;
   short : length l.bytes.items ≤ longest_line;
   counted : 0 < length l.bytes.items → l.self.given < l.self.taken;
-  calls : OnlyReads (g.Lb.Library.files l.initial.library) (g.Lb.Library.files l.library) (g.Lb.Library.asked l.initial.library) (g.Lb.Library.asked l.library) (g.Lb.Library.open_faults l.initial.library) (g.Lb.Library.open_faults l.library) (g.Lb.Library.read_faults l.initial.library) (g.Lb.Library.read_faults l.library);
+  calls : OnlyReads g.Lb.Library.files g.Lb.Library.asked g.Lb.Library.open_faults g.Lb.Library.read_faults l.initial.library l.library;
   others : (other : ℕ) → other ≢ l.initial.self.which → g.Lb.Library.left l.library other ≡ g.Lb.Library.left l.initial.library other;
 }
 

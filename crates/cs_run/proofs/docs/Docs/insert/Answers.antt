@@ -1,8 +1,6 @@
-use Rattle.std.proofs.Common.{◌≡◌, ◌≤◌, ◌∙◌, ap, sym, subst, map, length, arith, true}
+use Rattle.std.proofs.Common.{◌∙◌, ap, map, arith}
 use Rattle.std.proofs.lemmas.Grind.{common_steps}
-use Rattle.std.specs.List.{insert}
 use Rattle.cs_view.specs.Document.{id_of}
-use Rattle.cs_view.specs.Dataset.{ascending, with_doc}
 use Rattle.cs_view.specs.View.{doc}
 use Rattle.cs_run.proofs.Placing.{place_within, docs-filled, ascends_after}
 use Rattle.cs_run.proofs.docs.Docs.insert.Goals as goal

@@ -1,4 +1,4 @@
-use Rattle.std.proofs.Common.{◌≡◌, ◌∙◌, ap, sym, List, ℕ}
+use Rattle.std.proofs.Common.{◌≡◌, ◌∙◌, ap}
 use Rattle.std.proofs.result.Match.{if_ok_then}
 use Rattle.cs_value.specs.View.{tree}
 use Rattle.cs_view.specs.Document.{id_of}
