@@ -1,6 +1,8 @@
 -- The machine over one line more.
-use Rattle.std.proofs.Common.{◌≡◌, ◌∙◌, ap, sym, refl, ℕ, zero, suc, List, [], ◌∷◌, ◌++◌, take, drop, length, ◌+◌, ◌≤◌, append_assoc, arith}
+use Rattle.std.proofs.Common.{◌≡◌, ◌∙◌, ap, sym, refl, ℕ, zero, suc, List, [], ◌∷◌, ◌++◌, take, drop, length, ◌+◌, ◌≤◌, append_assoc, arith, ◌==◌, false}
 use Rattle.std.proofs.lemmas.List.{append-nil}
+use Rattle.std.proofs.lemmas.Bool.Decides.{nat_tests}
+use Rattle.cs_io.specs.Lines.{IsPlain, whole_lines}
 use Rattle.cs_run.specs.Machine.{State, replies, state_after, step_state, step_reply}
 
 -- the list after k elements begins with x
@@ -41,3 +43,11 @@ replies_append s n (x ∷ xs) ys =
 pub replies_push : (s : State) (n : ℕ) (lines : List (List ℕ)) (line : List ℕ) → replies s n (lines ++ line ∷ []) ≡ replies s n lines ++ step_reply (state_after s n lines) (n + length lines) line
 replies_push s n lines line =
     replies_append s n lines (line ∷ []) ∙ ap (λ v. replies s n lines ++ v) (append-nil (step_reply (state_after s n lines) (n + length lines) line))
+
+pub whole_line : (line rest : List ℕ) → IsPlain line → whole_lines (line ++ 10 ∷ rest) ≡ line ∷ whole_lines rest
+whole_line [] rest p = refl
+whole_line (b ∷ line) rest p = let no : (b == 10) ≡ false = grind (arith, nat_tests) in rw (no, whole_line line rest p.1) refl
+
+pub whole_plain : (part : List ℕ) → IsPlain part → whole_lines part ≡ []
+whole_plain [] p = refl
+whole_plain (b ∷ part) p = let no : (b == 10) ≡ false = grind (arith, nat_tests) in rw (no, whole_plain part p.1) refl

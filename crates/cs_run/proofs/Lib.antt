@@ -1,8 +1,12 @@
 pub mod Creating
+pub mod DataReading
 pub mod Folding
+pub mod Gathering
 pub mod Headlines
+pub mod Importing
 pub mod Placing
 pub mod Playing
+pub mod Saying
 pub mod Soles
-pub mod Splitting
 pub mod Stamping
+pub mod Wording

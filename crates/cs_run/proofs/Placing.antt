@@ -5,6 +5,7 @@ use Rattle.std.specs.declared.alloc.AllocFailed.{AllocFailed}
 use Rattle.std.specs.List.{insert}
 use Rattle.std.specs.List.Sorted.{IsSearchInRange, IsBinarySearchResult}
 use Rattle.std.proofs.lemmas.Cmp.{nat_list_cmp_total}
+use Rattle.std.proofs.lemmas.List.Edits.{length-insert}
 use Rattle.std.specs.Cmp.{tied_itself}
 use Rattle.std.specs.Ordering.{is_eq, is_lt, ordering_reverse, ordering_index}
 use Rattle.std.specs.FinMap.{slice_cmp-IsAntisymmetric, nat_cmp-IsAntisymmetric}
@@ -14,9 +15,10 @@ use Rattle.cs_view.specs.Document.{id_of}
 use Rattle.cs_view.specs.Dataset.{id_cmp, keyed, At, ascending, with_doc}
 use Rattle.cs_view.specs.View.{doc}
 use Rattle.cs_view.specs.declared.doc.Doc.{Doc}
+use Rattle.cs_run.specs.Machine.{most_documents}
 use Rattle.cs_run.specs.Places.{HasId, IsGapFor}
 
-same : (a b : List ℕ) → id_cmp a b ≡ Equal → a ≡ b
+pub same : (a b : List ℕ) → id_cmp a b ≡ Equal → a ≡ b
 same a b h = slice_cmp-IsAntisymmetric nat_cmp-IsAntisymmetric a b h
 
 flip : (a b : List ℕ) (o : Ordering) → id_cmp a b ≡ o → id_cmp b a ≡ ordering_reverse o
@@ -52,7 +54,7 @@ from_T true h = refl
 from_T false h = absurd h
 
 -- a document more keeps the order
-ascending-with_doc : (d : Tree) (es : List Tree) → ascending es ≡ true → ascending (with_doc d es) ≡ true
+pub ascending-with_doc : (d : Tree) (es : List Tree) → ascending es ≡ true → ascending (with_doc d es) ≡ true
 ascending-with_doc d es h = ap (is_sorted id_cmp) (keyed-with_doc d es) ∙ from_T _ (is_sorted-put id_cmp nat_list_cmp_total (id_of d) d (keyed es) (to_T _ h))
 
 -- the gap of an id: its place is among the documents, and none there has the id
@@ -157,4 +159,12 @@ ascends_after r d ds es place gap h is =
     elim (is_ok r) as (λ b. es ≡ cond b (insert ds place d) ds → ascending (map doc es) ≡ true) [
       | true ↦ λ e. ap (λ v. ascending (map doc v)) e ∙ ap ascending (docs-filled d ds place gap) ∙ ascending-with_doc (doc d) (map doc ds) h
       | false ↦ λ e. ap (λ v. ascending (map doc v)) e ∙ h
+    ] is
+
+-- and so is the limit, where there was room
+pub within_after : (r : Result (Unit {0}) (AllocFailed Doc)) (d : Doc) (ds es : List Doc) (place : ℕ) → IsGapFor (id_of (doc d)) (map doc ds) place → length (map doc ds) < most_documents → es ≡ cond (is_ok r) (insert ds place d) ds → length es ≤ most_documents
+within_after r d ds es place gap room is =
+    elim (is_ok r) as (λ b. es ≡ cond b (insert ds place d) ds → length es ≤ most_documents) [
+      | true ↦ λ e. omega (arith, room, map_length ds, ap length e, length-insert ds place d (place_within (id_of (doc d)) ds place gap))
+      | false ↦ λ e. omega (arith, room, map_length ds, ap length e)
     ] is

@@ -1,19 +1,27 @@
--- What contracts see of a command of the code.
+-- What contracts see of what a line asks for.
+use Rattle.std.specs.Prelude.{◌≡◌, ℕ, List, codes, true, ⊤}
 use Rattle.cs_value.specs.View.{tree}
-use Rattle.std.specs.Prelude.{◌≡◌, true, ⊤}
-use Rattle.cs_run.specs.Command.{Command, no_json, query_all, create, not_built, is_creatable}
-use Rattle.cs_run.specs.declared.command.Command as read
-use Rattle.cs_run.specs.declared.command.Command.TheVariants.{NotJson, QueryAll, Create, NotBuilt}
+use Rattle.cs_run.specs.Command.{Asking, refused, query_all, create, is_creatable}
+use Rattle.cs_run.specs.declared.command.Asking as code
+use Rattle.cs_run.specs.declared.command.Asking.TheVariants.{Refused, QueryAll, Create}
+use Rattle.cs_run.specs.declared.command.LineCause.{LineCause}
+use Rattle.cs_run.specs.declared.command.LineCause.TheVariants.{NotJson, TooDeep, NotWhole, BadCommand, NotBuilt}
 
-abbrev pub command : read.Command → Command
-command NotJson = no_json
-command QueryAll = query_all
-command (Create v) = create (tree v)
-command NotBuilt = not_built
+-- the word of a refusal
+abbrev pub word_of : LineCause → List ℕ
+word_of NotJson = codes "not-json"
+word_of TooDeep = codes "too-deep"
+word_of NotWhole = codes "not-whole"
+word_of BadCommand = codes "bad-command"
+word_of NotBuilt = codes "not-built"
+
+abbrev pub asking : code.Asking → Asking
+asking (Refused r) = refused (word_of r)
+asking QueryAll = query_all
+asking (Create v) = create (tree v)
 
 -- what is to be created can be
-abbrev pub IsFit : read.Command → Type 0
-IsFit NotJson = ⊤
+abbrev pub IsFit : code.Asking → Type 0
+IsFit (Refused r) = ⊤
 IsFit QueryAll = ⊤
 IsFit (Create v) = is_creatable (tree v) ≡ true
-IsFit NotBuilt = ⊤

@@ -4,6 +4,8 @@ use Rattle.std.specs.Str.{bytes_eq}
 use Rattle.std.specs.List.{list_all}
 use Rattle.cs_value.specs.Tree.{Tree, null, boolean, integer, text, list, object, Trees, no_trees, more_trees, Pairs, no_pairs, more_pairs}
 use Rattle.cs_view.specs.Document.{is_body, is_shallow}
+use Rattle.cs_wire.specs.Commands.{Request, mutate, query, live, listen, stop, at}
+use Rattle.cs_wire.specs.Rows.{command}
 use Rattle.cs_json.specs.Reading.{Outcome, not_json, too_deep, not_whole, value, outcome}
 
 abbrev pub is_blank_byte : ℕ → Bool
@@ -80,33 +82,46 @@ is_creatable t = is_body t && is_shallow t && not (names_ref t)
 abbrev pub creatable : Tree → Option Tree
 creatable t = cond (is_creatable t) (Some t) None
 
--- what a transaction of one create is to create
+-- what a transaction's body of one create is to create
 abbrev pub created_by : Tree → Option Tree
-created_by t =
-    option_and_then (λ body. option_and_then (λ mutations. option_and_then (λ mutation. option_and_then creatable (sole_attribute (codes "create") mutation)) (sole_member mutations)) (sole_attribute (codes "mutations") body)) (sole_attribute (codes "mutate") t)
+created_by body =
+    option_and_then (λ mutations. option_and_then (λ mutation. option_and_then creatable (sole_attribute (codes "create") mutation)) (sole_member mutations)) (sole_attribute (codes "mutations") body)
 
-pub data Command : Type 0 where
-  no_json : Command
-  query_all : Command
-  create : Tree → Command
-  not_built : Command
+-- what a line asks for, as far as it is built, or the word that refuses it
+pub data Asking : Type 0 where
+  refused : List ℕ → Asking
+  query_all : Asking
+  create : Tree → Asking
 
-abbrev pub creating : Option Tree → Command
+abbrev pub not_built : Asking
+not_built = refused (codes "not-built")
+
+abbrev pub creating : Option Tree → Asking
 creating None = not_built
 creating (Some t) = create t
 
-abbrev pub asked : Tree → Command
-asked t = cond (is_query_all t) query_all (creating (created_by t))
+-- the query for all documents is built where it has no parameters at all
+abbrev pub by_request : Bool → Option Request → Asking
+by_request all None = refused (codes "bad-command")
+by_request all (Some (mutate body)) = creating (created_by body)
+by_request all (Some (query q params)) = cond all query_all not_built
+by_request all (Some (live name q params)) = not_built
+by_request all (Some (listen name q params result previous)) = not_built
+by_request all (Some (stop name)) = not_built
+by_request all (Some (at moment)) = not_built
 
-abbrev pub of_outcome : Outcome → Command
-of_outcome not_json = no_json
-of_outcome too_deep = not_built
-of_outcome not_whole = not_built
+abbrev pub asked : Tree → Asking
+asked t = by_request (is_query_all t) (command t)
+
+abbrev pub of_outcome : Outcome → Asking
+of_outcome not_json = refused (codes "not-json")
+of_outcome too_deep = refused (codes "too-deep")
+of_outcome not_whole = refused (codes "not-whole")
 of_outcome (value t) = asked t
 
 -- how many levels of lists and objects a line may nest
 abbrev pub deepest_line : ℕ
 deepest_line = 64
 
-abbrev pub command_of : List ℕ → Command
-command_of line = of_outcome (outcome deepest_line line)
+abbrev pub asking_of : List ℕ → Asking
+asking_of line = of_outcome (outcome deepest_line line)

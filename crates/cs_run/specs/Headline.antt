@@ -1,34 +1,46 @@
 -- What a run writes, from its words and the files.
-use Rattle.std.specs.Prelude.{◌≡◌, ◌⊎◌, ℕ, Bool, cond, ◌==◌, List, [], ◌∷◌, map, length, take, drop, Option, None, Some, ⊤, MatchOption, codes}
+use Rattle.std.specs.Prelude.{◌≡◌, ◌⊎◌, ℕ, ◌-◌, cond, ◌==◌, List, [], ◌∷◌, map, length, take, drop, Option, None, Some, ⊤, MatchOption, codes}
 use Rattle.std.specs.Io.KnownBytes.{Appends}
 use Rattle.cs_io.specs.Bytes.{AppendsPartOf}
+use Rattle.cs_io.specs.Causes.{Rose}
+use Rattle.cs_io.specs.Lines.{whole_lines}
 use Rattle.cs_io.specs.Names.{Files, file_bytes}
 use Rattle.cs_io.specs.declared.library.Asked.{Asked}
-use Rattle.cs_run.specs.Expected.{script_writes, script_ends, WroteReplies}
+use Rattle.cs_run.specs.DataFile.{loaded}
+use Rattle.cs_run.specs.Expected.{script_writes, script_ends, Start, begins, stops, start_of, WroteReplies}
+use Rattle.cs_run.specs.Machine.{first_state, replies}
+use Rattle.cs_run.specs.Words.{takes_words, data_of, script_of, names_of}
 use Rattle.cs_run.specs.declared.status.Status.{Status}
-use Rattle.cs_run.specs.declared.status.Status.TheVariants.{Done, ReadFault, Usage, Input, WriteFault, NoMemory, OpenFault}
-
--- the name of the script: standard input
-abbrev pub dash : List ℕ
-dash = codes "-"
-
--- the words are the program's name alone
-abbrev pub takes_words : List (List ℕ) → Bool
-takes_words words = length words == 1
-
--- the names that the words give, in the order in which they are asked for
-abbrev pub names_of : List (List ℕ) → List (List ℕ)
-names_of words = cond (takes_words words) (dash ∷ []) []
+use Rattle.cs_run.specs.declared.status.Status.TheVariants.{Done, ReadFault, Usage, Data, Input, WriteFault, NoMemory, OpenFault}
 
 -- what is written where the words are refused
 abbrev pub usage_line : List ℕ
 usage_line = codes "{\"error\":\"usage\"}\n"
 
+-- where a run begins: with the dataset of the data file, where one is named
+abbrev pub start_with : Option (List ℕ) → Files → Start
+start_with None files = begins first_state
+start_with (Some name) files = start_of (loaded (file_bytes files name))
+
+abbrev pub start : List (List ℕ) → Files → Start
+start words files = start_with (data_of words) files
+
+abbrev pub script : List (List ℕ) → Files → List ℕ
+script words files = file_bytes files (script_of words)
+
+abbrev pub start_writes : Start → List ℕ → List ℕ
+start_writes (begins s) bytes = script_writes s bytes
+start_writes (stops status line) bytes = line
+
+abbrev pub start_ends : Start → List ℕ → Status
+start_ends (begins s) bytes = script_ends bytes
+start_ends (stops status line) bytes = status
+
 abbrev pub expected : List (List ℕ) → Files → List ℕ
-expected words files = cond (takes_words words) (script_writes (file_bytes files dash)) usage_line
+expected words files = cond (takes_words words) (start_writes (start words files) (script words files)) usage_line
 
 abbrev pub expected_status : List (List ℕ) → Files → Status
-expected_status words files = cond (takes_words words) (script_ends (file_bytes files dash)) Usage
+expected_status words files = cond (takes_words words) (start_ends (start words files) (script words files)) Usage
 
 -- what a list got
 abbrev pub added : {X : Type 0} → List X → List X → List X
@@ -52,15 +64,35 @@ script_number names asked = cond (length asked == length names) (last_number ask
 abbrev pub IsEmptied : (ℕ → Option (List ℕ)) → Option ℕ → Type 0
 IsEmptied left number = MatchOption number ⊥ (λ n. left n ≡ Some [])
 
+-- the bytes taken of a script of which `rest` is left
+abbrev pub taken_of : List ℕ → List ℕ → List ℕ
+taken_of bytes rest = take (length bytes - length rest) bytes
+
+-- the replies to all whole lines in the bytes taken of a script
+abbrev pub replies_so_far : Start → List ℕ → List ℕ → List ℕ
+replies_so_far (begins s) bytes rest = replies s 1 (whole_lines (taken_of bytes rest))
+replies_so_far (stops status line) bytes rest = []
+
+-- what was written when a read failed: those replies where the script was open, else nothing
+abbrev pub WritesSoFar : Option ℕ → (ℕ → Option (List ℕ)) → Start → List ℕ → Option (List ℕ) → Option (List ℕ) → Type 0
+WritesSoFar None left begin bytes old new = Appends old new []
+WritesSoFar (Some number) left begin bytes old new = MatchOption (left number) ⊥ (λ rest. Appends old new (replies_so_far begin bytes rest))
+
+-- what was written when memory was short: nothing, or the replies to so many lines
+abbrev pub WritesLines : Start → Option (List ℕ) → Option (List ℕ) → List ℕ → Type 0
+WritesLines (begins s) old new bytes = Appends old new [] ⊎ WroteReplies s old new bytes
+WritesLines (stops status line) old new bytes = Appends old new []
+
 -- what was written, by how the run ended
 abbrev pub RunWrites : Status → List (List ℕ) → Option (List ℕ) → Option (List ℕ) → Files → List Asked → (ℕ → Option (List ℕ)) → Type 0
 RunWrites Done words old new files asked left = (expected_status words files ≡ Done) × Appends old new (expected words files) × IsEmptied left (script_number (names_of words) asked)
 RunWrites Usage words old new files asked left = (expected_status words files ≡ Usage) × Appends old new (expected words files)
+RunWrites Data words old new files asked left = (expected_status words files ≡ Data) × Appends old new (expected words files)
 RunWrites Input words old new files asked left = (expected_status words files ≡ Input) × Appends old new (expected words files)
-RunWrites ReadFault words old new files asked left = Appends old new []
+RunWrites ReadFault words old new files asked left = WritesSoFar (script_number (names_of words) asked) left (start words files) (script words files) old new
 RunWrites OpenFault words old new files asked left = Appends old new []
 RunWrites WriteFault words old new files asked left = AppendsPartOf old new (expected words files)
-RunWrites NoMemory words old new files asked left = AppendsPartOf old new (expected words files) × (Appends old new [] ⊎ WroteReplies old new (file_bytes files dash))
+RunWrites NoMemory words old new files asked left = AppendsPartOf old new (expected words files) × cond (takes_words words) (WritesLines (start words files) old new (script words files)) (Appends old new [])
 
 -- the same, where the library tells its bytes
 abbrev pub ToldRun : Status → List (List ℕ) → Option (List ℕ) → Option (List ℕ) → Option Files → List Asked → (ℕ → Option (List ℕ)) → Type 0
@@ -73,6 +105,13 @@ RefusedWrites Usage old new = Appends old new usage_line
 RefusedWrites WriteFault old new = AppendsPartOf old new usage_line
 RefusedWrites NoMemory old new = Appends old new []
 RefusedWrites Done old new = ⊥
+RefusedWrites Data old new = ⊥
 RefusedWrites Input old new = ⊥
 RefusedWrites ReadFault old new = ⊥
 RefusedWrites OpenFault old new = ⊥
+
+-- where nothing of the outside failed in the call, the run ends as it should, or for want of memory
+abbrev pub IsComplete : Status → List (List ℕ) → Option Files → (opens opens' reads reads' writes writes' : ℕ) → Type 0
+IsComplete status words None opens opens' reads reads' writes writes' = ⊤
+IsComplete status words (Some files) opens opens' reads reads' writes writes' =
+    (Rose opens opens' → ⊥) → (Rose reads reads' → ⊥) → (Rose writes writes' → ⊥) → (status ≡ expected_status words files) ⊎ (status ≡ NoMemory)

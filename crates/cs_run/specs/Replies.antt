@@ -33,6 +33,22 @@ change_of operation id = object_of ((codes "id", text id) ∷ (codes "operation"
 abbrev pub transaction_reply : List Tree → List ℕ → ℕ → Tree
 transaction_reply changes tx line = object_of ((codes "line", number line) ∷ (codes "results", list (trees changes)) ∷ (codes "transactionId", text tx) ∷ [])
 
+-- a source, `data` or `script`, passed a limit in the line
+abbrev pub limit_reply : List ℕ → List ℕ → ℕ → Tree
+limit_reply word source line = object_of ((codes "error", text word) ∷ (codes "line", number line) ∷ (codes "source", text source) ∷ [])
+
+-- a line of the data file was refused
+abbrev pub data_reply : List ℕ → ℕ → Tree
+data_reply cause line = object_of ((codes "cause", text cause) ∷ (codes "error", text (codes "data")) ∷ (codes "line", number line) ∷ [])
+
+-- a line of the data file has the id of an earlier one
+abbrev pub repeated_reply : List ℕ → ℕ → Tree
+repeated_reply id line = object_of ((codes "cause", text (codes "repeated")) ∷ (codes "error", text (codes "data")) ∷ (codes "id", text id) ∷ (codes "line", number line) ∷ [])
+
+-- a strong reference of the data file names no document
+abbrev pub dangling_reply : List ℕ → List ℕ → Tree
+dangling_reply from to = object_of ((codes "cause", text (codes "dangling")) ∷ (codes "error", text (codes "data")) ∷ (codes "from", text from) ∷ (codes "to", text to) ∷ [])
+
 abbrev pub reply_line : Tree → List ℕ
 reply_line reply = json_text reply ++ 10 ∷ []
 

@@ -1,44 +1,35 @@
--- What the reading of a whole script and the running of it leave. For private clauses.
-use Rattle.std.specs.Prelude.{ℕ, ◌<◌, ◌≤◌, List, length, Option, None, Some, Result, Ok, Err, ⊤, Vec}
+-- What the parts of a run leave. For private clauses.
+use Rattle.std.specs.Prelude.{◌≡◌, ◌≢◌, ℕ, List, [], Option, None, Some, Result, Ok, Err, ⊤, Vec}
 use Rattle.std.specs.declared.alloc.Global.{Global}
-use Rattle.std.specs.Io.KnownBytes.{Appends, Consumes, IsAtEnd, Keeps}
+use Rattle.std.specs.Io.KnownBytes.{Appends, Keeps}
+use Rattle.cs_value.specs.declared.memory.NoMemory as memory
 use Rattle.cs_io.specs.Bytes.{AppendsPartOf}
-use Rattle.cs_io.specs.Causes.{Rose}
-use Rattle.cs_io.specs.Lines.{cut}
-use Rattle.cs_run.specs.Machine.{first_state, replies}
-use Rattle.cs_run.specs.Expected.{largest_script, WroteReplies}
+use Rattle.cs_io.specs.Lines.{whole_lines}
+use Rattle.cs_io.specs.Names.{Files}
+use Rattle.cs_io.specs.declared.library.Asked.{Asked}
+use Rattle.cs_run.specs.Expected.{Start, begins, stops, script_writes, script_ends, cause_reply, WroteReplies}
+use Rattle.cs_run.specs.Headline.{start_with, taken_of}
+use Rattle.cs_run.specs.Loading.{AsksFor, cause_of}
+use Rattle.cs_run.specs.Machine.{State, replies}
+use Rattle.cs_run.specs.Replies.{limit_reply, dangling_reply, reply_line}
+use Rattle.cs_run.specs.Store.{docs}
+use Rattle.cs_run.specs.declared.docs.Docs.{Docs}
+use Rattle.cs_run.specs.declared.fault.LoadFault.{LoadFault}
+use Rattle.cs_run.specs.declared.fault.LoadFault.TheVariants as fault
 use Rattle.cs_run.specs.declared.status.Status.{Status}
-use Rattle.cs_run.specs.declared.status.Status.TheVariants.{Done, ReadFault, Usage, Input, WriteFault, NoMemory, OpenFault}
-use Rattle.cs_run.specs.declared.whole.WholeFault.{WholeFault}
-use Rattle.cs_run.specs.declared.whole.WholeFault.TheVariants as fault
+use Rattle.cs_run.specs.declared.status.Status.TheVariants.{Done, ReadFault, Usage, Data, Input, WriteFault, NoMemory, OpenFault}
+use Rattle.std.specs.Prelude.{codes}
 
--- more bytes stood there than a script may have
-abbrev pub IsTooMuch : Option (List ℕ) → Type 0
-IsTooMuch None = ⊤
-IsTooMuch (Some bytes) = largest_script < length bytes
+-- a stated line was written and the status given, or memory or the sink failed
+pub record Stated (result status : Status) (line : List ℕ) (old new : Option (List ℕ)) : Type 0 where
+  pub whole : result ≢ WriteFault → result ≢ NoMemory → (result ≡ status) × Appends old new line
+  pub part : AppendsPartOf old new line
+  pub none : result ≡ NoMemory → Appends old new []
 
--- why no piece more was read
-abbrev pub FailsToRead : WholeFault → ℕ → ℕ → Type 0
-FailsToRead fault.Read before now = Rose before now
-FailsToRead fault.TooMuch before now = ⊥
-FailsToRead fault.NoMemory before now = ⊤
-
--- all bytes were read, or why not
-abbrev pub ReadsWhole : Result (Vec ℕ Global) WholeFault → Option (List ℕ) → Option (List ℕ) → ℕ → ℕ → Type 0
-ReadsWhole (Ok script) old new before now = Consumes old new script.items × IsAtEnd new × (length script.items ≤ largest_script)
-ReadsWhole (Err fault.Read) old new before now = Rose before now
-ReadsWhole (Err fault.TooMuch) old new before now = IsTooMuch old
-ReadsWhole (Err fault.NoMemory) old new before now = ⊤
-
--- how the running of a script ends
-abbrev pub ScriptRuns : Status → Option (List ℕ) → Option (List ℕ) → List ℕ → Type 0
-ScriptRuns Done old new script = Appends old new (replies first_state 1 (cut script))
-ScriptRuns WriteFault old new script = AppendsPartOf old new (replies first_state 1 (cut script))
-ScriptRuns NoMemory old new script = WroteReplies old new script
-ScriptRuns Usage old new script = ⊥
-ScriptRuns Input old new script = ⊥
-ScriptRuns ReadFault old new script = ⊥
-ScriptRuns OpenFault old new script = ⊥
+-- the same of a line that memory may have been short for
+abbrev pub States : Status → Status → Result (Vec ℕ Global) memory.NoMemory → Option (List ℕ) → Option (List ℕ) → Type 0
+States result status (Ok line) old new = Stated result status line.items old new
+States result status (Err e) old new = (result ≡ NoMemory) × Appends old new []
 
 -- what the run of one line that could not be ended leaves
 abbrev pub LineStops : Status → Option (List ℕ) → Option (List ℕ) → List ℕ → Type 0
@@ -46,6 +37,54 @@ LineStops WriteFault old new reply = AppendsPartOf old new reply
 LineStops NoMemory old new reply = Keeps old new
 LineStops Done old new reply = ⊥
 LineStops Usage old new reply = ⊥
+LineStops Data old new reply = ⊥
 LineStops Input old new reply = ⊥
 LineStops ReadFault old new reply = ⊥
 LineStops OpenFault old new reply = ⊥
+
+-- what was written of a script of which `rest` is left, by how the run ended
+abbrev pub ScriptWrites : State → Status → Option (List ℕ) → Option (List ℕ) → List ℕ → List ℕ → Type 0
+ScriptWrites s Done old new script rest = (script_ends script ≡ Done) × Appends old new (script_writes s script) × (rest ≡ [])
+ScriptWrites s Input old new script rest = (script_ends script ≡ Input) × Appends old new (script_writes s script)
+ScriptWrites s ReadFault old new script rest = Appends old new (replies s 1 (whole_lines (taken_of script rest)))
+ScriptWrites s WriteFault old new script rest = AppendsPartOf old new (script_writes s script)
+ScriptWrites s NoMemory old new script rest = WroteReplies s old new script
+ScriptWrites s Usage old new script rest = ⊥
+ScriptWrites s Data old new script rest = ⊥
+ScriptWrites s OpenFault old new script rest = ⊥
+
+-- the same, where the bytes are told
+abbrev pub ToldWrites : State → Status → Option (List ℕ) → Option (List ℕ) → Option (List ℕ) → Option (List ℕ) → Type 0
+ToldWrites s status old new None rest = ⊤
+ToldWrites s status old new (Some script) None = ⊥
+ToldWrites s status old new (Some script) (Some rest) = ScriptWrites s status old new script rest
+
+-- where a run begins, by what the loading of its data file answered
+abbrev pub Starts : Result Docs LoadFault → Start → Type 0
+Starts (Ok d) begin = begin ≡ begins (record { docs = docs d })
+Starts (Err fault.Open) begin = ⊤
+Starts (Err fault.Read) begin = ⊤
+Starts (Err (fault.TooLong n)) begin = begin ≡ stops Input (reply_line (limit_reply (codes "too-long") (codes "data") n))
+Starts (Err (fault.TooMuch n)) begin = begin ≡ stops Input (reply_line (limit_reply (codes "too-much") (codes "data") n))
+Starts (Err (fault.Bad n c)) begin = begin ≡ stops Data (reply_line (cause_reply n (cause_of c)))
+Starts (Err (fault.Dangling from to)) begin = begin ≡ stops Data (reply_line (dangling_reply from to))
+Starts (Err fault.NoMemory) begin = ⊤
+
+abbrev pub ToldStarts : Result Docs LoadFault → Option (List ℕ) → Option Files → Type 0
+ToldStarts r name None = ⊤
+ToldStarts r name (Some files) = Starts r (start_with name files)
+
+-- the data file's name was asked for, where there is one
+abbrev pub AsksNamed : Option (List ℕ) → Result Docs LoadFault → List Asked → List Asked → Type 0
+AsksNamed None r old new = new ≡ old
+AsksNamed (Some name) r old new = AsksFor r old new name
+
+-- how a run ends whose data file was not loaded
+abbrev pub DataEnds : LoadFault → Status → Option (List ℕ) → Option (List ℕ) → Type 0
+DataEnds fault.Open result old new = (result ≡ OpenFault) × Appends old new []
+DataEnds fault.Read result old new = (result ≡ ReadFault) × Appends old new []
+DataEnds (fault.TooLong n) result old new = Stated result Input (reply_line (limit_reply (codes "too-long") (codes "data") n)) old new
+DataEnds (fault.TooMuch n) result old new = Stated result Input (reply_line (limit_reply (codes "too-much") (codes "data") n)) old new
+DataEnds (fault.Bad n c) result old new = Stated result Data (reply_line (cause_reply n (cause_of c))) old new
+DataEnds (fault.Dangling from to) result old new = Stated result Data (reply_line (dangling_reply from to)) old new
+DataEnds fault.NoMemory result old new = (result ≡ NoMemory) × Appends old new []

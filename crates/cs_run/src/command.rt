@@ -2,38 +2,55 @@
 ghost use Rattle.std.specs.Prelude.{◌≡◌, IfOk, IfSome, option_map, true};
 ghost use Rattle.cs_value.specs.View.{tree, fields, list_tree};
 ghost use Rattle.cs_value.specs.Tree.{trees};
-ghost use Rattle.cs_run.specs.Asking.{command, IsFit};
-ghost use Rattle.cs_run.specs.Command.{is_blank, sole_pair, sole_tree, sole_attribute, sole_member, is_query_all, is_creatable, created_by, command_of, asked};
+ghost use Rattle.cs_run.specs.Asking.{asking, word_of, IsFit};
+ghost use Rattle.cs_run.specs.Command.{sole_pair, sole_tree, sole_attribute, sole_member, is_query_all, is_creatable, created_by, creating, asking_of, asked};
 
 use crate::refs::names_ref;
 use cs_json::JsonFault;
 use cs_value::{Fields, NoMemory, Val};
 use cs_view::is_body;
+use cs_wire::{BadCommand, Command};
 use std::alloc::Global;
 
-/// A line that is not blank, as far as it is built.
-#[derive(Drop)]
-pub(crate) enum Command {
-    /// The line is no JSON.
+/// Why a line is refused before a command of its own is.
+#[derive(Clone, Copy, Debug, Drop, PartialEq, Eq)]
+pub(crate) enum LineCause {
+    /// serde_json has no reading of the line.
     NotJson,
-    /// The query for all documents.
-    QueryAll,
-    /// A transaction that creates one document of this object.
-    Create(Val),
-    /// Every other line.
+    /// Its lists and objects nest deeper than 64 levels.
+    TooDeep,
+    /// A number in it is no whole number from -2^63 to 2^63-1.
+    NotWhole,
+    /// It has not the keys and types of a command.
+    BadCommand,
+    /// It is a command in a form that is not built yet.
     NotBuilt,
 }
 
-/// Whether the line is spaces, tabs and carriage returns alone.
-pub(crate) fn is_blank(line: &[u8]) -> bool
-    ensures { result ≡ is_blank line.now }
-{
-    for byte in line {
-        if *byte != b' ' && *byte != b'\t' && *byte != b'\r' {
-            return false;
+impl LineCause {
+    /// The word that the reply has for it.
+    pub(crate) fn word(self) -> &'static str
+        ensures { result.now ≡ word_of self }
+    {
+        match self {
+            LineCause::NotJson => "not-json",
+            LineCause::TooDeep => "too-deep",
+            LineCause::NotWhole => "not-whole",
+            LineCause::BadCommand => "bad-command",
+            LineCause::NotBuilt => "not-built",
         }
     }
-    true
+}
+
+/// What a line that is not blank asks for.
+#[derive(Drop)]
+pub(crate) enum Asking {
+    /// Nothing that is done.
+    Refused(LineCause),
+    /// All documents.
+    QueryAll,
+    /// That a document of this object is created.
+    Create(Val),
 }
 
 // The value of the one attribute, where it has the name.
@@ -105,11 +122,10 @@ fn is_creatable(val: &Val) -> bool
     is_body(val) && val.within(48) && !names_ref(val)
 }
 
-fn created_by(val: Val) -> Option<Val>
-    ensures created { option_map tree result ≡ created_by (tree val) }
+fn created_by(body: Val) -> Option<Val>
+    ensures created { option_map tree result ≡ created_by (tree body) }
     ensures fit { IfSome result (λ v. is_creatable (tree v) ≡ true) }
 {
-    let body = sole_attribute(val, "mutate")?;
     let mutations = sole_attribute(body, "mutations")?;
     let mutation = sole_member(mutations)?;
     let document = sole_attribute(mutation, "create")?;
@@ -120,29 +136,45 @@ fn created_by(val: Val) -> Option<Val>
     }
 }
 
-fn asked(val: Val) -> Command
-    ensures asked { command result ≡ asked (tree val) }
+fn creating(body: Val) -> Asking
+    ensures asked { asking result ≡ creating (created_by (tree body)) }
     ensures fit { IsFit result }
 {
-    if is_query_all(&val) {
-        return Command::QueryAll;
-    }
-    match created_by(val) {
-        Some(document) => Command::Create(document),
-        None => Command::NotBuilt,
+    match created_by(body) {
+        Some(document) => Asking::Create(document),
+        None => Asking::Refused(LineCause::NotBuilt),
     }
 }
 
-/// What a line that is not blank asks for.
-pub(crate) fn read_command(alloc: Global, line: &[u8]) -> Result<Command, NoMemory>
-    ensures asked { IfOk result (λ c. command c ≡ command_of line.now) }
+fn asked(alloc: Global, val: Val) -> Asking
+    ensures asked { asking result ≡ asked (tree val) }
+    ensures fit { IsFit result }
+{
+    let all = is_query_all(&val);
+    match Command::read(alloc, val) {
+        Ok(Command::Mutate { body }) => creating(body),
+        Ok(Command::Query { text: _, params: _ }) => {
+            if all {
+                Asking::QueryAll
+            } else {
+                Asking::Refused(LineCause::NotBuilt)
+            }
+        }
+        Ok(_) => Asking::Refused(LineCause::NotBuilt),
+        Err(BadCommand) => Asking::Refused(LineCause::BadCommand),
+    }
+}
+
+/// What a line that is not blank asks for, or the first cause for which it is refused.
+pub(crate) fn read_asking(alloc: Global, line: &[u8]) -> Result<Asking, NoMemory>
+    ensures asked { IfOk result (λ a. asking a ≡ asking_of line.now) }
     ensures fit { IfOk result IsFit }
 {
     match cs_json::read(alloc, line, 64) {
-        Ok(val) => Ok(asked(val)),
-        Err(JsonFault::NotJson) => Ok(Command::NotJson),
-        Err(JsonFault::TooDeep) => Ok(Command::NotBuilt),
-        Err(JsonFault::NotWhole) => Ok(Command::NotBuilt),
+        Ok(val) => Ok(asked(alloc, val)),
+        Err(JsonFault::NotJson) => Ok(Asking::Refused(LineCause::NotJson)),
+        Err(JsonFault::TooDeep) => Ok(Asking::Refused(LineCause::TooDeep)),
+        Err(JsonFault::NotWhole) => Ok(Asking::Refused(LineCause::NotWhole)),
         Err(JsonFault::NoMemory) => Err(NoMemory),
     }
 }

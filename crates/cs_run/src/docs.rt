@@ -1,30 +1,76 @@
-// The documents of the machine.
-ghost use Rattle.std.specs.Prelude.{◌≡◌, ◌≤◌, map, length, [], true, MatchResult, slice_get, OnOk, OnErr};
-ghost use Rattle.cs_view.specs.Dataset.{ascending, with_doc};
+ghost use Rattle.std.specs.Prelude.{◌≡◌, ◌==◌, ◌≤◌, ◌<◌, map, length, [], true, MatchResult, option_map, Some, slice_get, OnOk, OnErr};
+ghost use Rattle.cs_view.specs.Dataset.{ascending, with_doc, At};
 ghost use Rattle.cs_view.specs.Document.{id_of};
 ghost use Rattle.cs_view.specs.View.{doc};
+ghost use Rattle.cs_run.specs.Machine.{most_documents};
 
-use cs_value::NoMemory;
+use cs_value::{NoMemory, Txt};
 use cs_view::Doc;
 use std::alloc::Global;
 
-/// The documents, in ascending order of their ids.
+/// The most documents that the store holds.
+pub(crate) const MOST_DOCUMENTS: usize = 1_048_576;
+
+/// The documents of the store, in ascending order of their ids: at most 1,048,576.
 #[derive(Drop)]
-pub(crate) struct Docs {
+pub struct Docs {
     docs: Vec<Doc>,
     pub ghost ascends: { ascending (map doc docs.items) ≡ true },
+    pub ghost within: { length docs.items ≤ most_documents },
 }
 
 impl Docs {
     ghost use Rattle.cs_run.specs.Store.{docs};
     ghost use Rattle.cs_run.specs.Places.{HasId, IsGapFor};
 
-    pub(crate) fn new(alloc: Global) -> Docs
+    /// No documents. It takes no memory.
+    pub fn new(alloc: Global) -> Docs
         ensures { docs result ≡ [] }
     {
         Docs {
             docs: Vec::new(alloc),
         }
+    }
+
+    /// How many documents there are.
+    pub fn len(&self) -> u32
+        ensures { result ≡ length (docs self.now) }
+    {
+        self.docs.len() as u32
+    }
+
+    /// The document at a place, counted from 0 in the order of the ids.
+    pub fn at(&self, place: u32) -> &Doc
+        requires { place < length (docs self.now) }
+        ensures { slice_get (docs self.now) place ≡ Some (doc result.now) }
+    {
+        &self.docs[place as usize]
+    }
+
+    /// The document with the id. `None` exactly where there is none.
+    pub fn get(&self, id: &Txt) -> Option<&Doc>
+        ensures { option_map (λ d. doc d.now) result ≡ At id.now (docs self.now) }
+    {
+        match self.search(id.as_str()) {
+            Ok(place) => Some(&self.docs[place]),
+            Err(_) => None,
+        }
+    }
+
+    /// Documents that ascend by their ids, within the limit. They are moved, not copied.
+    pub(crate) fn of(documents: Vec<Doc>) -> Docs
+        requires ascends { ascending (map doc documents.items) ≡ true }
+        requires within { length documents.items ≤ most_documents }
+        ensures { docs result ≡ map doc documents.items }
+    {
+        Docs { docs: documents }
+    }
+
+    /// Whether there is no room for a document more.
+    pub(crate) fn is_full(&self) -> bool
+        ensures { result ≡ (length (docs self.now) == most_documents) }
+    {
+        self.docs.len() == MOST_DOCUMENTS
     }
 
     /// The documents themselves.
@@ -36,15 +82,18 @@ impl Docs {
 
     /// The place of the document with the id, or the place where it would go.
     pub(crate) fn search(&self, id: &str) -> Result<usize, usize>
-        ensures { MatchResult result (HasId id.now (docs self.now)) (IsGapFor id.now (docs self.now)) }
+        ensures { MatchResult result (HasId id.now (docs self.now))
+            (IsGapFor id.now (docs self.now)) }
     {
         self.docs
             .binary_search_by(|document| document.id().as_str().cmp(id))
     }
 
-    /// Puts a document at the place where it would go. Without memory nothing changes.
+    /// Puts a document at the place where it would go, where there is room for it. Without memory
+    /// nothing changes.
     pub(crate) fn insert(&mut self, place: usize, document: Doc) -> Result<(), NoMemory>
-        requires { IsGapFor (id_of (doc document)) (docs self.old) place }
+        requires gap { IsGapFor (id_of (doc document)) (docs self.old) place }
+        requires room { length (docs self.old) < most_documents }
         ensures put { OnOk result (docs self.new ≡ with_doc (doc document) (docs self.old)) }
         ensures kept { OnErr result (docs self.new ≡ docs self.old) }
     {

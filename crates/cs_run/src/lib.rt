@@ -1,18 +1,33 @@
-//! The store's machine over the lines of a script.
+//! The store's machine over the lines of a script, the data file that it begins with, and the top
+//! call.
 #![tactic(auto)]
 
+mod blank;
 mod command;
+mod data_file;
 mod docs;
+mod fault;
+mod import;
+#[cfg(test)]
+mod load_tests;
+mod loading;
 mod machine;
+mod references;
 mod refs;
+mod refusal;
 mod reply;
 mod stamp;
 mod status;
 #[cfg(test)]
 mod tests;
 mod top;
-mod whole;
+mod words;
+#[cfg(test)]
+mod words_tests;
 
+pub use data_file::load;
+pub use docs::Docs;
+pub use fault::{DataCause, LoadFault};
 pub use machine::{Core, CoreFault, Replies};
 pub use status::Status;
 pub use top::run;

@@ -1,29 +1,28 @@
-ghost use Rattle.std.specs.Prelude.{◌≡◌, ◌≤◌, IfOk, OnOk, OnErr, length, List, ℕ, map, codes, [], ◌∷◌, true};
+ghost use Rattle.std.specs.Prelude.{◌≡◌, ◌≤◌, ◌<◌, IfOk, OnOk, OnErr, length, List, ℕ, map, codes, [], ◌∷◌, true};
 ghost use Rattle.cs_io.specs.Lines.{longest_line};
 ghost use Rattle.cs_value.specs.Tree.{trees, list};
 ghost use Rattle.cs_value.specs.View.{tree, list_tree};
 ghost use Rattle.cs_view.specs.Document.{is_body, is_shallow, id_of};
 ghost use Rattle.cs_view.specs.Dataset.{with_doc};
 ghost use Rattle.cs_view.specs.View.{doc};
-ghost use Rattle.cs_run.specs.Asking.{command, IsFit};
-ghost use Rattle.cs_run.specs.Machine.{first_state, step_reply, step_state, done, created};
+ghost use Rattle.cs_run.specs.Asking.{asking, word_of, IsFit};
+ghost use Rattle.cs_run.specs.Machine.{most_documents, step_reply, step_state, done, created};
 ghost use Rattle.cs_run.specs.Replies.{reply_line, reply_lines, transaction_reply, change_of, query_reply};
 ghost use Rattle.cs_run.specs.Places.{IsGapFor};
-ghost use Rattle.cs_run.specs.Store.{state, docs};
+ghost use Rattle.cs_run.specs.Core.{state};
+ghost use Rattle.cs_run.specs.Store.{docs as docs_of};
 
-use crate::command::{Command, is_blank, read_command};
+use crate::blank::is_blank;
+use crate::command::{Asking, LineCause, read_asking};
 use crate::docs::Docs;
 use crate::reply;
-use crate::stamp::{stamped, tx_of_line};
+use crate::stamp::{FIRST_MOMENT, stamped, tx_of_line};
 use cs_io::Line;
 use cs_value::{NoMemory, Steps, Val};
 use cs_view::Doc;
 use std::alloc::Global;
 use std::marker::Model;
 use std::sync::ledger::Ledger;
-
-/// The moment at which every run begins.
-const FIRST_MOMENT: &str = "1970-01-01T00:00:00Z";
 
 /// Why a step has no replies.
 #[derive(Clone, Copy, Debug, Drop, PartialEq, Eq)]
@@ -80,14 +79,18 @@ fn all_documents(alloc: Global, documents: &[Doc]) -> Result<Val, NoMemory>
 }
 
 impl Core {
-    /// A machine without documents, at the first moment.
-    pub fn new(alloc: Global) -> Result<Core, NoMemory>
-        ensures { IfOk result (λ core. state core ≡ first_state) }
+    /// A machine with these documents, at the first moment.
+    pub fn new(alloc: Global, docs: Docs) -> Result<Core, NoMemory>
+        ensures { IfOk result (λ core. state core ≡ record { docs = docs_of docs }) }
     {
-        Ok(Core {
-            alloc,
-            docs: Docs::new(alloc),
-        })
+        Ok(Core { alloc, docs })
+    }
+
+    /// The documents that the lines so far have left.
+    pub fn docs(&self) -> &Docs
+        ensures { docs_of result.now ≡ (state self.now).docs }
+    {
+        &self.docs
     }
 
     // Installs a document at the place where it goes, as the one mutation of its transaction.
@@ -98,10 +101,14 @@ impl Core {
         tx: &str,
         line: u32,
     ) -> Result<Vec<u8>, NoMemory>
-        requires gap { IsGapFor (id_of (doc document)) (docs self.old.docs) place }
-        ensures replies { IfOk result (λ bytes. bytes.items ≡ reply_line (transaction_reply (change_of (codes "create") (id_of (doc document)) ∷ []) tx.now line)) }
-        ensures put { OnOk result (docs self.new.docs ≡ with_doc (doc document) (docs self.old.docs)) }
-        ensures kept { OnErr result (docs self.new.docs ≡ docs self.old.docs) }
+        requires gap { IsGapFor (id_of (doc document)) (docs_of self.old.docs) place }
+        requires room { length (docs_of self.old.docs) < most_documents }
+        ensures replies { IfOk result (λ bytes. bytes.items ≡ reply_line
+            (transaction_reply (change_of (codes "create") (id_of (doc document)) ∷ []) tx.now
+            line)) }
+        ensures put { OnOk result (docs_of self.new.docs ≡ with_doc (doc document)
+            (docs_of self.old.docs)) }
+        ensures kept { OnErr result (docs_of self.new.docs ≡ docs_of self.old.docs) }
     {
         let bytes = reply::created(self.alloc, document.id().as_str(), tx, line)?;
         self.docs.insert(place, document)?;
@@ -112,8 +119,10 @@ impl Core {
     fn create(&mut self, body: Val, line: u32) -> Result<Vec<u8>, NoMemory>
         requires body { is_body (tree body) ≡ true }
         requires shallow { is_shallow (tree body) ≡ true }
-        ensures replies { IfOk result (λ bytes. bytes.items ≡ reply_lines (created (state self.old) line (tree body)).replies) }
-        ensures state { OnOk result (state self.new ≡ (created (state self.old) line (tree body)).state) }
+        ensures replies { IfOk result (λ bytes. bytes.items ≡ reply_lines
+            (created (state self.old) line (tree body)).replies) }
+        ensures state { OnOk result (state self.new ≡
+            (created (state self.old) line (tree body)).state) }
         ensures kept { OnErr result (state self.new ≡ state self.old) }
     {
         let tx = tx_of_line(self.alloc, line)?;
@@ -121,28 +130,35 @@ impl Core {
         let id = document.id().as_str();
         match self.docs.search(id) {
             Ok(_) => reply::exists(self.alloc, id, 0, line),
-            Err(place) => self.install(place, document, tx.as_str(), line),
+            Err(place) => {
+                if self.docs.is_full() {
+                    return reply::refusal(self.alloc, LineCause::NotBuilt.word(), line);
+                }
+                self.install(place, document, tx.as_str(), line)
+            }
         }
     }
 
     // What a line that is not blank asks for.
-    fn answer(&mut self, asked: Command, line: u32) -> Result<Vec<u8>, NoMemory>
+    fn answer(&mut self, asked: Asking, line: u32) -> Result<Vec<u8>, NoMemory>
         requires fit { IsFit asked }
-        ensures replies { IfOk result (λ bytes. bytes.items ≡ reply_lines (done (state self.old) line (command asked)).replies) }
-        ensures state { OnOk result (state self.new ≡ (done (state self.old) line (command asked)).state) }
+        ensures replies { IfOk result (λ bytes. bytes.items ≡ reply_lines
+            (done (state self.old) line (asking asked)).replies) }
+        ensures state { OnOk result (state self.new ≡
+            (done (state self.old) line (asking asked)).state) }
         ensures kept { OnErr result (state self.new ≡ state self.old) }
     {
         match asked {
-            Command::NotJson => reply::refusal(self.alloc, "not-json", line),
-            Command::QueryAll => self.find_all(line),
-            Command::Create(body) => self.create(body, line),
-            Command::NotBuilt => reply::refusal(self.alloc, "not-built", line),
+            Asking::Refused(cause) => reply::refusal(self.alloc, cause.word(), line),
+            Asking::QueryAll => self.find_all(line),
+            Asking::Create(body) => self.create(body, line),
         }
     }
 
     // The query for all documents.
     fn find_all(&self, line: u32) -> Result<Vec<u8>, NoMemory>
-        ensures { IfOk result (λ bytes. bytes.items ≡ reply_line (query_reply (list (trees (docs self.now.docs))) line)) }
+        ensures { IfOk result (λ bytes. bytes.items ≡ reply_line
+            (query_reply (list (trees (docs_of self.now.docs))) line)) }
     {
         let found = all_documents(self.alloc, self.docs.as_slice())?;
         reply::query(self.alloc, found, line)
@@ -158,8 +174,10 @@ impl Core {
         _steps: &mut Steps<L>,
     ) -> Result<Replies, CoreFault>
         requires { length line.now.bytes.items ≤ longest_line }
-        ensures replies { IfOk result (λ replies. replies ≡ step_reply (state self.old) line.now.number line.now.bytes.items) }
-        ensures state { OnOk result (state self.new ≡ step_state (state self.old) line.now.number line.now.bytes.items) }
+        ensures replies { IfOk result (λ replies. replies ≡ step_reply (state self.old)
+            line.now.number line.now.bytes.items) }
+        ensures state { OnOk result (state self.new ≡ step_state (state self.old) line.now.number
+            line.now.bytes.items) }
         ensures kept { OnErr result (state self.new ≡ state self.old) }
     {
         let bytes = self.step_line(line.number, line.bytes.as_slice())?;
@@ -168,14 +186,15 @@ impl Core {
 
     #[tactic(auto, unfolding(crate::specs::Machine::step))]
     fn step_line(&mut self, number: u32, line: &[u8]) -> Result<Vec<u8>, NoMemory>
-        ensures replies { IfOk result (λ bytes. bytes.items ≡ step_reply (state self.old) number line.now) }
+        ensures replies { IfOk result (λ bytes. bytes.items ≡ step_reply (state self.old) number
+            line.now) }
         ensures state { OnOk result (state self.new ≡ step_state (state self.old) number line.now) }
         ensures kept { OnErr result (state self.new ≡ state self.old) }
     {
         if is_blank(line) {
             return Ok(Vec::new(self.alloc));
         }
-        let asked = read_command(self.alloc, line)?;
+        let asked = read_asking(self.alloc, line)?;
         self.answer(asked, number)
     }
 }

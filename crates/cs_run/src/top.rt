@@ -1,35 +1,41 @@
-ghost use Rattle.std.specs.Prelude.{◌≡◌, ◌≢◌, ◌≤◌, ◌<◌, ◌+◌, ◌∷◌, ℕ, [], length, true, false, OnOk, IfErr, Option};
+ghost use Rattle.std.specs.Prelude.{◌≡◌, ◌≢◌, ◌≤◌, OnOk, IfOk, IfErr, length, true, false, Option, option_map, ◌∷◌};
 ghost use Rattle.std.specs.Io.KnownBytes.{Appends};
-ghost use Rattle.cs_io.specs.Bytes.{AppendsPartOf};
 ghost use Rattle.cs_io.specs.Causes.{Rose};
-ghost use Rattle.cs_io.specs.Lines.{cut, longest_line};
-ghost use Rattle.cs_run.specs.Expected.{Causes, largest_script};
-ghost use Rattle.cs_run.specs.Headline.{ToldRun, Asks, RefusedWrites, names_of, added, takes_words};
+ghost use Rattle.cs_io.specs.Lines.{longest_line};
+ghost use Rattle.cs_io.specs.Names.{is_open};
+ghost use Rattle.cs_run.specs.Core.{state};
+ghost use Rattle.cs_run.specs.Expected.{Causes, cause_reply};
+ghost use Rattle.cs_run.specs.Headline.{ToldRun, Asks, RefusedWrites, IsComplete, added};
+ghost use Rattle.cs_run.specs.Loading.{LoadHasCause, cause_of};
 ghost use Rattle.cs_run.specs.Machine.{step_reply, step_state};
-ghost use Rattle.cs_run.specs.Script.{ScriptRuns, LineStops};
-ghost use Rattle.cs_run.specs.Store.{state};
+ghost use Rattle.cs_run.specs.Replies.{reply_line};
+ghost use Rattle.cs_run.specs.Script.{Stated, States, LineStops, ToldWrites, ToldStarts, AsksNamed, DataEnds};
+ghost use Rattle.cs_run.specs.Store.{docs as docs_of};
+ghost use Rattle.cs_run.specs.Words.{takes_words, names_of};
 
+use crate::data_file::load;
+use crate::docs::Docs;
+use crate::fault::{DataCause, LoadFault};
 use crate::machine::Core;
+use crate::reply;
 use crate::status::Status;
-use crate::whole::{WholeFault, read_whole};
-use cs_io::{Library, Line, Sink, write_whole};
-use cs_value::{Steps, Txt};
+use crate::words::{WordsFault, read_words};
+use cs_io::{Library, Line, LineFault, Lines, Sink, write_whole};
+use cs_value::{NoMemory, Steps, Txt};
 use std::alloc::Global;
 use std::sync::ledger::Ledger;
 
 /// What is written where the words are refused.
 const USAGE: &[u8] = b"{\"error\":\"usage\"}\n";
 
-/// What is written where the script has too many bytes.
-const NOT_BUILT: &[u8] = b"{\"error\":\"not-built\"}\n";
-
 // Writes the line that goes with the status.
 fn answer<K: Sink>(sink: &mut K, line: &[u8], status: Status) -> Status
-    requires { status ≢ Status.WriteFault }
-    ensures whole { result ≢ Status.WriteFault → (result ≡ status) × Appends (K.taken sink.old) (K.taken sink.new) line.now }
-    ensures prefix { AppendsPartOf (K.taken sink.old) (K.taken sink.new) line.now }
+    requires { (status ≢ Status.WriteFault) × (status ≢ Status.NoMemory) }
+    ensures stated { Stated result status line.now (K.taken sink.old) (K.taken sink.new) }
     ensures later { K.faults sink.old ≤ K.faults sink.new }
     ensures cause { result ≡ Status.WriteFault → Rose (K.faults sink.old) (K.faults sink.new) }
+    ensures ends { result ≢ Status.NoMemory }
+    ensures same { result ≢ Status.WriteFault → result ≡ status }
 {
     match write_whole(sink, line) {
         Ok(()) => status,
@@ -37,21 +43,18 @@ fn answer<K: Sink>(sink: &mut K, line: &[u8], status: Status) -> Status
     }
 }
 
-// The line that the bytes begin with, and the bytes behind it.
-fn split_line(bytes: &[u8]) -> (&[u8], &[u8])
-    requires { 0 < length bytes.now }
-    ensures first { cut bytes.now ≡ result.0.now ∷ cut result.1.now }
-    ensures within { length result.0.now ≤ length bytes.now }
-    ensures shorter { length result.1.now < length bytes.now }
+// The same of a line that memory may have been short for.
+fn state_line<K: Sink>(sink: &mut K, line: Result<Vec<u8>, NoMemory>, status: Status) -> Status
+    requires { (status ≢ Status.WriteFault) × (status ≢ Status.NoMemory) }
+    ensures stated { States result status line (K.taken sink.old) (K.taken sink.new) }
+    ensures same { result ≢ Status.WriteFault → result ≢ Status.NoMemory → result ≡ status }
+    ensures later { K.faults sink.old ≤ K.faults sink.new }
+    ensures cause { result ≡ Status.WriteFault → Rose (K.faults sink.old) (K.faults sink.new) }
 {
-    let mut end = 0;
-    while end < bytes.len() {
-        if bytes[end] == b'\n' {
-            return (&bytes[..end], &bytes[end + 1..]);
-        }
-        end += 1;
+    match line {
+        Ok(bytes) => answer(sink, bytes.as_slice(), status),
+        Err(_) => Status::NoMemory,
     }
-    (bytes, &[])
 }
 
 // Runs one line, and writes its replies.
@@ -62,11 +65,15 @@ fn run_line<K: Sink, L: Ledger>(
     steps: &mut Steps<L>,
 ) -> Result<(), Status>
     requires { length line.now.bytes.items ≤ longest_line }
-    ensures writes { OnOk result (Appends (K.taken sink.old) (K.taken sink.new) (step_reply (state core.old) line.now.number line.now.bytes.items)) }
-    ensures state { OnOk result (state core.new ≡ step_state (state core.old) line.now.number line.now.bytes.items) }
-    ensures stops { IfErr result (λ status. LineStops status (K.taken sink.old) (K.taken sink.new) (step_reply (state core.old) line.now.number line.now.bytes.items)) }
+    ensures writes { OnOk result (Appends (K.taken sink.old) (K.taken sink.new)
+        (step_reply (state core.old) line.now.number line.now.bytes.items)) }
+    ensures state { OnOk result (state core.new ≡ step_state (state core.old) line.now.number
+        line.now.bytes.items) }
+    ensures stops { IfErr result (λ status. LineStops status (K.taken sink.old) (K.taken sink.new)
+        (step_reply (state core.old) line.now.number line.now.bytes.items)) }
     ensures later { K.faults sink.old ≤ K.faults sink.new }
-    ensures cause { IfErr result (λ status. status ≡ Status.WriteFault → Rose (K.faults sink.old) (K.faults sink.new)) }
+    ensures cause { IfErr result (λ status. status ≡ Status.WriteFault → Rose (K.faults sink.old)
+        (K.faults sink.new)) }
 {
     let Ok(replies) = core.step(line, steps) else {
         return Err(Status::NoMemory);
@@ -77,44 +84,171 @@ fn run_line<K: Sink, L: Ledger>(
     }
 }
 
-// Runs the lines of a script that is held whole.
-fn run_script<K: Sink, L: Ledger>(
+fn cause_line(alloc: Global, line: u32, cause: &DataCause) -> Result<Vec<u8>, NoMemory>
+    ensures { IfOk result (λ bytes. bytes.items ≡ reply_line
+        (cause_reply line (cause_of cause.now))) }
+{
+    match cause {
+        DataCause::NotJson => reply::bad_line(alloc, "not-json", line),
+        DataCause::TooDeep => reply::bad_line(alloc, "too-deep", line),
+        DataCause::NotWhole => reply::bad_line(alloc, "not-whole", line),
+        DataCause::BadDocument => reply::bad_line(alloc, "bad-document", line),
+        DataCause::Repeated { id } => reply::repeated_line(alloc, id.as_str(), line),
+        DataCause::FullDocuments => reply::bad_line(alloc, "full-documents", line),
+    }
+}
+
+// How the run ends whose data file was not loaded.
+fn refuse_data<K: Sink>(alloc: Global, sink: &mut K, fault: &LoadFault) -> Status
+    ensures ends { DataEnds fault.now result (K.taken sink.old) (K.taken sink.new) }
+    ensures later { K.faults sink.old ≤ K.faults sink.new }
+    ensures cause { result ≡ Status.WriteFault → Rose (K.faults sink.old) (K.faults sink.new) }
+    ensures opened { result ≡ Status.OpenFault → fault.now ≡ LoadFault.Open }
+    ensures read { result ≡ Status.ReadFault → fault.now ≡ LoadFault.Read }
+    ensures usage { result ≢ Status.Usage }
+{
+    match fault {
+        LoadFault::Open => Status::OpenFault,
+        LoadFault::Read => Status::ReadFault,
+        LoadFault::TooLong { line } => {
+            state_line(
+                sink,
+                reply::limit(alloc, "too-long", "data", *line),
+                Status::Input,
+            )
+        }
+        LoadFault::TooMuch { line } => {
+            state_line(
+                sink,
+                reply::limit(alloc, "too-much", "data", *line),
+                Status::Input,
+            )
+        }
+        LoadFault::Bad { line, cause } => {
+            state_line(sink, cause_line(alloc, *line, cause), Status::Data)
+        }
+        LoadFault::Dangling { from, to } => {
+            state_line(
+                sink,
+                reply::dangling_line(alloc, from.as_str(), to.as_str()),
+                Status::Data,
+            )
+        }
+        LoadFault::NoMemory => Status::NoMemory,
+    }
+}
+
+// The documents with which the script begins: those of the data file, where one is named.
+fn load_named<Lb: Library>(
     alloc: Global,
-    script: &[u8],
+    library: &mut Lb,
+    name: Option<&str>,
+) -> Result<Docs, LoadFault>
+    ensures starts { ToldStarts result (option_map (λ n. n.now) name.entry) (Lb.files library.old) }
+    ensures causes { LoadHasCause result (Lb.open_faults library.old) (Lb.open_faults library.new)
+        (Lb.read_faults library.old) (Lb.read_faults library.new) }
+    ensures files { Lb.files library.new ≡ Lb.files library.old }
+    ensures names { AsksNamed (option_map (λ n. n.now) name.entry) result (Lb.asked library.old)
+        (Lb.asked library.new) }
+{
+    match name {
+        Some(name) => load(alloc, library, name),
+        None => Ok(Docs::new(alloc)),
+    }
+}
+
+// Runs the lines of the script under an opened number, from these documents on.
+fn run_script<Lb: Library, K: Sink, L: Ledger>(
+    alloc: Global,
+    number: u32,
+    docs: Docs,
+    library: &mut Lb,
     sink: &mut K,
     steps: &mut Steps<L>,
 ) -> Status
-    requires { length script.now ≤ largest_script }
-    ensures writes { ScriptRuns result (K.taken sink.old) (K.taken sink.new) script.now }
-    ensures later { K.faults sink.old ≤ K.faults sink.new }
-    ensures cause { result ≡ Status.WriteFault → Rose (K.faults sink.old) (K.faults sink.new) }
+    requires { is_open (Lb.asked library.old) number ≡ true }
+    ensures writes { ToldWrites (record { docs = docs_of docs }) result (K.taken sink.old)
+        (K.taken sink.new) (Lb.left library.old number) (Lb.left library.new number) }
+    ensures causes { Causes result (Lb.open_faults library.old) (Lb.open_faults library.new)
+        (Lb.read_faults library.old) (Lb.read_faults library.new) (K.faults sink.old)
+        (K.faults sink.new) }
+    ensures files { Lb.files library.new ≡ Lb.files library.old }
+    ensures asked { Lb.asked library.new ≡ Lb.asked library.old }
+    ensures ends { (result ≢ Status.OpenFault) × (result ≢ Status.Usage) }
 {
-    let Ok(mut core) = Core::new(alloc) else {
+    let Ok(mut core) = Core::new(alloc, docs) else {
         return Status::NoMemory;
     };
-    let mut rest = script;
-    let mut number = 0;
-    while !rest.is_empty() {
-        let (front, more) = split_line(rest);
-        let Ok(bytes) = Vec::from_slice(alloc, front) else {
-            return Status::NoMemory;
-        };
-        number += 1;
-        let line = Line { number, bytes };
-        if let Err(status) = run_line(&mut core, &line, sink, steps) {
-            return status;
+    let mut lines = Lines::new(alloc, number);
+    'turns: loop {
+        match lines.next(library) {
+            Ok(Some(line)) => {
+                if let Err(status) = run_line(&mut core, &line, sink, steps) {
+                    return status;
+                }
+            }
+            Ok(None) => return Status::Done,
+            Err(LineFault::Read) => return Status::ReadFault,
+            Err(LineFault::TooLong { line }) => {
+                return state_line(
+                    sink,
+                    reply::limit(alloc, "too-long", "script", line),
+                    Status::Input,
+                );
+            }
+            Err(LineFault::TooMuch { line }) => {
+                return state_line(
+                    sink,
+                    reply::limit(alloc, "too-much", "script", line),
+                    Status::Input,
+                );
+            }
+            Err(LineFault::NoMemory) => return Status::NoMemory,
         }
-        rest = more;
     }
-    Status::Done
+}
+
+// Reads the words, loads the data file and runs the script.
+fn play<Lb: Library, K: Sink, L: Ledger>(
+    alloc: Global,
+    words: &[Txt],
+    library: &mut Lb,
+    sink: &mut K,
+    steps: &mut Steps<L>,
+) -> Status
+    ensures writes { ToldRun result words.now (K.taken sink.old) (K.taken sink.new)
+        (Lb.files library.old) (added (Lb.asked library.old) (Lb.asked library.new))
+        (Lb.left library.new) }
+    ensures causes { Causes result (Lb.open_faults library.old) (Lb.open_faults library.new)
+        (Lb.read_faults library.old) (Lb.read_faults library.new) (K.faults sink.old)
+        (K.faults sink.new) }
+    ensures names { Asks (Lb.asked library.old) (Lb.asked library.new) (names_of words.now) }
+    ensures usage { result ≡ Status.Usage → takes_words words.now ≡ false }
+    ensures refused { takes_words words.now ≡ false → RefusedWrites result (K.taken sink.old)
+        (K.taken sink.new) }
+{
+    let read = match read_words(alloc, words) {
+        Ok(read) => read,
+        Err(WordsFault::Refused) => return answer(sink, USAGE, Status::Usage),
+        Err(WordsFault::NoMemory) => return Status::NoMemory,
+    };
+    let docs = match load_named(alloc, library, read.data) {
+        Ok(docs) => docs,
+        Err(fault) => return refuse_data(alloc, sink, &fault),
+    };
+    match library.open(read.script) {
+        Ok(number) => run_script(alloc, number, docs, library, sink, steps),
+        Err(_) => Status::OpenFault,
+    }
 }
 
 /// Runs the program: the words of its command line, of which the first is the program's name, over the
-/// files that they name, with the replies written to the sink. `steps` counts the visits of documents.
+/// library's files, with what is due written to the sink. `steps` counts the visits of documents.
 ///
-/// So far the program takes no words but its name, reads its script from standard input, whose name is
-/// `-`, and reads it whole before the first line runs. [`Status`] says how the run ended and what was
-/// written.
+/// The words are `--data NAME` and `--script NAME`, each at most once; the script's name is `-` where
+/// none is given. The data file is loaded before the script is opened, and each line of the script is
+/// read, run and answered before the next one is asked for. [`Status`] says how the run ended and what
+/// was written.
 pub fn run<Lb: Library, K: Sink, L: Ledger>(
     alloc: Global,
     words: &[Txt],
@@ -122,22 +256,19 @@ pub fn run<Lb: Library, K: Sink, L: Ledger>(
     sink: &mut K,
     steps: &mut Steps<L>,
 ) -> Status
-    ensures writes { ToldRun result words.now (K.taken sink.old) (K.taken sink.new) (Lb.files library.old) (added (Lb.asked library.old) (Lb.asked library.new)) (Lb.left library.new) }
-    ensures causes { Causes result (Lb.open_faults library.old) (Lb.open_faults library.new) (Lb.read_faults library.old) (Lb.read_faults library.new) (K.faults sink.old) (K.faults sink.new) }
+    ensures writes { ToldRun result words.now (K.taken sink.old) (K.taken sink.new)
+        (Lb.files library.old) (added (Lb.asked library.old) (Lb.asked library.new))
+        (Lb.left library.new) }
+    ensures causes { Causes result (Lb.open_faults library.old) (Lb.open_faults library.new)
+        (Lb.read_faults library.old) (Lb.read_faults library.new) (K.faults sink.old)
+        (K.faults sink.new) }
     ensures names { Asks (Lb.asked library.old) (Lb.asked library.new) (names_of words.now) }
     ensures usage { result ≡ Status.Usage → takes_words words.now ≡ false }
-    ensures refused { takes_words words.now ≡ false → RefusedWrites result (K.taken sink.old) (K.taken sink.new) }
+    ensures refused { takes_words words.now ≡ false → RefusedWrites result (K.taken sink.old)
+        (K.taken sink.new) }
+    ensures completes { IsComplete result words.now (Lb.files library.old)
+        (Lb.open_faults library.old) (Lb.open_faults library.new) (Lb.read_faults library.old)
+        (Lb.read_faults library.new) (K.faults sink.old) (K.faults sink.new) }
 {
-    if words.len() != 1 {
-        return answer(sink, USAGE, Status::Usage);
-    }
-    let Ok(number) = library.open("-") else {
-        return Status::OpenFault;
-    };
-    match read_whole(alloc, library, number) {
-        Ok(script) => run_script(alloc, script.as_slice(), sink, steps),
-        Err(WholeFault::TooMuch) => answer(sink, NOT_BUILT, Status::Input),
-        Err(WholeFault::Read) => Status::ReadFault,
-        Err(WholeFault::NoMemory) => Status::NoMemory,
-    }
+    play(alloc, words, library, sink, steps)
 }

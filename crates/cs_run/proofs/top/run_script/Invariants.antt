@@ -1,15 +1,22 @@
-use Rattle.std.proofs.Common.{◌+◌, ◌≤◌, length}
-use Rattle.cs_run.specs.Store.{state}
-use Rattle.cs_run.specs.Expected.{largest_script}
+use Rattle.std.proofs.Common.{◌≡◌, ◌≤◌, ◌-◌, List, ℕ, Some, true}
+use Rattle.cs_io.specs.Lines.{largest_source}
+use Rattle.cs_io.specs.Names.{is_open}
+use Rattle.cs_io.specs.Reader.{OnlyReads, InStep}
+use Rattle.cs_run.specs.Core.{state}
+use Rattle.cs_run.specs.Store.{docs}
 use Rattle.cs_run.proofs.Playing.{Played}
 use Rattle.cs_run.proofs.top.run_script.Given as goal
 
-abbrev pub invariant-loop-rest : goal.invariant-loop-rest
-invariant-loop-rest g l = record {
-  count : l.number + length l.rest ≤ largest_script;
+abbrev pub invariant-turns : goal.invariant-turns
+invariant-turns g l = record {
+  opened : is_open (g.Lb.Library.asked l.library) l.number ≡ true;
+  in_step : InStep l.lines (g.Lb.Library.left l.library l.number);
+  which : l.lines.which ≡ l.number;
+  within : l.lines.given ≤ largest_source;
   writes_later : g.K.Sink.faults l.initial.sink ≤ g.K.Sink.faults l.sink;
-  played : Played l.script (g.K.Sink.taken l.initial.sink) (g.K.Sink.taken l.sink) (state l.core) l.number l.rest;
+  calls : OnlyReads g.Lb.Library.files g.Lb.Library.asked g.Lb.Library.open_faults g.Lb.Library.read_faults l.initial.library l.library;
+  played : (script : List ℕ) → g.Lb.Library.left l.initial.library l.number ≡ Some script → Played (record { docs = docs l.fn.docs }) script (g.K.Sink.taken l.initial.sink) (g.K.Sink.taken l.sink) (state l.core) l.lines (g.Lb.Library.left l.library l.number);
 }
 
-abbrev pub decreases-loop-rest : goal.decreases-loop-rest
-decreases-loop-rest g l = length l.rest
+abbrev pub decreases-turns : goal.decreases-turns
+decreases-turns g l = largest_source - l.lines.given

@@ -1,0 +1,9 @@
+pub mod Characters
+pub mod Cuts
+pub mod Joined
+pub mod NumberLists
+pub mod Pushed
+pub mod Runs
+pub mod SeenTexts
+pub mod Segmented
+pub mod Trees

@@ -1,0 +1,10 @@
+pub mod Functions
+pub mod Lists
+pub mod Names
+pub mod Numbers
+pub mod PathPattern
+pub mod Refers
+pub mod Run
+pub mod Seen
+pub mod Segments
+pub mod Texts

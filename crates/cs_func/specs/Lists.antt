@@ -1,0 +1,39 @@
+-- The functions of lists: GROQ-1.revision1, "count()", and its "Array" namespace.
+use Rattle.std.specs.Prelude.{List, [], ◌∷◌, ◌++◌, length, pos, Bool, true, false, not, if◌then◌else◌, filter}
+use Rattle.std.specs.List.{list_any}
+use Rattle.cs_value.specs.Tree.{Tree, null, boolean, integer, text, list, object, trees, members}
+use Rattle.cs_ops.specs.Equal.{equal}
+
+-- a function of a list's elements, null of anything else
+abbrev pub of_list : (List Tree → Tree) → Tree → Tree
+of_list f null = null
+of_list f (boolean b) = null
+of_list f (integer n) = null
+of_list f (text s) = null
+of_list f (list ts) = f (members ts)
+of_list f (object ps) = null
+
+abbrev pub is_null : Tree → Bool
+is_null null = true
+is_null (boolean b) = false
+is_null (integer n) = false
+is_null (text s) = false
+is_null (list ts) = false
+is_null (object ps) = false
+
+abbrev pub count : Tree → Tree
+count x = of_list (λ ts. integer (pos (length ts))) x
+
+abbrev pub defined : Tree → Tree
+defined x = boolean (not (is_null x))
+
+abbrev pub compact : Tree → Tree
+compact x = of_list (λ ts. list (trees (filter (λ t. not (is_null t)) ts))) x
+
+-- the elements that are equal to none before them
+abbrev pub distinct : List Tree → List Tree → List Tree
+distinct before [] = []
+distinct before (t ∷ ts) = if list_any (equal t) before then distinct (before ++ t ∷ []) ts else t ∷ distinct (before ++ t ∷ []) ts
+
+abbrev pub unique : Tree → Tree
+unique x = of_list (λ ts. list (trees (distinct [] ts))) x

@@ -1,0 +1,30 @@
+-- Whether a value refers to a document: GROQ-1.revision1, "references()". Nothing inside an object that has a text
+-- `_ref` is looked at: this project's profile.
+use Rattle.std.specs.Prelude.{ℕ, List, Bool, false, ◌||◌, Option, Some, None, codes}
+use Rattle.std.specs.Str.{bytes_eq}
+use Rattle.cs_value.specs.Tree.{Tree, null, boolean, integer, text, list, object, Trees, no_trees, more_trees, Pairs, no_pairs, more_pairs}
+use Rattle.cs_value.specs.Pairs.{find}
+use Rattle.cs_value.specs.Words.{as_text}
+use Rattle.std.specs.Prelude.{option_and_then}
+
+-- whether an object's reference is the target; without a reference, whether something inside refers to it
+abbrev pub reference_or : Bool → List ℕ → Option (List ℕ) → Bool
+reference_or inside target None = inside
+reference_or inside target (Some s) = bytes_eq s target
+
+abbrev mutual
+  pub refers : List ℕ → Tree → Bool
+  refers target null = false
+  refers target (boolean b) = false
+  refers target (integer n) = false
+  refers target (text s) = false
+  refers target (list ts) = some_refers target ts
+  refers target (object ps) = reference_or (some_pair_refers target ps) target (option_and_then as_text (find (codes "_ref") ps))
+
+  pub some_refers : List ℕ → Trees → Bool
+  some_refers target no_trees = false
+  some_refers target (more_trees t ts) = refers target t || some_refers target ts
+
+  pub some_pair_refers : List ℕ → Pairs → Bool
+  some_pair_refers target no_pairs = false
+  some_pair_refers target (more_pairs k t ps) = refers target t || some_pair_refers target ps

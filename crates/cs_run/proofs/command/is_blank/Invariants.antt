@@ -1,6 +1,0 @@
-use Rattle.std.proofs.Common.{◌≡◌, drop}
-use Rattle.cs_run.specs.Command.{is_blank}
-use Rattle.cs_run.proofs.command.is_blank.Given as goal
-
-abbrev pub invariant-loop-byte : goal.invariant-loop-byte
-invariant-loop-byte l = is_blank l.line ≡ is_blank (drop l.byte-index l.line)

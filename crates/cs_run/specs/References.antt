@@ -1,0 +1,64 @@
+-- References between documents (Sanity's documentation, "Reference"; which of them are strong is this project's profile).
+use Rattle.std.specs.Prelude.{ℕ, List, [], ◌∷◌, ◌++◌, map, Bool, false, not, ◌||◌, cond, is_some, Option, None, Some, codes}
+use Rattle.std.specs.List.{filter}
+use Rattle.cs_value.specs.Tree.{Tree, null, boolean, integer, text, list, object, Trees, no_trees, more_trees, Pairs, no_pairs, more_pairs}
+use Rattle.cs_value.specs.Pairs.{find}
+use Rattle.cs_view.specs.Document.{id_of}
+use Rattle.cs_view.specs.Dataset.{stands}
+
+abbrev pub is_yes : Option Tree → Bool
+is_yes None = false
+is_yes (Some null) = false
+is_yes (Some (boolean b)) = b
+is_yes (Some (integer n)) = false
+is_yes (Some (text s)) = false
+is_yes (Some (list ts)) = false
+is_yes (Some (object ps)) = false
+
+abbrev pub texts : Option Tree → List (List ℕ)
+texts None = []
+texts (Some null) = []
+texts (Some (boolean b)) = []
+texts (Some (integer n)) = []
+texts (Some (text s)) = s ∷ []
+texts (Some (list ts)) = []
+texts (Some (object ps)) = []
+
+-- the target of an object that is a strong reference: one with a text `_ref`, with no `_dataset`, and whose `_weak` is not true
+abbrev pub own_target : Pairs → List (List ℕ)
+own_target ps = cond (is_some (find (codes "_dataset") ps) || is_yes (find (codes "_weak") ps)) [] (texts (find (codes "_ref") ps))
+
+-- the strong targets in a value, in document order: an object before what is inside it
+abbrev mutual
+  pub strong : Tree → List (List ℕ)
+  strong null = []
+  strong (boolean b) = []
+  strong (integer n) = []
+  strong (text s) = []
+  strong (list ts) = strong_items ts
+  strong (object ps) = own_target ps ++ strong_pairs ps
+
+  pub strong_items : Trees → List (List ℕ)
+  strong_items no_trees = []
+  strong_items (more_trees t ts) = strong t ++ strong_items ts
+
+  pub strong_pairs : Pairs → List (List ℕ)
+  strong_pairs no_pairs = []
+  strong_pairs (more_pairs k t ps) = strong t ++ strong_pairs ps
+
+-- the strong targets of a document that no document has as its id
+abbrev pub missing : List Tree → Tree → List (List ℕ)
+missing docs d = filter (λ t. not (stands t docs)) (strong d)
+
+-- each document's id with each of its missing targets
+abbrev pub dangling_in : List Tree → List Tree → List (List ℕ × List ℕ)
+dangling_in docs [] = []
+dangling_in docs (d ∷ ds) = map (λ t. (id_of d, t)) (missing docs d) ++ dangling_in docs ds
+
+abbrev pub first_of : {X : Type 0} → List X → Option X
+first_of [] = None
+first_of (x ∷ xs) = Some x
+
+-- the first dangling reference of a dataset: by the referrer's id, and then in document order
+abbrev pub first_dangling : List Tree → Option (List ℕ × List ℕ)
+first_dangling docs = first_of (dangling_in docs docs)
