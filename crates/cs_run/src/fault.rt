@@ -17,7 +17,7 @@ pub enum DataCause {
         /// The id that both lines have.
         id: Txt,
     },
-    /// It would be document 1,048,577.
+    /// 1,048,576 documents are there already.
     FullDocuments,
 }
 
