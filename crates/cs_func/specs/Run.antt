@@ -1,4 +1,4 @@
--- What a run of a pattern's parts over a text's segments comes to, before its first `**`.
+-- What a run of a pattern's parts over a text's segments comes to, before its first `**`. For private clauses.
 use Rattle.std.specs.Prelude.{◌≡◌, ℕ, ◌≤◌, List, [], ◌∷◌, length, drop, false, IsTrue, Option, Some, None, codes}
 use Rattle.cs_func.specs.Segments.{segments, segments_match}
 use Rattle.cs_func.specs.declared.run.Run.{Run}

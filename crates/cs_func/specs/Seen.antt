@@ -1,4 +1,4 @@
--- The scalars that were seen so far.
+-- The scalars that were seen so far. For private clauses.
 use Rattle.std.specs.Prelude.{Bool, true, false}
 use Rattle.std.specs.BTreeSet.{contains, contains_by}
 use Rattle.std.specs.Ordering.{int_cmp, nat_cmp}

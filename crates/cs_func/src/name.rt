@@ -4,7 +4,7 @@ ghost use Rattle.cs_func.specs.Names.{named};
 use crate::function::Function;
 use cs_table::{Row, Table};
 
-// A name and its function.
+// A row of the table of names.
 #[derive(Clone, Copy)]
 struct Name {
     name: &'static str,

@@ -1,15 +1,11 @@
 -- The logic of three values of `&&`, `||` and `!`: GROQ-1.revision1, "And operator", "Or operator", "Not operator".
 use Rattle.std.specs.Prelude.{Bool, true, false, not, Option, Some, None, option_map}
-use Rattle.cs_value.specs.Tree.{Tree, null, boolean, integer, text, list, object}
+use Rattle.cs_value.specs.Tree.{Tree, null, boolean}
+use Rattle.cs_value.specs.Words.{as_boolean}
 
 -- what a value says as a condition: nothing, where it is no boolean
 abbrev pub truth : Tree → Option Bool
-truth null = None
-truth (boolean b) = Some b
-truth (integer n) = None
-truth (text s) = None
-truth (list ts) = None
-truth (object ps) = None
+truth t = as_boolean t
 
 abbrev pub said : Option Bool → Tree
 said None = null

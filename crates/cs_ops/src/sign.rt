@@ -4,7 +4,7 @@ ghost use Rattle.cs_ops.specs.Signs.{operator};
 use crate::op::Op;
 use cs_table::{Row, Table};
 
-// A sign and its operator.
+// A row of the table of signs.
 #[derive(Clone, Copy)]
 struct Sign {
     name: &'static str,

@@ -1,4 +1,4 @@
--- What contracts see of what a line asks for.
+-- What contracts see of what a line asks for. For private clauses.
 use Rattle.std.specs.Prelude.{◌≡◌, ℕ, List, codes, true, ⊤}
 use Rattle.cs_value.specs.View.{tree}
 use Rattle.cs_run.specs.Command.{Asking, refused, query_all, create, is_creatable}

@@ -1,8 +1,9 @@
 -- What a line of a script asks for: this project's profile of what is built so far.
-use Rattle.std.specs.Prelude.{ℕ, List, Bool, false, not, ◌&&◌, ◌||◌, cond, ◌==◌, Option, Some, None, option_and_then, codes}
+use Rattle.std.specs.Prelude.{ℕ, List, Bool, false, not, ◌&&◌, ◌||◌, cond, ◌==◌, Option, Some, None, option_map, option_and_then, unwrap_or, codes}
 use Rattle.std.specs.Str.{bytes_eq}
 use Rattle.std.specs.List.{list_all}
 use Rattle.cs_value.specs.Tree.{Tree, null, boolean, integer, text, list, object, Trees, no_trees, more_trees, Pairs, no_pairs, more_pairs}
+use Rattle.cs_value.specs.Words.{as_text}
 use Rattle.cs_view.specs.Document.{is_body, is_shallow}
 use Rattle.cs_wire.specs.Commands.{Request, mutate, query, live, listen, stop, at}
 use Rattle.cs_wire.specs.Rows.{command}
@@ -44,18 +45,9 @@ sole_member (text s) = None
 sole_member (list ts) = sole_tree ts
 sole_member (object ps) = None
 
-abbrev pub is_star : Option Tree → Bool
-is_star None = false
-is_star (Some null) = false
-is_star (Some (boolean b)) = false
-is_star (Some (integer n)) = false
-is_star (Some (text s)) = bytes_eq (codes "*") s
-is_star (Some (list ts)) = false
-is_star (Some (object ps)) = false
-
 -- the query for all documents
 abbrev pub is_query_all : Tree → Bool
-is_query_all t = is_star (sole_attribute (codes "query") t)
+is_query_all t = unwrap_or (option_map (bytes_eq (codes "*")) (option_and_then as_text (sole_attribute (codes "query") t))) false
 
 -- an attribute `_ref` at any depth
 abbrev mutual

@@ -1,4 +1,4 @@
--- What a data file and a script have the program write, and how the run ends.
+-- What a data file and a script have the program write, and how the run ends: this project's profile.
 use Rattle.std.specs.Prelude.{◌≡◌, ℕ, ◌≤◌, List, [], ◌++◌, length, take, Option, codes}
 use Rattle.std.specs.Io.KnownBytes.{Appends}
 use Rattle.cs_value.specs.Tree.{Tree}

@@ -1,4 +1,4 @@
--- What a run writes, from its words and the files.
+-- What a run writes, from its words and the files: this project's profile.
 use Rattle.std.specs.Prelude.{◌≡◌, ◌⊎◌, ℕ, ◌-◌, cond, ◌==◌, List, [], ◌∷◌, map, length, take, drop, Option, None, Some, ⊤, MatchOption, codes}
 use Rattle.std.specs.Io.KnownBytes.{Appends}
 use Rattle.cs_io.specs.Bytes.{AppendsPartOf}

@@ -1,4 +1,4 @@
--- The plain machine: what each line of a script does to the documents, and what it replies. It holds a list of documents and nothing else: no index and no cache.
+-- The plain machine, this project's profile: what each line of a script does to the documents, and what it replies. It holds a list of documents and nothing else: no index and no cache.
 use Rattle.std.specs.Prelude.{ℕ, ◌+◌, List, [], ◌∷◌, ◌++◌, length, ◌==◌, cond, codes}
 use Rattle.cs_value.specs.Tree.{Tree, list, trees}
 use Rattle.cs_view.specs.Document.{id_of}

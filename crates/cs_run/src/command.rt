@@ -8,16 +8,19 @@ ghost use Rattle.cs_run.specs.Command.{sole_pair, sole_tree, sole_attribute, sol
 use crate::refs::names_ref;
 use cs_json::JsonFault;
 use cs_value::{Fields, NoMemory, Val};
-use cs_view::is_body;
+use cs_view::{DEEPEST_DOCUMENT, is_body};
 use cs_wire::{BadCommand, Command};
 use std::alloc::Global;
+
+// How many levels of lists and objects a line may nest.
+const DEEPEST_LINE: u32 = 64;
 
 /// Why a line is refused before a command of its own is.
 #[derive(Clone, Copy, Debug, Drop, PartialEq, Eq)]
 pub(crate) enum LineCause {
     /// serde_json has no reading of the line.
     NotJson,
-    /// Its lists and objects nest deeper than 64 levels.
+    /// Its lists and objects nest deeper than [`DEEPEST_LINE`] levels.
     TooDeep,
     /// A number in it is no whole number from -2^63 to 2^63-1.
     NotWhole,
@@ -119,7 +122,7 @@ fn is_query_all(val: &Val) -> bool
 fn is_creatable(val: &Val) -> bool
     ensures { result ≡ is_creatable (tree val.now) }
 {
-    is_body(val) && val.within(48) && !names_ref(val)
+    is_body(val) && val.within(DEEPEST_DOCUMENT) && !names_ref(val)
 }
 
 fn created_by(body: Val) -> Option<Val>
@@ -170,7 +173,7 @@ pub(crate) fn read_asking(alloc: Global, line: &[u8]) -> Result<Asking, NoMemory
     ensures asked { IfOk result (λ a. asking a ≡ asking_of line.now) }
     ensures fit { IfOk result IsFit }
 {
-    match cs_json::read(alloc, line, 64) {
+    match cs_json::read(alloc, line, DEEPEST_LINE) {
         Ok(val) => Ok(asked(alloc, val)),
         Err(JsonFault::NotJson) => Ok(Asking::Refused(LineCause::NotJson)),
         Err(JsonFault::TooDeep) => Ok(Asking::Refused(LineCause::TooDeep)),

@@ -17,7 +17,7 @@ use crate::fault::DataCause;
 use crate::import::imported;
 use crate::refusal::{Refusal, json_refusal};
 use cs_value::{NoMemory, Txt, Val};
-use cs_view::{Doc, is_body};
+use cs_view::{DEEPEST_DOCUMENT, Doc, is_body};
 use std::alloc::Global;
 use std::collections::BTreeMap;
 
@@ -65,7 +65,7 @@ impl Loading {
         ensures refused { IfErr result (λ r. IsRefused r
             (of_outcome (so_far self.now) (outcome deepest_document line.now))) }
     {
-        match cs_json::read(self.alloc, line, 48) {
+        match cs_json::read(self.alloc, line, DEEPEST_DOCUMENT) {
             Ok(body) => Ok(body),
             Err(fault) => Err(json_refusal(fault)),
         }

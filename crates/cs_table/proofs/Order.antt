@@ -1,10 +1,10 @@
--- Rows in ascending order of their names: each is below those behind it, so a row's name tells on which side another stands.
-use Rattle.std.proofs.Common.{◌≡◌, ℕ, zero, suc, ◌<◌, ◌≤◌, ◌+◌, List, [], ◌∷◌, length, map, Bool, true, false, refl, sym, ap, ◌∙◌, subst, arith, true≢false, get_or, ⊎_elim}
+-- Rows in ascending order of their names: each is below those behind it, so a binary search finds a name, or the place where it is missing.
+use Rattle.std.proofs.Common.{◌≡◌, ℕ, zero, suc, ◌<◌, ◌≤◌, List, [], ◌∷◌, length, map, Bool, true, false, refl, sym, ap, ◌∙◌, subst, arith, true≢false, get_or, ⊎_elim}
 use Rattle.std.proofs.lemmas.Bool.{cases_lt}
-use Rattle.std.proofs.lemmas.List.{get_or_default}
 use Rattle.std.proofs.lemmas.Map.Lookups.{exact_bytes}
 use Rattle.std.specs.Prelude.{◌&&◌, None, Some, find}
-use Rattle.std.specs.Ordering.{nat_cmp, is_lt, is_eq, ordering_reverse}
+use Rattle.std.specs.Ordering.{nat_cmp, is_lt, is_eq, ordering_index}
+use Rattle.std.specs.List.Sorted.{IsNonDecreasingBy, IsPartitionPoint}
 use Rattle.std.specs.declared.cmp.Ordering.{Ordering}
 use Rattle.std.specs.declared.cmp.Ordering.TheVariants.{Less, Equal, Greater}
 use Rattle.std.specs.Cmp.Lexicographic.{slice_cmp}
@@ -40,41 +40,38 @@ in_order called (x ∷ rows) h zero (suc j) d e l m = first_below called x rows 
 in_order called (x ∷ rows) h (suc i) zero d e l m = absurd (omega arith)
 in_order called (x ∷ rows) h (suc i) (suc j) d e l m = in_order called rows (rest_ascends called x rows h) i j d e (omega arith) (omega arith)
 
--- the rows before a place have names below the sought one
-abbrev pub BelowUpTo : {A : Type 0} (called : A → List ℕ) (rows : List A) (name : List ℕ) (low : ℕ) → Type 0
-BelowUpTo {A} called rows name low = (i : ℕ) (d : A) → i < low → slice_cmp nat_cmp (called (get_or rows i d)) name ≡ Less
+bounded : (o : Ordering) → ordering_index o ≤ 2
+bounded Less = omega arith
+bounded Equal = omega arith
+bounded Greater = omega arith
 
--- and those from a place on have names above it
-abbrev pub AboveFrom : {A : Type 0} (called : A → List ℕ) (rows : List A) (name : List ℕ) (high : ℕ) → Type 0
-AboveFrom {A} called rows name high = (i : ℕ) (d : A) → high ≤ i → i < length rows → slice_cmp nat_cmp (called (get_or rows i d)) name ≡ Greater
+-- of two names the lower one has no higher rank beside a third
+rank_rises : (x y name : List ℕ) → slice_cmp nat_cmp x y ≡ Less → ordering_index (slice_cmp nat_cmp x name) ≤ ordering_index (slice_cmp nat_cmp y name)
+rank_rises x y name h = beside (slice_cmp nat_cmp y name) refl
+  where
+    beside : (o : Ordering) → slice_cmp nat_cmp y name ≡ o → ordering_index (slice_cmp nat_cmp x name) ≤ ordering_index o
+    beside Less e = let is : slice_cmp nat_cmp x name ≡ Less = nat_list_cmp_total.trans x y name h e in rw is (omega arith)
+    beside Equal e = let is : slice_cmp nat_cmp x name ≡ Less = subst (λ (z : List ℕ). slice_cmp nat_cmp x z ≡ Less) (exact_bytes y name e) h in rw is (omega arith)
+    beside Greater e = bounded (slice_cmp nat_cmp x name)
 
--- a row that is below the name is so with all before it
-pub below_more : {A : Type 0} (called : A → List ℕ) (rows : List A) (name : List ℕ) (m : ℕ) (d : A) → IsAscending (map called rows) → m < length rows → slice_cmp nat_cmp (called (get_or rows m d)) name ≡ Less → BelowUpTo called rows name (m + 1)
-below_more {A = A} called rows name m d h l is i e k =
-    ⊎_elim (λ (lt : i < m). nat_list_cmp_total.trans (called (get_or rows i e)) _ name (in_order called rows h i m e d lt l) is)
-    (λ (ge : m ≤ i). let same : i ≡ m = omega arith in subst (λ (x : ℕ). slice_cmp nat_cmp (called (get_or rows x e)) name ≡ Less) (sym same) (ap (λ (r : A). slice_cmp nat_cmp (called r) name) (get_or_default rows m e d l) ∙ is))
-    (cases_lt i m)
+-- the comparisons with a name rise along the rows, as a binary search asks
+pub rises : {A : Type 0} (called : A → List ℕ) (rows : List A) (name : List ℕ) → IsAscending (map called rows) → IsNonDecreasingBy (λ (r : A). ordering_index (slice_cmp nat_cmp (called r) name)) rows
+rises {A = A} called rows name h i j d le l =
+    ⊎_elim (λ (lt : i < j). rank_rises (called (get_or rows i d)) (called (get_or rows j d)) name (in_order called rows h i j d d lt l))
+    (λ (ge : j ≤ i). let same : i ≡ j = omega arith in rw same (omega arith))
+    (cases_lt i j)
 
-reversed_less : (x y : List ℕ) → slice_cmp nat_cmp x y ≡ Less → slice_cmp nat_cmp y x ≡ Greater
-reversed_less x y h = nat_list_cmp_total.antisymm y x ∙ ap ordering_reverse h
-
-reversed_greater : (x y : List ℕ) → slice_cmp nat_cmp x y ≡ Greater → slice_cmp nat_cmp y x ≡ Less
-reversed_greater x y h = nat_list_cmp_total.antisymm y x ∙ ap ordering_reverse h
-
--- a row that is above the name is so with all behind it
-pub above_more : {A : Type 0} (called : A → List ℕ) (rows : List A) (name : List ℕ) (m : ℕ) (d : A) → IsAscending (map called rows) → m < length rows → slice_cmp nat_cmp (called (get_or rows m d)) name ≡ Greater → AboveFrom called rows name m
-above_more {A = A} called rows name m d h l is i e k k' =
-    ⊎_elim (λ (lt : m < i). reversed_less name _ (nat_list_cmp_total.trans name (called (get_or rows m d)) _ (reversed_greater _ name is) (in_order called rows h m i d e lt k')))
-    (λ (ge : i ≤ m). let same : i ≡ m = omega arith in subst (λ (x : ℕ). slice_cmp nat_cmp (called (get_or rows x e)) name ≡ Greater) (sym same) (ap (λ (r : A). slice_cmp nat_cmp (called r) name) (get_or_default rows m e d l) ∙ is))
-    (cases_lt m i)
+-- the names before a place are below the sought one, and those from it on above
+abbrev pub IsGapFor : {A : Type 0} (called : A → List ℕ) (rows : List A) (name : List ℕ) (place : ℕ) → Type 0
+IsGapFor {A} called rows name place = IsPartitionPoint (λ (r : A). slice_cmp nat_cmp (called r) name ≡ Less) (λ (r : A). slice_cmp nat_cmp (called r) name ≡ Greater) rows place
 
 -- where all rows are below or above the name, none has it
-pub none_named : {A : Type 0} (called : A → List ℕ) (rows : List A) (name : List ℕ) (low high : ℕ) → high ≤ low → BelowUpTo called rows name low → AboveFrom called rows name high → (k : ℕ) (d : A) → k < length rows → called (get_or rows k d) ≡ name → ⊥
-none_named called rows name low high le below above k d lt is =
+pub none_named : {A : Type 0} (called : A → List ℕ) (rows : List A) (name : List ℕ) (place : ℕ) → IsGapFor called rows name place → (k : ℕ) (d : A) → k < length rows → called (get_or rows k d) ≡ name → ⊥
+none_named called rows name place gap k d lt is =
     let tied : slice_cmp nat_cmp (called (get_or rows k d)) name ≡ Equal = ap (λ (x : List ℕ). slice_cmp nat_cmp x name) is ∙ tied_itself nat_list_cmp_total name in
-    ⊎_elim (λ (h : k < low). let e : Less ≡ Equal = sym (below k d h) ∙ tied in absurd (cc))
-    (λ (h : low ≤ k). let e : Greater ≡ Equal = sym (above k d (omega arith) lt) ∙ tied in absurd (cc))
-    (cases_lt k low)
+    ⊎_elim (λ (h : k < place). let e : Less ≡ Equal = sym (gap.0 k d (omega arith) h) ∙ tied in absurd (cc))
+    (λ (h : place ≤ k). let e : Greater ≡ Equal = sym (gap.1 k d h lt) ∙ tied in absurd (cc))
+    (cases_lt k place)
 
 pub is_named : (x name : List ℕ) → slice_cmp nat_cmp x name ≡ Equal → x ≡ name
 is_named x name h = exact_bytes x name h
@@ -95,7 +92,8 @@ row_found called rows name m d l h is =
     sym (first_passing (λ r. is_eq (slice_cmp nat_cmp (called r) name)) rows m d l
     (λ i k. ap is_eq (subst (λ (x : List ℕ). slice_cmp nat_cmp (called (get_or rows i d)) x ≡ Less) same (in_order called rows h i m d d k l))) (ap is_eq is))
 
-pub row_missing : {A : Type 0} (called : A → List ℕ) (rows : List A) (name : List ℕ) (low high : ℕ) → high ≤ low → BelowUpTo called rows name low → AboveFrom called rows name high → None ≡ row_of called name rows
-row_missing called rows name low high le below above =
+-- no row is that of the name where all are below or above it
+pub row_missing : {A : Type 0} (called : A → List ℕ) (rows : List A) (name : List ℕ) (place : ℕ) → IsGapFor called rows name place → None ≡ row_of called name rows
+row_missing called rows name place gap =
     sym (none_passing (λ r. is_eq (slice_cmp nat_cmp (called r) name)) rows (λ k d lt.
-    ⊎_elim (λ (h : k < low). ap is_eq (below k d h)) (λ (h : low ≤ k). ap is_eq (above k d (omega arith) lt)) (cases_lt k low)))
+    ⊎_elim (λ (h : k < place). ap is_eq (gap.0 k d (omega arith) h)) (λ (h : place ≤ k). ap is_eq (gap.1 k d h lt)) (cases_lt k place)))

@@ -1,4 +1,4 @@
--- Names in strictly ascending order of their bytes.
+-- Names in strictly ascending order of their bytes: this project's profile.
 use Rattle.std.specs.Prelude.{ℕ, List, [], ◌∷◌, Bool, true, ◌&&◌, IsTrue}
 use Rattle.std.specs.Ordering.{nat_cmp, is_lt}
 use Rattle.std.specs.Cmp.Lexicographic.{slice_cmp}

@@ -1,4 +1,4 @@
--- The row of a name in a table.
+-- The row of a name in a table: this project's profile.
 use Rattle.std.specs.Prelude.{ℕ, List, Option, find}
 use Rattle.std.specs.Ordering.{nat_cmp, is_eq}
 use Rattle.std.specs.Cmp.Lexicographic.{slice_cmp}

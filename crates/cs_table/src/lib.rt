@@ -5,8 +5,6 @@ ghost use Rattle.std.specs.Prelude.{◌≡◌, ◌≢◌, ℕ, List, All, Contai
 ghost use Rattle.cs_table.specs.Ascending.{IsAscending};
 ghost use Rattle.cs_table.specs.Row.{row_of};
 
-use std::cmp::Ordering;
-
 /// A row of a table, which has a name.
 pub trait Row {
     ghost called: { Self → List ℕ };
@@ -39,18 +37,10 @@ impl<'t, R: Row> Table<'t, R> {
         ensures found { IfSome result (λ r. Contains self.now.rows.now r.now) }
         ensures none { IfNone result (All (λ r. R.called r ≢ name.now) self.now.rows.now) }
     {
-        let mut low = 0;
-        let mut high = self.rows.len();
-        while low < high {
-            let middle = low + (high - low) / 2;
-            let row = &self.rows[middle];
-            match row.name().cmp(name) {
-                Ordering::Less => low = middle + 1,
-                Ordering::Greater => high = middle,
-                Ordering::Equal => return Some(row),
-            }
+        match self.rows.binary_search_by(|row| row.name().cmp(name)) {
+            Ok(place) => Some(&self.rows[place]),
+            Err(_) => None,
         }
-        None
     }
 }
 

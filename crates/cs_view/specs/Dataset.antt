@@ -1,5 +1,5 @@
 -- Datasets: lists of documents with strictly ascending ids. GROQ-1.revision1, "Dataset", leaves the order open; this project's profile takes that of the ids' bytes.
-use Rattle.std.specs.Prelude.{ℕ, List, [], ◌∷◌, map, Bool, ◌&&◌, is_some, Option}
+use Rattle.std.specs.Prelude.{ℕ, List, [], ◌∷◌, map, Bool, not, ◌&&◌, is_some, Option, None, Some, filter}
 use Rattle.std.specs.List.{list_all}
 use Rattle.std.specs.Ordering.{nat_cmp, eq_by_cmp}
 use Rattle.std.specs.Cmp.Lexicographic.{slice_cmp}
@@ -37,3 +37,12 @@ is_dataset docs = ascending docs && list_all is_document docs
 abbrev pub with_doc : Tree → List Tree → List Tree
 with_doc d [] = d ∷ []
 with_doc d (e ∷ es) = by_order (id_cmp (id_of d) (id_of e)) (d ∷ e ∷ es) (d ∷ es) (e ∷ with_doc d es)
+
+-- the dataset without the document of the id
+abbrev pub without : List ℕ → List Tree → List Tree
+without id docs = filter (λ d. not (same_id id (id_of d))) docs
+
+-- the dataset with this document, or none, in the place of the id
+abbrev pub placed : List ℕ → Option Tree → List Tree → List Tree
+placed id None docs = without id docs
+placed id (Some d) docs = with_doc d docs

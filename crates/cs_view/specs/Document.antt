@@ -4,10 +4,10 @@ use Rattle.cs_value.specs.Tree.{Tree, depth}
 use Rattle.cs_value.specs.Id.{is_id}
 use Rattle.cs_value.specs.Words.{is_object, text_at}
 
--- a text is there and passes the test
-abbrev pub passes : (List ℕ → Bool) → Option (List ℕ) → Bool
+-- something is there and passes the test
+abbrev pub passes : {A : Type 0} → (A → Bool) → Option A → Bool
 passes p None = false
-passes p (Some s) = p s
+passes p (Some a) = p a
 
 -- how many levels of lists and objects a document may nest
 abbrev pub deepest_document : ℕ

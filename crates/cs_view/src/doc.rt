@@ -6,8 +6,12 @@ ghost use Rattle.cs_view.specs.Document.{is_document, is_body, has_id, has_type,
 use cs_value::{NoMemory, Txt, Val, is_id};
 use std::alloc::Global;
 
-/// A document: an object of depth at most 48 with an id as `_id`, a text of at least one byte as
-/// `_type`, and texts as `_rev`, `_createdAt` and `_updatedAt`. Contracts speak of it by its tree.
+/// How many levels of lists and objects a document may nest: this project's profile.
+pub const DEEPEST_DOCUMENT: u32 = 48;
+
+/// A document: an object of depth at most [`DEEPEST_DOCUMENT`] with an id as `_id`, a text of at
+/// least one byte as `_type`, and texts as `_rev`, `_createdAt` and `_updatedAt`. Contracts speak of
+/// it by its tree.
 #[derive(Drop)]
 pub struct Doc {
     val: Val,
@@ -67,7 +71,7 @@ fn is_document(val: &Val) -> bool
     ensures { result ≡ is_document (tree val.now) }
 {
     is_body(val)
-        && val.within(48)
+        && val.within(DEEPEST_DOCUMENT)
         && has_text(val, "_rev")
         && has_text(val, "_createdAt")
         && has_text(val, "_updatedAt")

@@ -1,6 +1,22 @@
-//! Documents.
+//! Documents, their changes, the keys by which they are looked up, and the views that look them up.
 #![tactic(auto)]
 
+mod change;
 mod doc;
+mod key;
+pub mod laws;
+mod lookup;
+mod record;
+mod scope;
+mod view;
 
-pub use doc::{Doc, is_body};
+pub use change::Change;
+pub use doc::{DEEPEST_DOCUMENT, Doc, is_body};
+pub use key::{Key, Names, Scalar};
+pub use lookup::has;
+pub use record::Record;
+pub use scope::Scope;
+pub use view::View;
+
+#[cfg(test)]
+mod tests;

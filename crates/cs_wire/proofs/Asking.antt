@@ -6,8 +6,8 @@ use Rattle.std.proofs.lemmas.Map.Text.{is_eq-slice_cmp}
 use Rattle.std.proofs.lemmas.Slice.Eq.{bytes_eq-Decides}
 use Rattle.cs_value.specs.Tree.{Tree, Pairs, no_pairs, more_pairs}
 use Rattle.cs_value.specs.Pairs.{find, without}
-use Rattle.cs_value.specs.Words.{as_text}
-use Rattle.cs_wire.specs.Commands.{query, live, listen, given, value_or, as_object, as_boolean, text_in, name_in, params_in, flag_in, query_of, live_of, listen_of}
+use Rattle.cs_value.specs.Words.{as_text, as_boolean, as_object}
+use Rattle.cs_wire.specs.Commands.{query, live, listen, given, value_or, text_in, name_in, params_in, flag_in, query_of, live_of, listen_of}
 
 -- two texts that compare as equal are one
 pub equal_texts : (k l : List ℕ) → slice_cmp nat_cmp k l ≡ Equal → k ≡ l

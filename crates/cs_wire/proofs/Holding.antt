@@ -6,9 +6,9 @@ use Rattle.std.specs.List.{AllByRecursion}
 use Rattle.cs_value.specs.Tree.{Tree, null, boolean, integer, text, list, object, Pairs, no_pairs, more_pairs, depth, pairs_depth, widest, pairs_widest}
 use Rattle.cs_value.specs.Pairs.{find, attribute}
 use Rattle.cs_value.specs.Value.{IsValue, HaveValues}
-use Rattle.cs_value.specs.Words.{as_text}
+use Rattle.cs_value.specs.Words.{as_text, as_object}
 use Rattle.cs_value.specs.Id.{is_id}
-use Rattle.cs_wire.specs.Commands.{Request, mutate, query, live, listen, stop, at, given, value_or, as_object, as_name, text_in, name_in, params_in, flag_in, has_keys}
+use Rattle.cs_wire.specs.Commands.{Request, mutate, query, live, listen, stop, at, given, value_or, as_name, text_in, name_in, params_in, flag_in, has_keys}
 use Rattle.cs_wire.specs.Rows.{Row, rows, by_rows, command}
 
 -- the fact holds of each text, name, object of parameters and body of the command

@@ -2,9 +2,9 @@
 use Rattle.std.specs.Prelude.{ℕ, List, ◌++◌, map, Bool, false, ◌&&◌, Option, Some, None, is_some, option_map, option_and_then, if◌then◌else◌, codes}
 use Rattle.std.specs.List.{list_all, list_any}
 use Rattle.std.specs.Str.{bytes_eq}
-use Rattle.cs_value.specs.Tree.{Tree, null, boolean, integer, text, list, object, Pairs, no_pairs, attributes}
+use Rattle.cs_value.specs.Tree.{Tree, Pairs, no_pairs, attributes}
 use Rattle.cs_value.specs.Pairs.{find}
-use Rattle.cs_value.specs.Words.{as_text}
+use Rattle.cs_value.specs.Words.{as_text, as_boolean, as_object}
 use Rattle.cs_value.specs.Id.{is_id}
 
 -- what a command asks for: a text stands as its bytes, and parameters by their names
@@ -27,22 +27,6 @@ abbrev pub has_keys : (must may : List (List ℕ)) → Pairs → Bool
 has_keys must may ps =
     list_all (λ k. is_some (find k ps)) must
     && list_all (λ k. is_among k (must ++ may)) (keys_of ps)
-
-abbrev pub as_object : Tree → Option Pairs
-as_object null = None
-as_object (boolean b) = None
-as_object (integer n) = None
-as_object (text s) = None
-as_object (list ts) = None
-as_object (object ps) = Some ps
-
-abbrev pub as_boolean : Tree → Option Bool
-as_boolean null = None
-as_boolean (boolean b) = Some b
-as_boolean (integer n) = None
-as_boolean (text s) = None
-as_boolean (list ts) = None
-as_boolean (object ps) = None
 
 abbrev pub text_in : List ℕ → Pairs → Option (List ℕ)
 text_in k ps = option_and_then as_text (find k ps)
