@@ -1,0 +1,68 @@
+-- Changes of a dataset: this project's profile.
+use Rattle.std.specs.Prelude.{◌≡◌, ◌≢◌, ℕ, List, [], ◌∷◌, Bool, true, ◌&&◌, Option, Some, None}
+use Rattle.std.specs.List.{list_all, AllByRecursion}
+use Rattle.std.specs.FinMap.Entries.{find, is_sorted}
+use Rattle.cs_value.specs.Tree.{Tree}
+use Rattle.cs_view.specs.Document.{id_of, is_document}
+use Rattle.cs_view.specs.Dataset.{id_cmp, same_id, At, placed}
+
+-- a change: an id, what stands under it before, and what stands there after
+abbrev pub Edit : Type 0
+Edit = List ℕ × (Option Tree × Option Tree)
+
+abbrev pub ids_ascend : List Edit → Bool
+ids_ascend cs = is_sorted id_cmp cs
+
+-- the document, where there is one, has the id
+abbrev pub has_id : List ℕ → Option Tree → Bool
+has_id id None = true
+has_id id (Some d) = same_id id (id_of d)
+
+-- the ids ascend strictly, and each document in a change has the change's id
+abbrev pub are_changes : List Edit → Bool
+are_changes cs = ids_ascend cs && list_all (λ c. has_id c.0 c.1.0 && has_id c.0 c.1.1) cs
+
+-- what stands there, where something does, is a document
+abbrev pub is_document_or_none : Option Tree → Bool
+is_document_or_none None = true
+is_document_or_none (Some d) = is_document d
+
+-- what stands in the changes are documents
+abbrev pub are_documents : List Edit → Bool
+are_documents cs = list_all (λ c. is_document_or_none c.1.0 && is_document_or_none c.1.1) cs
+
+-- each `before` is what the dataset holds under that id
+abbrev pub LeadFrom : List Tree → List Edit → Type 0
+LeadFrom docs cs = AllByRecursion (λ c. c.1.0 ≡ At c.0 docs) cs
+
+-- each `after` is what the dataset holds under that id
+abbrev pub LeadTo : List Tree → List Edit → Type 0
+LeadTo docs cs = AllByRecursion (λ c. c.1.1 ≡ At c.0 docs) cs
+
+-- the dataset with each change's `before` in the place of its id
+abbrev pub Before : List Tree → List Edit → List Tree
+Before docs [] = docs
+Before docs (c ∷ cs) = placed c.0 c.1.0 (Before docs cs)
+
+-- the dataset with each change's `after` in the place of its id
+abbrev pub After : List Tree → List Edit → List Tree
+After docs [] = docs
+After docs (c ∷ cs) = placed c.0 c.1.1 (After docs cs)
+
+-- what stands under an id before, or after, changes that hold these sides of the id, or do not speak of it
+abbrev pub before_of : Option (Option Tree × Option Tree) → Option Tree → Option Tree
+before_of None now = now
+before_of (Some sides) now = sides.0
+
+abbrev pub after_of : Option (Option Tree × Option Tree) → Option Tree → Option Tree
+after_of None now = now
+after_of (Some sides) now = sides.1
+
+-- what the changes say of an id, where one document, or none, stands there before and another after: nothing where the two are one
+abbrev pub IsChangeAt : Option Tree → Option Tree → Option (Option Tree × Option Tree) → Type 0
+IsChangeAt before after None = before ≡ after
+IsChangeAt before after (Some sides) = (before ≢ after) × (sides ≡ (before, after))
+
+-- the changes from one dataset to another: by ascending id, each id at which the two differ, with what stands there in both
+abbrev pub AreChangesBetween : List Tree → List Tree → List Edit → Type 0
+AreChangesBetween one other cs = (ids_ascend cs ≡ true) × ((id : List ℕ) → IsChangeAt (At id one) (At id other) (find id_cmp id cs))

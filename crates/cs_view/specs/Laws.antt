@@ -1,0 +1,48 @@
+-- The laws of datasets, changes and keys.
+use Rattle.std.specs.Prelude.{◌≡◌, ℕ, List, true, false, Contains}
+use Rattle.std.specs.FinMap.Entries.{find}
+use Rattle.cs_value.specs.Tree.{Tree}
+use Rattle.cs_view.specs.Dataset.{At, id_cmp, ascending, is_dataset}
+use Rattle.cs_view.specs.Changes.{Edit, are_changes, are_documents, LeadFrom, LeadTo, Before, After, before_of, after_of, AreChangesBetween}
+use Rattle.cs_view.specs.Keys.{Sel}
+use Rattle.cs_view.specs.Touched.{touched}
+use Rattle.cs_view.specs.View.{edits}
+use Rattle.cs_view.specs.declared.change.Change.{Change}
+use Rattle.cs_view.specs.declared.key.Key.{Key}
+
+-- two datasets that hold the same under each id are one
+abbrev pub HoldingTheSameIsBeingOne : Type 0
+HoldingTheSameIsBeingOne = (one other : List Tree) → ascending one ≡ true → ascending other ≡ true → ((id : List ℕ) → At id one ≡ At id other) → one ≡ other
+
+-- what stands in the changes of a call are documents
+abbrev pub ChangesHoldDocuments : Type 0
+ChangesHoldDocuments = (cs : List Change) → are_documents (edits cs) ≡ true
+
+-- before and after changes a dataset is a dataset
+abbrev pub ChangesKeepDatasets : Type 0
+ChangesKeepDatasets = (docs : List Tree) (cs : List Edit) → is_dataset docs ≡ true → are_documents cs ≡ true
+    → (is_dataset (Before docs cs) ≡ true) × (is_dataset (After docs cs) ≡ true)
+
+-- before and after changes a dataset holds under each id what the changes say, or else what it held
+abbrev pub ChangesAreHeld : Type 0
+ChangesAreHeld = (docs : List Tree) (cs : List Edit) → are_changes cs ≡ true → (id : List ℕ)
+    → (At id (Before docs cs) ≡ before_of (find id_cmp id cs) (At id docs)) × (At id (After docs cs) ≡ after_of (find id_cmp id cs) (At id docs))
+
+-- changes that lead on from a dataset lead to the dataset after them, and from there back again
+abbrev pub ChangesLeadOnAndBack : Type 0
+ChangesLeadOnAndBack = (docs : List Tree) (cs : List Edit) → ascending docs ≡ true → are_changes cs ≡ true → LeadFrom docs cs
+    → (Before docs cs ≡ docs) × LeadTo (After docs cs) cs × (Before (After docs cs) cs ≡ docs)
+
+-- the changes between two datasets lead on from the one to the other
+abbrev pub ChangesLeadToTheOther : Type 0
+ChangesLeadToTheOther = (one other : List Tree) (cs : List Edit) → ascending one ≡ true → ascending other ≡ true → AreChangesBetween one other cs
+    → (are_changes cs ≡ true) × LeadFrom one cs × (After one cs ≡ other)
+
+-- there is one list of the changes between two datasets
+abbrev pub ChangesAreOneList : Type 0
+ChangesAreOneList = (one other : List Tree) (cs es : List Edit) → AreChangesBetween one other cs → AreChangesBetween one other es → cs ≡ es
+
+-- a key of an untouched record selects the same documents before and after
+abbrev pub UntouchedSelectsTheSame : Type 0
+UntouchedSelectsTheSame = (docs : List Tree) (cs : List Edit) → ascending docs ≡ true → are_changes cs ≡ true
+    → (keys : List Key) → touched keys cs ≡ false → (k : Key) → Contains keys k → Sel k (Before docs cs) ≡ Sel k (After docs cs)
