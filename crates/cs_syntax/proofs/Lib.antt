@@ -1,0 +1,13 @@
+pub mod AsciiEnds
+pub mod Decoded
+pub mod Escaped
+pub mod FirstBytes
+pub mod Fronts
+pub mod Locals
+pub mod Meanings
+pub mod NumberEnds
+pub mod Placed
+pub mod Quoted
+pub mod Sequences
+pub mod Signed
+pub mod Unescaped

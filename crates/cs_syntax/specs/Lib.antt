@@ -1,0 +1,11 @@
+pub mod Brackets
+pub mod Ends
+pub mod Escapes
+pub mod Expression
+pub mod Faults
+pub mod Functions
+pub mod Lex
+pub mod Numbers
+pub mod Queries
+pub mod Signs
+pub mod View
