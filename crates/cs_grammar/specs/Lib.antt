@@ -1,0 +1,5 @@
+pub mod Spells
+pub mod Reading
+pub mod View
+pub mod Answers
+pub mod Parsing

@@ -1,0 +1,25 @@
+ghost use Rattle.std.specs.Prelude.{◌<◌, ◌^◌, All, length};
+ghost use Rattle.cs_grammar.specs.Parsing.{Parses, IsReadable};
+
+use crate::fault::GrammarFault;
+use crate::lexeme::Lexeme;
+use crate::look::Tokens;
+use crate::operators::expression;
+use cs_syntax::Expr;
+use std::alloc::Global;
+
+/// The expression that the tokens spell, all of them (GROQ-1.revision1 "Expressions", as this
+/// project's profile has it). `Syntax` exactly where they spell none, and `NoMemory` where the
+/// allocator has no room for the tree.
+pub fn read(alloc: Global, lexemes: &[Lexeme<'_>]) -> Result<Box<Expr>, GrammarFault>
+    requires count { length lexemes.now < 2 ^ 32 }
+    requires readable { All IsReadable lexemes.now }
+    ensures { Parses lexemes.now result }
+{
+    let tokens = Tokens::of(lexemes);
+    let (tree, at) = expression(alloc, &tokens, 0)?;
+    if at < tokens.len() {
+        return Err(GrammarFault::Syntax);
+    }
+    Ok(tree)
+}
