@@ -1,0 +1,110 @@
+// The faults that one token of an expression may have, but for numbers.
+ghost use Rattle.std.specs.Prelude.{◌≡◌, map, option_map, Some};
+ghost use Rattle.cs_syntax.specs.Expression.{arguments_of, keys_of};
+ghost use Rattle.cs_syntax.specs.Faults.{first_of, operator_faults, arity_faults, is_path, call_faults, right_call_faults, order_faults, pipe_faults, bracket_faults, slice_faults, key_faults};
+ghost use Rattle.cs_syntax.specs.Brackets.{key_of};
+ghost use Rattle.cs_syntax.specs.View.{arg as argument_of, expression, key as order_key_of};
+ghost use Rattle.cs_faults.specs.Found.{found, arity_told};
+
+use crate::brackets::{is_constant, is_position, is_text, key_of};
+use crate::fault::Fault;
+use crate::functions::{Arity, accepts, arity_of, is_left_out};
+use cs_syntax::{Arg, BinSign, Expr, OrderKey};
+
+pub(crate) fn check_operator<'e>(sign: BinSign) -> Result<(), Fault<'e>>
+    ensures { found result ≡ first_of (operator_faults sign) }
+{
+    match sign {
+        BinSign::Div => Err(Fault::Unsupported { name: "/" }),
+        BinSign::Pow => Err(Fault::Unsupported { name: "**" }),
+        BinSign::Match => Err(Fault::Unsupported { name: "match" }),
+        _ => Ok(()),
+    }
+}
+
+fn check_arity<'e>(name: &'e str, args: &[Arg], arity: Option<Arity>) -> Result<(), Fault<'e>>
+    ensures { found result ≡ first_of
+        (arity_faults name.now (arguments_of (map argument_of args.now)) (option_map arity_told arity)) }
+{
+    match arity {
+        None => Err(Fault::UnknownFunction { name }),
+        Some(arity) if accepts(arity, args) => Ok(()),
+        Some(_) => Err(Fault::Arity { name }),
+    }
+}
+
+/// The fault of the name of a call that is not alone on the right of `in`.
+pub(crate) fn check_call<'e>(name: &'e str, args: &[Arg]) -> Result<(), Fault<'e>>
+    ensures { found result ≡ first_of (call_faults name.now (arguments_of (map argument_of args.now))) }
+{
+    if is_left_out(name) || name == "path" {
+        return Err(Fault::Unsupported { name });
+    }
+    check_arity(name, args, arity_of(name))
+}
+
+/// The fault of the name of a call that is alone on the right of `in`.
+pub(crate) fn check_right_call<'e>(name: &'e str, args: &[Arg]) -> Result<(), Fault<'e>>
+    ensures { found result ≡ first_of (right_call_faults name.now (arguments_of (map argument_of args.now))) }
+{
+    if name == "path" {
+        return check_arity(name, args, Some(Arity::Exactly(1)));
+    }
+    check_call(name, args)
+}
+
+#[tactic(auto, using(crate::proofs::Views::order_with_key))]
+fn check_order<'e>(name: &'e str, keys: &[OrderKey]) -> Result<(), Fault<'e>>
+    ensures { found result ≡ first_of (order_faults name.now (keys_of (map order_key_of keys.now))) }
+{
+    if keys.is_empty() {
+        return Err(Fault::Arity { name });
+    }
+    Ok(())
+}
+
+/// The fault of the name of a piped call.
+pub(crate) fn check_pipe<'e>(name: &'e str, keys: &[OrderKey]) -> Result<(), Fault<'e>>
+    ensures { found result ≡ first_of (pipe_faults name.now (keys_of (map order_key_of keys.now))) }
+{
+    if is_left_out(name) {
+        return Err(Fault::Unsupported { name });
+    }
+    if name != "order" {
+        return Err(Fault::UnknownFunction { name });
+    }
+    check_order(name, keys)
+}
+
+/// The fault of a bracket, at its `[`.
+pub(crate) fn check_bracket<'e>(inner: &'e Expr) -> Result<(), Fault<'e>>
+    ensures { found result ≡ first_of (bracket_faults (expression inner.now)) }
+{
+    if !is_position(inner) && !is_text(inner) && is_constant(inner) {
+        return Err(Fault::Unsupported { name: "constant" });
+    }
+    Ok(())
+}
+
+/// The fault of the ends of a slice, at its `[`.
+pub(crate) fn check_slice<'e>(from: &'e Expr, to: &'e Expr) -> Result<(), Fault<'e>>
+    ensures { found result ≡ first_of (slice_faults (expression from.now) (expression to.now)) }
+{
+    if is_position(from) && is_position(to) {
+        Ok(())
+    } else {
+        Err(Fault::Unsupported {
+            name: "slice-bounds",
+        })
+    }
+}
+
+/// The fault of a bare entry without a determinable key.
+pub(crate) fn check_key<'e>(value: &'e Expr) -> Result<(), Fault<'e>>
+    ensures { found result ≡ first_of (key_faults (key_of (expression value.now))) }
+{
+    match key_of(value) {
+        Some(_) => Ok(()),
+        None => Err(Fault::NoKey),
+    }
+}

@@ -1,0 +1,52 @@
+// Numbers that the profile leaves out.
+ghost use Rattle.std.specs.Prelude.{◌≡◌};
+ghost use Rattle.cs_syntax.specs.Faults.{number_faults, first_of};
+ghost use Rattle.cs_syntax.specs.Numbers.{has_exponent, has_fraction, is_wide};
+ghost use Rattle.cs_faults.specs.Found.{found};
+
+use crate::fault::Fault;
+
+fn has_exponent(number: &str) -> bool
+    ensures { result ≡ has_exponent number.now }
+{
+    let bytes = number.as_bytes();
+    bytes.contains(&b'e') || bytes.contains(&b'E')
+}
+
+fn has_fraction(number: &str) -> bool
+    ensures { result ≡ has_fraction number.now }
+{
+    number.as_bytes().contains(&b'.')
+}
+
+// It stops at the first digit with which the number is above 2^63-1.
+fn is_wide(number: &str) -> bool
+    ensures { result ≡ is_wide number.now }
+{
+    let mut value: u128 = 0;
+    for digit in number.as_bytes() {
+        value = value * 10 + u128::from(digit.saturating_sub(b'0'));
+        if value > 9223372036854775807 {
+            return true;
+        }
+    }
+    false
+}
+
+/// The fault of a number as it is written.
+pub(crate) fn check_number(number: &str) -> Result<(), Fault<'_>>
+    ensures { found result ≡ first_of (number_faults number.now) }
+{
+    if has_exponent(number) {
+        return Err(Fault::Unsupported { name: "exponent" });
+    }
+    if has_fraction(number) {
+        return Err(Fault::Unsupported { name: "fraction" });
+    }
+    if is_wide(number) {
+        return Err(Fault::Unsupported {
+            name: "wide-number",
+        });
+    }
+    Ok(())
+}
