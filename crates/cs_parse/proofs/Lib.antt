@@ -1,0 +1,4 @@
+mod Counts
+mod Meant
+mod Readings
+mod Told

@@ -1,0 +1,54 @@
+ghost use Rattle.std.specs.Prelude.{◌≡◌, ◌<◌, ◌^◌, IfSome, length};
+ghost use Rattle.cs_faults.specs.Found.{told};
+ghost use Rattle.cs_parse.specs.Verdict.{IsRead, faulty, reading, reading_of};
+
+use crate::depth::is_too_deep;
+use crate::fault::ParseFault;
+use crate::lexemes::lexemes;
+use cs_faults::{Fault, first_fault};
+use cs_grammar::read;
+use cs_syntax::{Query, tokens};
+use cs_value::Txt;
+use std::alloc::Global;
+
+// The fault, with a name of its own.
+fn owned(alloc: Global, fault: Fault<'_>) -> ParseFault
+    ensures { IfSome (reading_of result) (λ r. r ≡ faulty (told fault.entry)) }
+{
+    match fault {
+        Fault::Unsupported { name } => match Txt::copy_of(alloc, name) {
+            Ok(name) => ParseFault::Unsupported { name },
+            Err(_) => ParseFault::NoMemory,
+        },
+        Fault::UnknownFunction { name } => match Txt::copy_of(alloc, name) {
+            Ok(name) => ParseFault::UnknownFunction { name },
+            Err(_) => ParseFault::NoMemory,
+        },
+        Fault::Arity { name } => match Txt::copy_of(alloc, name) {
+            Ok(name) => ParseFault::Arity { name },
+            Err(_) => ParseFault::NoMemory,
+        },
+        Fault::NoKey => ParseFault::NoKey,
+    }
+}
+
+/// The query that the text is (GROQ-1.revision1 "Syntax", as this project's profile has it). The text
+/// has fewer than 2^32 bytes. A text that is no query is refused with the first cause of these:
+/// `BadToken` where a place begins no token, `TooDeep` where more than 48 brackets are open at once,
+/// `Syntax` where the tokens spell no expression, and else the first fault in the order of the text,
+/// with its name. `NoMemory` comes where the allocator has no room.
+pub fn parse(alloc: Global, text: &str) -> Result<Query, ParseFault>
+    requires { length text.now < 2 ^ 32 }
+    ensures { IfSome (reading result) (IsRead text.now) }
+{
+    let tokens = tokens(alloc, text)?;
+    let lexemes = lexemes(alloc, text, tokens.as_slice())?;
+    if is_too_deep(lexemes.as_slice()) {
+        return Err(ParseFault::TooDeep);
+    }
+    let expr = read(alloc, lexemes.as_slice())?;
+    if let Some(fault) = first_fault(&expr) {
+        return Err(owned(alloc, fault));
+    }
+    Ok(Query::of(Box::into_inner(expr)))
+}
