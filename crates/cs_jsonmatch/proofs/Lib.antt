@@ -1,0 +1,7 @@
+mod Chars
+mod Complete
+mod Examples
+mod Fault
+mod Readings
+mod Sound
+mod Walks

@@ -1,0 +1,8 @@
+pub mod Faults
+pub mod Grammar
+pub mod Machine
+pub mod Path
+pub mod Places
+pub mod Reading
+pub mod View
+pub mod Walk

@@ -1,0 +1,29 @@
+-- The path that a `JsonPath` stands for, and the locations that places stand for.
+use Rattle.std.specs.Prelude.{List, map}
+use Rattle.cs_value.specs.View.{tree}
+use Rattle.cs_jsonmatch.specs.Path.{Item, position, range, every, named, meets, Step, Path}
+use Rattle.cs_jsonmatch.specs.Places.{Location}
+use Rattle.cs_jsonmatch.specs.declared.path.Item.{Item as CodeItem}
+use Rattle.cs_jsonmatch.specs.declared.path.Item.TheVariants as item
+use Rattle.cs_jsonmatch.specs.declared.path.Step.{Step as CodeStep}
+use Rattle.cs_jsonmatch.specs.declared.path.JsonPath.{JsonPath}
+use Rattle.cs_jsonmatch.specs.declared.places.Place.{Place}
+
+abbrev pub item_of : CodeItem → Item
+item_of (item.Position n) = position n
+item_of (item.Range a b) = range a b
+item_of item.Every = every
+item_of (item.Named n) = named n
+item_of (item.Meets t) = meets t.names.items t.comparison (tree t.constant)
+
+abbrev pub step_of : CodeStep → Step
+step_of s = record { deep = s.deep; items = map item_of s.items.items }
+
+abbrev pub path_of : List CodeStep → Path
+path_of ss = map step_of ss
+
+abbrev pub path : JsonPath → Path
+path p = path_of p.steps.items
+
+abbrev pub locations : List Place → List Location
+locations ps = map (λ p. p.parts.items) ps

@@ -1,0 +1,20 @@
+//! JSONMatch paths: how they are written, and which places of a value they select.
+#![tactic(auto)]
+
+mod class;
+mod cursor;
+mod items;
+mod literals;
+mod path;
+mod places;
+mod read;
+mod select;
+mod steps;
+mod walk;
+
+pub use path::JsonPath;
+pub use places::{Part, Place};
+pub use read::{PathFault, a_text_spells_at_most_one_path};
+
+#[cfg(test)]
+mod tests;

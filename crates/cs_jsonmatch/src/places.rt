@@ -1,0 +1,17 @@
+use cs_value::Txt;
+
+/// A part of a place: one step into a value.
+#[derive(Drop)]
+pub enum Part {
+    /// The attribute of the name, of an object.
+    Name(Txt),
+    /// The element at the position, of a list; the first is at 0.
+    Pos(usize),
+}
+
+/// A place in a value: the parts that lead to it, from the outermost. The value itself has none.
+#[derive(Drop)]
+pub struct Place {
+    /// The parts, from the outermost.
+    pub parts: Vec<Part>,
+}
