@@ -1,0 +1,124 @@
+-- The key of a filter: which documents alone can make it true, as far as its form tells: this project's profile, over the
+-- operators of GROQ-1.revision1, "And operator", "Equality operators", "In operator", "references()".
+use Rattle.std.specs.Prelude.{ℕ, List, [], ◌∷◌, ◌++◌, Bool, true, false, nat_le, length, filter, Option, Some, None, option_map, option_and_then, option_to_list, codes, if◌then◌else◌}
+use Rattle.std.specs.Option.{option_or}
+use Rattle.std.specs.Str.{bytes_eq}
+use Rattle.cs_value.specs.Tree.{Tree, Pairs}
+use Rattle.cs_syntax.specs.declared.tree.BinSign.TheVariants as sign
+use Rattle.cs_syntax.specs.Functions.{without_global}
+use Rattle.cs_syntax.specs.Expression.{Expression, word, round, call, chain, run, within, Operands, no_operands, more_operands, Arguments, no_arguments, more_arguments, argument}
+use Rattle.cs_view.specs.declared.key.Scalar.{Scalar}
+use Rattle.cs_view.specs.declared.key.Scalar.TheVariants.{Bool as Boolean, Num, Text}
+use Rattle.cs_view.specs.declared.key.Key.{Key}
+use Rattle.cs_view.specs.declared.key.Key.TheVariants.{All, Id, Path, Elem, Ref}
+use Rattle.cs_plan.specs.Steps.{names_of}
+use Rattle.cs_plan.specs.Constants.{constant}
+
+-- At most four names: a document is looked up by no longer path.
+abbrev pub few : List (List ℕ) → Option (List (List ℕ))
+few names = if nat_le (length names) 4 then Some names else None
+
+-- An attribute path: a word and at most three steps `.w` or `["w"]`.
+abbrev pub path_of : Expression → Option (List (List ℕ))
+path_of (word w) = few (w ∷ [])
+path_of (chain (word w) ss) = option_and_then (λ names. few (w ∷ names)) (names_of ss)
+path_of _ = None
+
+-- The names are `_id` alone.
+abbrev pub is_id_path : List (List ℕ) → Bool
+is_id_path (name ∷ []) = bytes_eq name (codes "_id")
+is_id_path names = false
+
+-- The key of what has this value at these names: `Id` of a text at `_id`, else `Path`.
+abbrev pub equals_key : List (List ℕ) → Scalar → Key
+equals_key names (Text t) = if is_id_path names then Id t else Path names (Text t)
+equals_key names s = Path names s
+
+-- What f makes of two things, where both are there.
+abbrev pub of_both : {A B C : Type 0} → (A → B → C) → Option A → Option B → Option C
+of_both f (Some a) (Some b) = Some (f a b)
+of_both f a b = None
+
+-- The key of `p == c` and of `c == p`, where one side is a path and the other a constant.
+abbrev pub equality_key : Expression → Expression → List Tree → Pairs → Option Key
+equality_key left right scope params =
+    option_or (of_both equals_key (path_of left) (constant right scope params)) (of_both equals_key (path_of right) (constant left scope params))
+
+-- The key of `c in p`.
+abbrev pub element_key : Expression → Expression → List Tree → Pairs → Option Key
+element_key left right scope params = of_both Elem (path_of right) (constant left scope params)
+
+-- The text that a constant is.
+abbrev pub scalar_text : Scalar → Option (List ℕ)
+scalar_text (Boolean b) = None
+scalar_text (Num n) = None
+scalar_text (Text t) = Some t
+
+-- The key of `references(c)`, where this is its one argument and c a text.
+abbrev pub reference_key : List ℕ → Arguments → List Tree → Pairs → Option Key
+reference_key name (more_arguments (argument c) no_arguments) scope params =
+    if bytes_eq (without_global name) (codes "references") then option_map Ref (option_and_then scalar_text (constant c scope params)) else None
+reference_key name args scope params = None
+
+-- The key that a conjunct gives, if it gives one.
+abbrev pub conjunct_key : Expression → List Tree → Pairs → Option Key
+conjunct_key (run left (more_operands sign.Eq right no_operands)) scope params = equality_key left right scope params
+conjunct_key (within left right) scope params = element_key left right scope params
+conjunct_key (call name args) scope params = reference_key name args scope params
+conjunct_key _ scope params = None
+
+-- Each operator is `&&`.
+abbrev pub all_and : Operands → Bool
+all_and no_operands = true
+all_and (more_operands sign.And e rest) = all_and rest
+all_and _ = false
+
+abbrev mutual
+  -- The keys that the conjuncts of a filter give, from the left. Conjuncts are what `&&` joins; round brackets around one
+  -- are opened.
+  pub conjunct_keys : Expression → List Tree → Pairs → List Key
+  conjunct_keys (round e) scope params = conjunct_keys e scope params
+  conjunct_keys (run e rest) scope params =
+      if all_and rest then conjunct_keys e scope params ++ operands_keys rest scope params
+      else option_to_list (conjunct_key (run e rest) scope params)
+  conjunct_keys e scope params = option_to_list (conjunct_key e scope params)
+
+  -- The same of the right sides of a run of `&&`.
+  pub operands_keys : Operands → List Tree → Pairs → List Key
+  operands_keys no_operands scope params = []
+  operands_keys (more_operands s e rest) scope params = conjunct_keys e scope params ++ operands_keys rest scope params
+
+-- A key is one of an id.
+abbrev pub is_id : Key → Bool
+is_id (Id t) = true
+is_id k = false
+
+-- A key is one of a reference.
+abbrev pub is_ref : Key → Bool
+is_ref (Ref t) = true
+is_ref k = false
+
+-- A key is one of a value at a path.
+abbrev pub is_path : Key → Bool
+is_path (Path names s) = true
+is_path k = false
+
+-- A key is one of an element of a list at a path.
+abbrev pub is_elem : Key → Bool
+is_elem (Elem names s) = true
+is_elem k = false
+
+-- The keys by their kinds: an id, then a reference, then a value at a path, then an element of a list; those of one kind
+-- from the left.
+abbrev pub by_kind : List Key → List Key
+by_kind ks = filter is_id ks ++ (filter is_ref ks ++ (filter is_path ks ++ filter is_elem ks))
+
+-- The first key, `All` where there is none.
+abbrev pub first_or_all : List Key → Key
+first_or_all [] = All
+first_or_all (k ∷ ks) = k
+
+-- The key of a filter, in the scope in which its chain stands: the leftmost of the first kind that some conjunct gives;
+-- `All` where none gives one.
+abbrev pub key_in : Expression → List Tree → Pairs → Key
+key_in e scope params = first_or_all (by_kind (conjunct_keys e scope params))

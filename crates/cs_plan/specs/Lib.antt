@@ -1,0 +1,6 @@
+pub mod Constants
+pub mod Examples
+pub mod Filters
+pub mod Simple
+pub mod Steps
+pub mod Written
