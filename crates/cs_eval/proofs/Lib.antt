@@ -1,0 +1,7 @@
+pub mod Agree
+pub mod Constants
+pub mod Silent
+pub mod Simple
+pub mod Sorting
+pub mod Sound
+pub mod TrueKey
