@@ -4,4 +4,5 @@ mod Examples
 mod Fault
 mod Readings
 mod Sound
+mod Verdicts
 mod Walks

@@ -4,6 +4,7 @@
 mod class;
 mod cursor;
 mod items;
+mod laws;
 mod literals;
 mod path;
 mod places;
@@ -12,9 +13,10 @@ mod select;
 mod steps;
 mod walk;
 
+pub use laws::{a_text_spells_at_most_one_path, each_text_is_read, reading_is_verdict};
 pub use path::JsonPath;
 pub use places::{Part, Place};
-pub use read::{PathFault, a_text_spells_at_most_one_path};
+pub use read::PathFault;
 
 #[cfg(test)]
 mod tests;

@@ -1,8 +1,5 @@
-ghost use Rattle.std.specs.Prelude.{ℕ, List, ◌≡◌, ◌<◌, ◌^◌, length, MatchResult};
-ghost use Rattle.cs_jsonmatch.specs.Path.{Path};
-ghost use Rattle.cs_jsonmatch.specs.Grammar.{IsPath};
-ghost use Rattle.cs_jsonmatch.specs.View.{path};
-ghost use Rattle.cs_jsonmatch.specs.Faults.{IsCause};
+ghost use Rattle.std.specs.Prelude.{◌≡◌, ◌<◌, ◌^◌, length, IfSome};
+ghost use Rattle.cs_jsonmatch.specs.Verdict.{path_verdict, reading};
 
 use crate::cursor::{Cursor, Stop};
 use crate::path::JsonPath;
@@ -19,11 +16,13 @@ pub enum PathFault {
 }
 
 impl JsonPath {
-    /// The path that the text spells. `BadPath` exactly where it spells none. Paths are written as
-    /// in Sanity's JSONMatch, in the profile of `docs/PATCHES.md`.
+    /// The path that the text spells, and `BadPath` exactly where it spells none: the answer is the
+    /// text's one reading, `path_verdict`. `NoMemory` comes where the allocator has no room. The text
+    /// has fewer than 2^32 bytes. Paths are written as in Sanity's JSONMatch, in the profile of
+    /// `docs/PATCHES.md`.
     pub fn read(alloc: Global, text: &str) -> Result<JsonPath, PathFault>
         requires { length text.now < 2 ^ 32 }
-        ensures { MatchResult result (λ p. IsPath text.now (path p)) (λ e. IsCause e text.now) }
+        ensures { IfSome (reading result) (λ r. path_verdict text.now ≡ r) }
     {
         let mut cursor = Cursor { rest: text };
         match cursor.steps(alloc) {
@@ -36,8 +35,3 @@ impl JsonPath {
         }
     }
 }
-
-/// A law of the definitions: a text spells at most one path.
-pub fn a_text_spells_at_most_one_path()
-    ensures { (text : List ℕ) (p q : Path) → IsPath text p → IsPath text q → p ≡ q }
-{}
