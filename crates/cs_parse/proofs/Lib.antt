@@ -1,4 +1,11 @@
 mod Counts
+mod Deep
+mod Examples
 mod Meant
+mod Spelled
 mod Readings
+mod Same
+mod Stepped
 mod Told
+mod Tokens
+mod Verdicts

@@ -1,5 +1,5 @@
 -- What the source of a number means.
-use Rattle.std.proofs.Common.{◌≡◌, refl, sym, ap, subst, ◌∙◌, true≢false, Bool, true, false, List, ℕ, Option, Some, None, IsSome, if◌then◌else◌}
+use Rattle.std.proofs.Common.{◌≡◌, refl, sym, ap, subst, ◌∙◌, true≢false, Bool, true, false, List, ℕ, Some, None, IsSome, if◌then◌else◌}
 use Rattle.cs_syntax.specs.declared.token.Kind.{Kind}
 use Rattle.cs_syntax.specs.declared.token.Kind.TheVariants as kind
 use Rattle.cs_syntax.specs.Expression.{Tok, number_tok}

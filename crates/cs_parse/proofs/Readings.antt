@@ -3,11 +3,10 @@ use Rattle.std.proofs.Common.{unwrap_or, ◌≡◌, refl, sym, ap, subst, ◌∙
 use Rattle.std.proofs.lemmas.Option.{none-some}
 use Rattle.cs_syntax.specs.declared.token.Token.{Token}
 use Rattle.cs_syntax.specs.Expression.{Tok, Expression}
-use Rattle.cs_syntax.specs.Faults.{Fault, fault}
 use Rattle.cs_syntax.specs.Lex.{IsTokens, IsBadAt, meanings}
 use Rattle.cs_grammar.specs.Spells.{Spells}
 use Rattle.cs_parse.specs.Depth.{IsTooDeep}
-use Rattle.cs_parse.specs.Verdict.{Reading, query, bad_token, too_deep, no_syntax, faulty, Lexed, Spelled, IsRead, OneReading}
+use Rattle.cs_parse.specs.Verdict.{Reading, query, bad_token, too_deep, no_syntax, faulty, Lexed, Spelled, IsRead}
 
 -- what is known of tokens and of expressions
 pub record Laws : Type 0 where

@@ -1,5 +1,5 @@
 -- What is told of a text that has tokens within the depth.
-use Rattle.std.proofs.Common.{◌≡◌, sym, ap, subst, ◌∙◌, ℕ, List, map, Option, Some, None, Result, Ok, Err, IfSome}
+use Rattle.std.proofs.Common.{◌≡◌, sym, subst, ℕ, List, map, Some, Result, Ok, Err, IfSome}
 use Rattle.std.specs.Prelude.{IsErrAnd}
 use Rattle.std.proofs.lemmas.Option.{IfSome_then}
 use Rattle.cs_syntax.specs.declared.token.Token.{Token}
@@ -16,7 +16,7 @@ use Rattle.cs_grammar.specs.View.{tok}
 use Rattle.cs_parse.specs.declared.fault.ParseFault.{ParseFault}
 use Rattle.cs_parse.specs.Causes.{of_grammar}
 use Rattle.cs_parse.specs.Depth.{IsTooDeep}
-use Rattle.cs_parse.specs.Verdict.{Reading, no_syntax, faulty, IsRead, reading, reading_of}
+use Rattle.cs_parse.specs.Verdict.{faulty, IsRead, reading, reading_of}
 
 module _ (text : List ℕ) (ts : List Token) (ls : List Lexeme) (tokens : IsTokens text 0 ts) (meant : map tok ls ≡ meanings text ts) (shallow : ¬ (IsTooDeep (map tok ls))) where
   of_text : (φ : List Tok → Type 0) → φ (map tok ls) → φ (meanings text ts)

@@ -1,8 +1,8 @@
 -- How deep the brackets of a text nest: this project's profile. All three kinds count together.
-use Rattle.std.specs.Prelude.{ℕ, ◌+◌, ◌<◌, List, [], ◌∷◌, Bool, true, false, take, if◌then◌else◌}
+use Rattle.std.specs.Prelude.{ℕ, zero, suc, ◌+◌, ◌<◌, nat_lt, List, [], ◌∷◌, length, Bool, true, false, ◌||◌, take, if◌then◌else◌}
 use Rattle.cs_syntax.specs.declared.sign.Sign.{Sign}
 use Rattle.cs_syntax.specs.declared.sign.Sign.TheVariants as sign
-use Rattle.cs_syntax.specs.Expression.{Tok, number_tok, text_tok, param_tok, word_tok, sign_tok}
+use Rattle.cs_syntax.specs.Expression.{Tok, sign_tok}
 
 abbrev pub opens : Sign → Bool
 opens sign.OpenParen = true
@@ -29,3 +29,11 @@ count_of φ (t ∷ ts) = (if is_sign_that φ t then 1 else 0) + count_of φ ts
 -- at some token the brackets opened so far are more than 48 above those closed so far
 abbrev pub IsTooDeep : List Tok → Type 0
 IsTooDeep ts = (n : ℕ) × (count_of closes (take n ts) + 48 < count_of opens (take n ts))
+
+-- whether that is so behind fewer than n tokens
+abbrev pub is_deep_within : ℕ → List Tok → Bool
+is_deep_within zero ts = false
+is_deep_within (suc n) ts = nat_lt (count_of closes (take n ts) + 48) (count_of opens (take n ts)) || is_deep_within n ts
+
+abbrev pub is_deep : List Tok → Bool
+is_deep ts = is_deep_within (suc (length ts)) ts

@@ -1,3 +1,5 @@
 pub mod Causes
 pub mod Depth
+pub mod Spelling
+pub mod Tokens
 pub mod Verdict

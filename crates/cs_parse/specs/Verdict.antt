@@ -1,7 +1,8 @@
 -- What a text is as a query: GROQ-1.revision1 "Syntax", as this project's profile has it. The causes
 -- for which a text is none come in an order: a place without a token, brackets too deep, tokens that
--- spell nothing, and then the first fault in the order of the text.
-use Rattle.std.specs.Prelude.{◌≡◌, ℕ, List, Option, Some, None, Result, Ok, Err}
+-- spell nothing, and then the first fault in the order of the text. Each text has one reading: `IsRead`
+-- says which by tokens, depth, grammar and faults, and `verdict` computes it.
+use Rattle.std.specs.Prelude.{◌≡◌, ℕ, List, if◌then◌else◌, Option, Some, None, Result, Ok, Err}
 use Rattle.cs_syntax.specs.declared.token.Token.{Token}
 use Rattle.cs_syntax.specs.declared.query.Query.{Query}
 use Rattle.cs_syntax.specs.Expression.{Tok, Expression}
@@ -9,7 +10,9 @@ use Rattle.cs_syntax.specs.Faults.{Fault, fault, unsupported, unknown_function, 
 use Rattle.cs_syntax.specs.Lex.{IsTokens, IsBadAt, meanings}
 use Rattle.cs_syntax.specs.Queries.{query as expression_of}
 use Rattle.cs_grammar.specs.Spells.{Spells}
-use Rattle.cs_parse.specs.Depth.{IsTooDeep}
+use Rattle.cs_parse.specs.Depth.{IsTooDeep, is_deep}
+use Rattle.cs_parse.specs.Spelling.{expression_in}
+use Rattle.cs_parse.specs.Tokens.{Lexing, lexed, no_token_at, lexing}
 use Rattle.cs_parse.specs.declared.fault.ParseFault.{ParseFault}
 use Rattle.cs_parse.specs.declared.fault.ParseFault.TheVariants as cause
 
@@ -37,6 +40,26 @@ IsRead text too_deep = Lexed text IsTooDeep
 IsRead text no_syntax = Lexed text (λ ts. ¬ (IsTooDeep ts) × ((e : Expression) → ¬ (Spells ts e)))
 IsRead text (faulty f) = Spelled text (λ e. fault e ≡ Some f)
 
+-- the reading of tokens that spell the expression, by its first fault
+abbrev pub by_fault : Expression → Option Fault → Reading
+by_fault e None = query e
+by_fault e (Some f) = faulty f
+
+abbrev pub by_expression : Option Expression → Reading
+by_expression None = no_syntax
+by_expression (Some e) = by_fault e (fault e)
+
+abbrev pub by_tokens : List Tok → Reading
+by_tokens ts = if is_deep ts then too_deep else by_expression (expression_in ts)
+
+abbrev pub by_lexing : List ℕ → Lexing → Reading
+by_lexing text (lexed ts) = by_tokens (meanings text ts)
+by_lexing text (no_token_at at) = bad_token at
+
+-- what the text is
+unfoldable pub verdict : List ℕ → Reading
+verdict text = by_lexing text (lexing text)
+
 -- the reading that a cause tells: none where memory was wanted
 abbrev pub reading_of : ParseFault → Option Reading
 reading_of (cause.BadToken at) = Some (bad_token at)
@@ -51,7 +74,3 @@ reading_of cause.NoMemory = None
 abbrev pub reading : Result Query ParseFault → Option Reading
 reading (Ok q) = Some (query (expression_of q))
 reading (Err f) = reading_of f
-
--- Law: a text is read in one way at most.
-abbrev pub OneReading : Type 0
-OneReading = (text : List ℕ) (r s : Reading) → IsRead text r → IsRead text s → r ≡ s

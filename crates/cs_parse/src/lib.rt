@@ -8,7 +8,10 @@ mod lexemes;
 mod query;
 
 pub use fault::ParseFault;
-pub use laws::a_text_is_one_query_at_most;
+pub use laws::{
+    a_text_is_one_query_at_most, depth_is_decided, each_text_is_read, reading_is_verdict,
+    spelling_is_decided, tokens_are_read,
+};
 pub use query::parse;
 
 #[cfg(test)]

@@ -1,6 +1,6 @@
-use Rattle.std.proofs.Common.{rules, ◌+◌, ◌≡◌}
+use Rattle.std.proofs.Common.{rules}
 use Rattle.cs_parse.specs.Depth.{opens, closes}
-use Rattle.cs_parse.proofs.Counts.{counts_token, deep_at, shallow_more, bit}
+use Rattle.cs_parse.proofs.Counts.{counts_token, deep_at, shallow_more}
 use Rattle.cs_parse.proofs.depth.is_too_deep.Goals as goal
 
 -- src/depth.rt:34:13

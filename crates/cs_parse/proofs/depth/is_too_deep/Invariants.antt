@@ -1,4 +1,4 @@
-use Rattle.std.proofs.Common.{◌≡◌, map, ℕ, ◌+◌, ◌≤◌}
+use Rattle.std.proofs.Common.{map, ◌+◌, ◌≤◌}
 use Rattle.cs_grammar.specs.View.{tok}
 use Rattle.cs_parse.specs.Depth.{opens, closes}
 use Rattle.cs_parse.proofs.Counts.{Counts, Shallow}
