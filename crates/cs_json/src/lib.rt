@@ -4,12 +4,15 @@
 mod convert;
 mod de;
 mod depth;
+mod node;
+mod send;
 mod ser;
 #[cfg(test)]
 mod tests;
 
 pub use de::read;
-pub use ser::write;
+pub use node::{Member, Node};
+pub use ser::{write, write_node};
 use std::alloc::{AllocError, AllocFailed};
 
 /// Why bytes are no value. Where several causes hold, the earlier one in this list is answered.
