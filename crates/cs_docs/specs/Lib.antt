@@ -1,0 +1,4 @@
+pub mod Kept
+pub mod Limits
+pub mod Places
+pub mod Store

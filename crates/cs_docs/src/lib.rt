@@ -1,0 +1,9 @@
+//! The documents of the store, and the view that they are.
+#![tactic(auto)]
+
+mod docs;
+#[cfg(test)]
+mod tests;
+mod view;
+
+pub use docs::{Docs, MOST_DOCUMENTS};
