@@ -1,0 +1,7 @@
+pub mod Choices
+pub mod Conditions
+pub mod ConstantParts
+pub mod Digits
+pub mod Levels
+pub mod PathNames
+pub mod Views

@@ -1,4 +1,17 @@
 //! Which key a filter has, and which queries are simple.
 #![tactic(auto)]
 
+mod choice;
+mod constants;
 pub mod examples;
+mod filters;
+mod numbers;
+mod paths;
+mod quiet;
+mod scopes;
+mod tails;
+
+pub use choice::choose;
+pub use numbers::literal;
+pub use scopes::up;
+pub use tails::simple;

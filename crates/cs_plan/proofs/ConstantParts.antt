@@ -1,0 +1,60 @@
+-- Constants and keys by the parts of an expression.
+use Rattle.std.proofs.Common.{◌≡◌, ℕ, List, [], ◌∷◌, map, Option, Some, None, option_map, option_and_then, refl, ap}
+use Rattle.std.proofs.Common.{Vec, Box, Global, sym, ◌∙◌}
+use Rattle.cs_syntax.specs.Expression.{chain, steps_of}
+use Rattle.cs_syntax.specs.View.{expression, step}
+use Rattle.cs_syntax.specs.declared.tree.Step.{Step as CodeStep}
+use Rattle.cs_syntax.specs.declared.tree.Expr.{Expr}
+use Rattle.cs_syntax.specs.declared.tree.Expr as code
+use Rattle.cs_value.specs.Tree.{null}
+use Rattle.cs_plan.specs.Steps.{in_scope}
+use Rattle.cs_plan.proofs.Views.{chain_parts, expression_up}
+use Rattle.std.specs.Str.{bytes_eq}
+use Rattle.std.specs.Prelude.{if◌then◌else◌, codes, Bool, true, false}
+use Rattle.cs_value.specs.Tree.{Tree, Pairs}
+use Rattle.cs_ops.specs.Operators as operators
+use Rattle.cs_ops.specs.declared.op.Pre.TheVariants.{Minus}
+use Rattle.cs_syntax.specs.declared.tree.PreSign.{PreSign}
+use Rattle.cs_syntax.specs.declared.tree.PreSign.TheVariants as sign
+use Rattle.cs_syntax.specs.declared.tree.BinSign.TheVariants as sg
+use Rattle.cs_syntax.specs.Expression.{Expression, number_literal, prefix, run, Operands, no_operands, more_operands, Steps, more_steps, Step, Arguments, no_arguments, more_arguments, argument, when_argument}
+use Rattle.cs_syntax.specs.Functions.{without_global}
+use Rattle.cs_view.specs.declared.key.Scalar.{Scalar}
+use Rattle.cs_view.specs.declared.key.Key.TheVariants.{Ref}
+use Rattle.cs_plan.specs.Steps.{field, name_of, names_of}
+use Rattle.cs_plan.specs.Constants.{constant, scalar_of, literal, fields}
+use Rattle.cs_plan.specs.Filters.{reference_key, scalar_text, conjunct_key, equality_key}
+use Rattle.cs_plan.specs.Fitting.{scalar_at, negative_of, sole, sole_equal}
+
+more : (name : Option (List ℕ)) (names : Option (List (List ℕ))) (v : Tree) → option_and_then (λ ns. scalar_of (fields ns v)) (option_and_then (λ n. option_map (λ ns. n ∷ ns) names) name) ≡ option_and_then (λ n. option_and_then (λ ns. scalar_of (fields ns (field n v))) names) name
+more None names v = refl
+more (Some n) None v = refl
+more (Some n) (Some ns) v = refl
+
+pub scalar_at_more : (s : Step) (ss : Steps) (v : Tree) → scalar_at (more_steps s ss) v ≡ option_and_then (λ name. scalar_at ss (field name v)) (name_of s)
+scalar_at_more s ss v = more (name_of s) (names_of ss) v
+
+pub constant_prefix : (ps : List PreSign) (e : Expression) (scope : List Tree) (params : Pairs) → constant (prefix ps e) scope params ≡ option_and_then (λ n. scalar_of (operators.prefix Minus (literal n))) (negative_of ps e)
+constant_prefix [] e scope params = refl
+constant_prefix (sign.Minus ∷ []) (number_literal n) scope params = refl
+constant_prefix (sign.Minus ∷ []) _ scope params = refl
+constant_prefix (sign.Minus ∷ q ∷ ps) e scope params = refl
+constant_prefix (sign.Plus ∷ ps) e scope params = refl
+constant_prefix (sign.Not ∷ ps) e scope params = refl
+
+pub reference_sole : (name : List ℕ) (xs : Arguments) (scope : List Tree) (params : Pairs) → reference_key name xs scope params ≡ option_and_then (λ e. if bytes_eq (without_global name) (codes "references") then option_map Ref (option_and_then scalar_text (constant e scope params)) else None) (sole xs)
+reference_sole name no_arguments scope params = refl
+reference_sole name (more_arguments (argument c) no_arguments) scope params = refl
+reference_sole name (more_arguments (argument c) (more_arguments y ys)) scope params = refl
+reference_sole name (more_arguments (when_argument c e) ys) scope params = refl
+
+pub conjunct_run : (e : Expression) (rest : Operands) (scope : List Tree) (params : Pairs) → conjunct_key (run e rest) scope params ≡ option_and_then (λ right. equality_key e right scope params) (sole_equal rest)
+conjunct_run e no_operands scope params = refl
+conjunct_run e (more_operands sg.Eq right no_operands) scope params = refl
+conjunct_run e (more_operands sg.Eq right (more_operands s f rest)) scope params = refl
+conjunct_run e (more_operands _ right rest) scope params = refl
+
+pub constant_chain : (e : Expr) (base : Box Expr Global) (v : Vec CodeStep Global) (b : Expr) (ss : List CodeStep) (n : ℕ) (scope : List Tree) (params : Pairs) → e ≡ code.Chain base v → b ≡ base.value → b ≡ code.Up n → ss ≡ v.items
+    → scalar_at (steps_of (map step ss)) (in_scope n (null ∷ scope)) ≡ constant (expression e) scope params
+constant_chain e base v b ss n scope params is there up same =
+    sym (ap (λ x. constant x scope params) (chain_parts e base v b ss is there same ∙ ap (λ x. chain x (steps_of (map step ss))) (ap expression up ∙ expression_up n)))
