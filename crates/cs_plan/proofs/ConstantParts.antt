@@ -6,12 +6,13 @@ use Rattle.cs_syntax.specs.View.{expression, step}
 use Rattle.cs_syntax.specs.declared.tree.Step.{Step as CodeStep}
 use Rattle.cs_syntax.specs.declared.tree.Expr.{Expr}
 use Rattle.cs_syntax.specs.declared.tree.Expr as code
-use Rattle.cs_value.specs.Tree.{null}
 use Rattle.cs_plan.specs.Steps.{in_scope}
 use Rattle.cs_plan.proofs.Views.{chain_parts, expression_up}
 use Rattle.std.specs.Str.{bytes_eq}
-use Rattle.std.specs.Prelude.{if◌then◌else◌, codes, Bool, true, false}
-use Rattle.cs_value.specs.Tree.{Tree, Pairs}
+use Rattle.std.specs.Prelude.{if◌then◌else◌, codes, Bool, true, false, cond, ℤ, pos, neg_ℤ, ◌||◌}
+use Rattle.cs_value.specs.Tree.{Tree, Pairs, null, integer}
+use Rattle.cs_ops.specs.Arithmetic.{number, is_whole}
+use Rattle.cs_syntax.specs.Numbers.{whole_number, has_exponent, has_fraction}
 use Rattle.cs_ops.specs.Operators as operators
 use Rattle.cs_ops.specs.declared.op.Pre.TheVariants.{Minus}
 use Rattle.cs_syntax.specs.declared.tree.PreSign.{PreSign}
@@ -24,7 +25,7 @@ use Rattle.cs_view.specs.declared.key.Key.TheVariants.{Ref}
 use Rattle.cs_plan.specs.Steps.{field, name_of, names_of}
 use Rattle.cs_plan.specs.Constants.{constant, scalar_of, literal, fields}
 use Rattle.cs_plan.specs.Filters.{reference_key, scalar_text, conjunct_key, equality_key}
-use Rattle.cs_plan.specs.Fitting.{scalar_at, negative_of, sole, sole_equal}
+use Rattle.cs_plan.specs.Parts.{number_scalar, scalar_at, negative_of, sole, sole_equal}
 
 more : (name : Option (List ℕ)) (names : Option (List (List ℕ))) (v : Tree) → option_and_then (λ ns. scalar_of (fields ns v)) (option_and_then (λ n. option_map (λ ns. n ∷ ns) names) name) ≡ option_and_then (λ n. option_and_then (λ ns. scalar_of (fields ns (field n v))) names) name
 more None names v = refl
@@ -33,6 +34,24 @@ more (Some n) (Some ns) v = refl
 
 pub scalar_at_more : (s : Step) (ss : Steps) (v : Tree) → scalar_at (more_steps s ss) v ≡ option_and_then (λ name. scalar_at ss (field name v)) (name_of s)
 scalar_at_more s ss v = more (name_of s) (names_of ss) v
+
+one_number : (b : Bool) (n : ℤ) → number_scalar (cond b (integer n) null) ≡ scalar_of (cond b (integer n) null)
+one_number true n = refl
+one_number false n = refl
+
+some_number : (n : ℤ) → number_scalar (number n) ≡ scalar_of (number n)
+some_number n = one_number (is_whole n) n
+
+or_null : (b : Bool) (v : Tree) → number_scalar v ≡ scalar_of v → number_scalar (cond b null v) ≡ scalar_of (cond b null v)
+or_null true v is = refl
+or_null false v is = is
+
+pub literal_number : (n : List ℕ) → number_scalar (literal n) ≡ scalar_of (literal n)
+literal_number n = or_null (has_exponent n || has_fraction n) (number (pos (whole_number n))) (some_number (pos (whole_number n)))
+
+pub negative_number : (v : Tree) → number_scalar (operators.prefix Minus v) ≡ scalar_of (operators.prefix Minus v)
+negative_number (integer n) = some_number (neg_ℤ n)
+negative_number _ = refl
 
 pub constant_prefix : (ps : List PreSign) (e : Expression) (scope : List Tree) (params : Pairs) → constant (prefix ps e) scope params ≡ option_and_then (λ n. scalar_of (operators.prefix Minus (literal n))) (negative_of ps e)
 constant_prefix [] e scope params = refl

@@ -1,7 +1,7 @@
 -- A number that is read digit by digit never falls.
 use Rattle.std.proofs.Common.{◌≡◌, None, rules, refl, false, ℕ, suc, ◌+◌, ◌-◌, ◌*◌, ◌<◌, ◌≤◌, List, [], ◌∷◌, length, get_or, drop, arith, drop-cons}
 use Rattle.std.proofs.lemmas.Grind.{common_steps}
-use Rattle.cs_plan.specs.Fitting.{fitting}
+use Rattle.cs_plan.specs.Parts.{fitting}
 use Rattle.std.specs.Prelude.{fold}
 
 -- the number with one more digit behind it

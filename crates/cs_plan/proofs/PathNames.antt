@@ -1,6 +1,6 @@
 -- The names of steps.
 use Rattle.std.proofs.lemmas.Grind.{common_steps}
-use Rattle.std.proofs.Common.{◌≡◌, ℕ, ◌<◌, ◌+◌, sym, ◌∙◌, append_assoc, length-append, List, [], ◌∷◌, ◌++◌, map, length, Option, Some, None, option_map, option_and_then, refl, ap, arith}
+use Rattle.std.proofs.Common.{◌≡◌, ℕ, ◌<◌, ◌+◌, sym, ◌∙◌, append_assoc, length-append, List, [], ◌∷◌, ◌++◌, map, length, Option, Some, None, option_map, option_and_then, refl, ap, arith, Bool, true, false, true≢false, suc, ◌≤◌, is_some}
 use Rattle.cs_syntax.specs.Expression.{Step, Steps, no_steps, more_steps, steps_of}
 use Rattle.cs_syntax.specs.declared.tree.Step.{Step as CodeStep}
 use Rattle.cs_syntax.specs.View.{step}
@@ -10,15 +10,31 @@ use Rattle.cs_syntax.specs.Expression.{chain}
 use Rattle.cs_syntax.specs.View.{expression}
 use Rattle.cs_syntax.specs.declared.tree.Expr.{Expr}
 use Rattle.cs_syntax.specs.declared.tree.Expr as code
-use Rattle.cs_plan.specs.Filters.{few, path_of}
+use Rattle.std.specs.Prelude.{codes, unwrap_or, ◌&&◌}
+use Rattle.std.specs.Str.{bytes_eq}
+use Rattle.cs_plan.specs.Filters.{few, path_of, is_id_path}
+use Rattle.cs_plan.specs.Parts.{path_names}
 use Rattle.cs_plan.proofs.Views.{chain_parts, expression_word}
-
--- the names before these and these
-abbrev pub named_behind : List (List ℕ) → Steps → Option (List (List ℕ))
-named_behind before ss = option_map (λ names. before ++ names) (names_of ss)
 
 pub names_of_more : (s : Step) (ss : Steps) → names_of (more_steps s ss) ≡ option_and_then (λ name. option_map (λ names. name ∷ names) (names_of ss)) (name_of s)
 names_of_more s ss = refl
+
+both_named : (name : Option (List ℕ)) (names : Option (List (List ℕ))) → is_some (option_and_then (λ n. option_map (λ ns. n ∷ ns) names) name) ≡ is_some name && is_some names
+both_named None names = refl
+both_named (Some n) None = refl
+both_named (Some n) (Some ns) = refl
+
+pub named_more : (s : Step) (ss : Steps) → is_some (names_of (more_steps s ss)) ≡ is_some (name_of s) && is_some (names_of ss)
+named_more s ss = both_named (name_of s) (names_of ss)
+
+named_in_front : (n : List ℕ) (name : Option (List ℕ)) (names : Option (List (List ℕ))) → name ≡ Some n → is_some names ≡ true
+    → unwrap_or (option_and_then (λ a. option_map (λ ns. a ∷ ns) names) name) [] ≡ n ∷ unwrap_or names []
+named_in_front n name None is all = absurd (true≢false (sym all))
+named_in_front n name (Some ns) is all = ap (λ (o : Option (List ℕ)). unwrap_or (option_and_then (λ a. Some (a ∷ ns)) o) []) is
+
+-- the names of steps are the first and those of the others
+pub name_before : (n : List ℕ) (s : Step) (ss : Steps) → name_of s ≡ Some n → is_some (names_of ss) ≡ true → unwrap_or (names_of (more_steps s ss)) [] ≡ n ∷ unwrap_or (names_of ss) []
+name_before n s ss is all = named_in_front n (name_of s) (names_of ss) is all
 
 not_few : (names : List (List ℕ)) → 4 < length names → few names ≡ None
 not_few names long = grind (arith, common_steps)
@@ -40,6 +56,49 @@ as_many f (x ∷ xs) = omega (arith, as_many f xs)
 
 pub too_many : (name : List ℕ) (ss : List CodeStep) → 3 < length ss → None ≡ option_and_then (λ names. few (name ∷ names)) (names_of (steps_of (map step ss)))
 too_many name ss long = sym (many (name ∷ []) (map step ss) (omega (arith, as_many step ss)))
+
+one_more : (name : Option (List ℕ)) (names : Option (List (List ℕ))) (n : ℕ) → length (unwrap_or names []) ≤ n
+    → length (unwrap_or (option_and_then (λ a. option_map (λ ns. a ∷ ns) names) name) []) ≤ suc n
+one_more None names n h = omega arith
+one_more (Some a) None n h = omega arith
+one_more (Some a) (Some ns) n h = omega (arith, h)
+
+no_more : (ss : List Step) → length (unwrap_or (names_of (steps_of ss)) []) ≤ length ss
+no_more [] = omega arith
+no_more (s ∷ ss) = one_more (name_of s) (names_of (steps_of ss)) (length ss) (no_more ss)
+
+is_few : (names : List (List ℕ)) → length names ≤ 4 → few names ≡ Some names
+is_few names short = grind (arith, common_steps)
+
+all_few : (w : List ℕ) (o : Option (List (List ℕ))) → length (unwrap_or o []) ≤ 3 → is_some o ≡ true → Some (w ∷ unwrap_or o []) ≡ option_and_then (λ names. few (w ∷ names)) o
+all_few w None short is = absurd (true≢false (sym is))
+all_few w (Some ns) short is = sym (is_few (w ∷ ns) (omega (arith, short)))
+
+pub few_names : (w : List ℕ) (ss : List CodeStep) → length ss ≤ 3 → is_some (names_of (steps_of (map step ss))) ≡ true
+    → Some (path_names w (steps_of (map step ss))) ≡ option_and_then (λ names. few (w ∷ names)) (names_of (steps_of (map step ss)))
+few_names w ss short is = all_few w (names_of (steps_of (map step ss))) (omega (arith, as_many step ss, no_more (map step ss))) is
+
+unnamed : (w : List ℕ) (o : Option (List (List ℕ))) → is_some o ≡ false → None ≡ option_and_then (λ names. few (w ∷ names)) o
+unnamed w None is = refl
+unnamed w (Some ns) is = absurd (true≢false is)
+
+pub no_names : (w : List ℕ) (ss : Steps) → is_some (names_of ss) ≡ false → None ≡ option_and_then (λ names. few (w ∷ names)) (names_of ss)
+no_names w ss is = unnamed w (names_of ss) is
+
+longer : (w : List ℕ) (name : Option (List ℕ)) (names : Option (List (List ℕ))) → is_some (option_and_then (λ a. option_map (λ ns. a ∷ ns) names) name) ≡ true
+    → false ≡ is_id_path (w ∷ unwrap_or (option_and_then (λ a. option_map (λ ns. a ∷ ns) names) name) [])
+longer w None names is = absurd (true≢false (sym is))
+longer w (Some a) None is = absurd (true≢false (sym is))
+longer w (Some a) (Some ns) is = refl
+
+-- a path of a word and steps is not `_id` alone
+pub id_longer : (w : List ℕ) (ss : List CodeStep) → 0 < length ss → is_some (names_of (steps_of (map step ss))) ≡ true → false ≡ is_id_path (path_names w (steps_of (map step ss)))
+id_longer w [] some is = absurd (omega (arith, some))
+id_longer w (s ∷ ss) some is = longer w (name_of (step s)) (names_of (steps_of (map step ss))) is
+
+pub id_alone : (w : List ℕ) (ss : List CodeStep) → length ss ≡ 0 → bytes_eq w (codes "_id") ≡ is_id_path (path_names w (steps_of (map step ss)))
+id_alone w [] none = refl
+id_alone w (s ∷ ss) none = absurd (omega (arith, none))
 
 pub path_word : (e : Expr) (base : Box Expr Global) (v : Vec CodeStep Global) (b : Expr) (ss : List CodeStep) (w : List ℕ) → e ≡ code.Chain base v → b ≡ base.value → b ≡ code.Word w → ss ≡ v.items
     → option_and_then (λ names. few (w ∷ names)) (names_of (steps_of (map step ss))) ≡ path_of (expression e)

@@ -1,7 +1,8 @@
 pub mod Constants
 pub mod Examples
 pub mod Filters
-pub mod Fitting
+pub mod Lent
+pub mod Parts
 pub mod Picked
 pub mod Simple
 pub mod Steps

@@ -2,16 +2,21 @@
 #![tactic(auto)]
 
 mod choice;
+mod conjuncts;
 mod constants;
 pub mod examples;
-mod filters;
+mod lent;
 mod numbers;
 mod paths;
 mod quiet;
 mod scopes;
+mod steps;
 mod tails;
 
 pub use choice::choose;
 pub use numbers::literal;
 pub use scopes::up;
 pub use tails::simple;
+
+#[cfg(test)]
+mod tests;

@@ -1,6 +1,6 @@
 //! A number as it is written.
 ghost use Rattle.std.specs.Prelude.{◌≡◌};
-ghost use Rattle.cs_plan.specs.Fitting.{fitting};
+ghost use Rattle.cs_plan.specs.Parts.{fitting};
 ghost use Rattle.cs_plan.specs.Constants.{literal};
 ghost use Rattle.cs_syntax.specs.Numbers.{whole_number, has_exponent, has_fraction};
 ghost use Rattle.cs_value.specs.View.{tree};

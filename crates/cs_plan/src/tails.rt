@@ -20,7 +20,8 @@ fn is_number(expr: &Expr) -> bool
     }
 }
 
-// The bracket around this expression is a filter: it is neither a position nor a text alone.
+// The bracket around this expression is a filter: what is in it is neither a position nor a text
+// alone.
 #[tactic(auto, using(crate::proofs::Conditions::number_condition, crate::proofs::Conditions::negative_condition), unfolding(cs_syntax::specs::View::expression))]
 fn is_condition(expr: &Expr) -> bool
     ensures { result ≡ is_condition (bracketed (expression expr.now)) }
@@ -90,8 +91,9 @@ fn is_simple(expr: &Expr) -> bool
     }
 }
 
-/// Whether a query is simple: `*`, one filter, and attributes, projections, `[]`, slices, elements and
-/// orders, in all of which neither `*` nor `->` stands.
+/// Whether a query is simple: `*`, one filter, and attributes, projections, `[]`, slices, elements
+/// and piped orders, in all of which neither a further `*` as a value nor `->` stands. It takes no
+/// memory.
 pub fn simple(query: &Query) -> bool
     ensures { result ≡ is_simple (expression_of query.now) }
 {

@@ -4,7 +4,7 @@ use Rattle.cs_value.specs.Tree.{null}
 use Rattle.cs_value.specs.View.{tree}
 use Rattle.cs_syntax.specs.Expression.{steps_of}
 use Rattle.cs_syntax.specs.View.{step}
-use Rattle.cs_plan.specs.Fitting.{scalar_at}
+use Rattle.cs_plan.specs.Parts.{scalar_at}
 use Rattle.cs_plan.proofs.constants.at_names.Given as goal
 
 abbrev pub invariant-loop-step : goal.invariant-loop-step

@@ -1,6 +1,6 @@
 use Rattle.std.proofs.Common.{◌≡◌, rules, ◌<◌, arith, drop, None}
 use Rattle.std.specs.Prelude.{fold}
-use Rattle.cs_plan.specs.Fitting.{fitting}
+use Rattle.cs_plan.specs.Parts.{fitting}
 use Rattle.cs_plan.proofs.Digits.{passes, next, too_wide}
 use Rattle.cs_syntax.specs.Numbers.{whole_number}
 use Rattle.cs_plan.proofs.numbers.whole.Goals as goal
