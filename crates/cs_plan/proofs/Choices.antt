@@ -1,5 +1,5 @@
 -- The best of some keys is the first by kind.
-use Rattle.std.proofs.Common.{◌≡◌, ℕ, List, [], ◌∷◌, ◌++◌, refl, sym, ap, ◌∙◌, ℕ, ◌≢◌, true≢false, nat_lt, Bool, true, false, cond, arith}
+use Rattle.std.proofs.Common.{◌≡◌, ℕ, List, [], ◌∷◌, ◌++◌, refl, sym, ap, ◌∙◌, ℕ, true≢false, nat_lt, Bool, true, false, cond, arith}
 use Rattle.std.specs.Prelude.{fold, filter, option_to_list}
 use Rattle.std.proofs.lemmas.Grind.{common_steps}
 use Rattle.cs_value.specs.Tree.{Tree, Pairs}

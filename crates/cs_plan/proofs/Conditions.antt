@@ -1,10 +1,8 @@
 -- Which brackets are filters.
-use Rattle.std.proofs.Common.{◌≡◌, sym, ap, ◌∙◌, ℕ, List, [], ◌∷◌, map, refl, rules, Vec, Box, Global, Bool, true, false, not}
-use Rattle.std.specs.Prelude.{if◌then◌else◌}
-use Rattle.cs_syntax.specs.Expression.{Expression, everything, number_literal, prefix, chain, run, steps_of, operands_of}
+use Rattle.std.proofs.Common.{◌≡◌, sym, ap, ◌∙◌, ℕ, List, [], ◌∷◌, map, refl, rules, Vec, Box, Global, false, not}
+use Rattle.cs_syntax.specs.Expression.{Expression, everything, number_literal, prefix, chain, steps_of}
 use Rattle.cs_syntax.specs.Brackets.{is_number}
-use Rattle.cs_syntax.specs.View.{expression, step, operands}
-use Rattle.cs_syntax.specs.declared.tree.BinSign.{BinSign}
+use Rattle.cs_syntax.specs.View.{expression, step}
 use Rattle.cs_syntax.specs.declared.tree.PreSign.TheVariants as sign
 use Rattle.cs_syntax.specs.declared.tree.Expr.{Expr, the_lemmas}
 use Rattle.cs_syntax.specs.declared.tree.Expr as code

@@ -20,7 +20,6 @@ use Rattle.cs_syntax.specs.declared.tree.PreSign.TheVariants as sign
 use Rattle.cs_syntax.specs.declared.tree.BinSign.TheVariants as sg
 use Rattle.cs_syntax.specs.Expression.{Expression, number_literal, prefix, run, Operands, no_operands, more_operands, Steps, more_steps, Step, Arguments, no_arguments, more_arguments, argument, when_argument}
 use Rattle.cs_syntax.specs.Functions.{without_global}
-use Rattle.cs_view.specs.declared.key.Scalar.{Scalar}
 use Rattle.cs_view.specs.declared.key.Key.TheVariants.{Ref}
 use Rattle.cs_plan.specs.Steps.{field, name_of, names_of}
 use Rattle.cs_plan.specs.Constants.{constant, scalar_of, literal, fields}

@@ -1,5 +1,5 @@
 -- A number that is read digit by digit never falls.
-use Rattle.std.proofs.Common.{◌≡◌, None, rules, refl, false, ℕ, suc, ◌+◌, ◌-◌, ◌*◌, ◌<◌, ◌≤◌, List, [], ◌∷◌, length, get_or, drop, arith, drop-cons}
+use Rattle.std.proofs.Common.{◌≡◌, None, ℕ, suc, ◌+◌, ◌-◌, ◌*◌, ◌<◌, ◌≤◌, List, [], ◌∷◌, length, get_or, drop, arith, drop-cons}
 use Rattle.std.proofs.lemmas.Grind.{common_steps}
 use Rattle.cs_plan.specs.Parts.{fitting}
 use Rattle.std.specs.Prelude.{fold}

@@ -1,7 +1,7 @@
 -- The names of steps.
 use Rattle.std.proofs.lemmas.Grind.{common_steps}
-use Rattle.std.proofs.Common.{◌≡◌, ℕ, ◌<◌, ◌+◌, sym, ◌∙◌, append_assoc, length-append, List, [], ◌∷◌, ◌++◌, map, length, Option, Some, None, option_map, option_and_then, refl, ap, arith, Bool, true, false, true≢false, suc, ◌≤◌, is_some}
-use Rattle.cs_syntax.specs.Expression.{Step, Steps, no_steps, more_steps, steps_of}
+use Rattle.std.proofs.Common.{◌≡◌, ℕ, ◌<◌, ◌+◌, sym, ◌∙◌, append_assoc, length-append, List, [], ◌∷◌, ◌++◌, map, length, Option, Some, None, option_map, option_and_then, refl, ap, arith, true, false, true≢false, suc, ◌≤◌, is_some}
+use Rattle.cs_syntax.specs.Expression.{Step, Steps, more_steps, steps_of}
 use Rattle.cs_syntax.specs.declared.tree.Step.{Step as CodeStep}
 use Rattle.cs_syntax.specs.View.{step}
 use Rattle.cs_plan.specs.Steps.{name_of, names_of}

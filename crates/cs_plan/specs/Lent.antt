@@ -1,5 +1,4 @@
 -- The keys and scalars that borrowed ones stand for.
-use Rattle.std.specs.Prelude.{ℕ, List}
 use Rattle.cs_view.specs.declared.key.Scalar.{Scalar}
 use Rattle.cs_view.specs.declared.key.Scalar.TheVariants as scalar
 use Rattle.cs_view.specs.declared.key.Key.{Key}

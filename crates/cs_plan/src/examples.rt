@@ -1,5 +1,5 @@
-// Which keys some filters have, and which queries are simple. The functions do nothing: each is
-// there for its clause, which the checker computes.
+//! Which keys some filters have, and which queries are simple. The functions do nothing: each is
+//! there for its clause, which the checker computes.
 ghost use Rattle.cs_plan.specs.Examples.{KindsInOrder, LeftmostOfAKind, NoKeyOfEither, BracketsOpened, PathsOfFour, ConstantsOfAFilter, OuterConstants, ReferencesOfOneText, SimpleQueries};
 
 /// An id counts before a reference, a reference before a value at a path, and this before an

@@ -20,7 +20,7 @@ fn has_fraction(number: &str) -> bool
     number.as_bytes().contains(&b'.')
 }
 
-// The number, where it is below 2^63.
+// The number, where it is below 2^63. It stops at the first digit with which it is not.
 fn whole(number: &str) -> Option<i64>
     ensures { result ≡ fitting (whole_number number.now) }
 {
@@ -34,7 +34,8 @@ fn whole(number: &str) -> Option<i64>
     Some(value as i64)
 }
 
-/// The value of a number as it is written.
+/// The value of a number as it is written: null where it has a fraction or an exponent, or is not
+/// below 2^63.
 pub fn literal(number: &str) -> Val
     ensures { tree result ≡ literal number.now }
 {

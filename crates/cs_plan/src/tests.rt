@@ -161,6 +161,21 @@ fn chosen(
     key_words(alloc, &choose(alloc, filter, scope, params)?)
 }
 
+// The same in the scope of a value and another scope around it.
+fn chosen_inside<'s>(
+    alloc: Global,
+    filter: &Expr,
+    this: &'s Val,
+    around: &'s Scope<'s>,
+    params: &Fields,
+) -> Result<String, Fail> {
+    let inner = Scope {
+        this,
+        parent: Some(around),
+    };
+    chosen(alloc, filter, &inner, params)
+}
+
 #[test]
 fn keys_of_worked_filters(rt: HostRuntime) -> Result<(), Fail> {
     let alloc = rt.alloc();
@@ -192,11 +207,7 @@ fn key_of_a_value_of_the_outer_scope(rt: HostRuntime) -> Result<(), Fail> {
         Val::Text(Txt::copy_of(alloc, "x")?),
     )?);
     let object = Val::Obj(object);
-    let inner = Scope {
-        this: &object,
-        parent: Some(&root),
-    };
-    let key = chosen(alloc, &up_is_outer_id(alloc)?, &inner, &none)?;
+    let key = chosen_inside(alloc, &up_is_outer_id(alloc)?, &object, &root, &none)?;
     assert_eq!(rt; key.as_str(), "path up 'x'");
     Ok(())
 }

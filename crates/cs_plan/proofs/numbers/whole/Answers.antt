@@ -1,6 +1,5 @@
-use Rattle.std.proofs.Common.{◌≡◌, rules, ◌<◌, arith, drop, None}
+use Rattle.std.proofs.Common.{◌<◌, arith, drop}
 use Rattle.std.specs.Prelude.{fold}
-use Rattle.cs_plan.specs.Parts.{fitting}
 use Rattle.cs_plan.proofs.Digits.{passes, next, too_wide}
 use Rattle.cs_syntax.specs.Numbers.{whole_number}
 use Rattle.cs_plan.proofs.numbers.whole.Goals as goal

@@ -1,6 +1,4 @@
-use Rattle.std.proofs.Common.{◌≡◌, ◌∙◌, sym, ap, slice_get, List, arith}
-use Rattle.std.proofs.lemmas.Grind.{common_steps}
-use Rattle.cs_value.specs.Tree.{Tree}
+use Rattle.std.proofs.Common.{◌∙◌, sym, ap, slice_get}
 use Rattle.cs_value.specs.View.{tree}
 use Rattle.cs_view.specs.Scopes.{scope as values_of}
 use Rattle.cs_view.specs.declared.scope.Scope.{out-Scope}
