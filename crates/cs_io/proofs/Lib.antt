@@ -1,6 +1,7 @@
 mod Bytes
 mod CutLaws
 mod Cutting
+pub mod Feeds
 mod Finding
 mod Giving
 mod Keeping

@@ -1,9 +1,12 @@
 -- The machine over one line more.
-use Rattle.std.proofs.Common.{◌≡◌, ◌∙◌, ap, sym, refl, ℕ, zero, suc, List, [], ◌∷◌, ◌++◌, take, drop, length, ◌+◌, ◌≤◌, append_assoc, arith, ◌==◌, false}
+use Rattle.std.proofs.Common.{◌≡◌, ◌∙◌, ap, sym, refl, ℕ, zero, suc, List, [], ◌∷◌, ◌++◌, take, drop, length, ◌+◌, ◌≤◌, append_assoc, arith}
 use Rattle.std.proofs.lemmas.List.{append-nil}
-use Rattle.std.proofs.lemmas.Bool.Decides.{nat_tests}
-use Rattle.cs_io.specs.Lines.{IsPlain, whole_lines}
-use Rattle.cs_run.specs.Machine.{State, replies, state_after, step_state, step_reply}
+use Rattle.std.proofs.lemmas.Grind.{flat_map-append}
+use Rattle.cs_reply.specs.Reply.{reply_line, reply_lines, numbered}
+use Rattle.cs_run.specs.Fold.{Step, replies}
+use Rattle.cs_run.specs.Fold as fold
+use Rattle.cs_run.specs.Machine.{step, step_writes, step_state, state_after, written}
+use Rattle.cs_run.specs.State.{State}
 
 -- the list after k elements begins with x
 pub record Next {X : Type 0} (k : ℕ) (all : List X) (x : X) (rest : List X) : Type 0 where
@@ -26,28 +29,30 @@ next_of (suc k) (y ∷ all) x rest e = let h = next_of k all x rest e in record 
 count_on : (n : ℕ) (k : ℕ) → n + 1 + k ≡ n + suc k
 count_on n k = omega arith
 
+-- any machine, over one line more and over more lines
+after_push : {S : Type 0} (one : Step S) (s : S) (n : ℕ) (lines : List (List ℕ)) (line : List ℕ) → fold.state_after one s n (lines ++ line ∷ []) ≡ (one (fold.state_after one s n lines) (n + length lines) line).state
+after_push one s n [] line = let none : n + 0 ≡ n = omega arith in rw none refl
+after_push one s n (l ∷ lines) line =
+    after_push one (one s n l).state (n + 1) lines line ∙ ap (λ m. (one (fold.state_after one (one s n l).state (n + 1) lines) m line).state) (count_on n (length lines))
+
+replies_append : {S : Type 0} (one : Step S) (s : S) (n : ℕ) (xs ys : List (List ℕ)) → replies one s n (xs ++ ys) ≡ replies one s n xs ++ replies one (fold.state_after one s n xs) (n + length xs) ys
+replies_append one s n [] ys = let none : n + 0 ≡ n = omega arith in rw none refl
+replies_append one s n (x ∷ xs) ys =
+    let first = numbered n (one s n x).replies in
+    let next = (one s n x).state in
+    ap (λ v. first ++ v) (replies_append one next (n + 1) xs ys)
+    ∙ sym (append_assoc first (replies one next (n + 1) xs) (replies one (fold.state_after one next (n + 1) xs) (n + 1 + length xs) ys))
+    ∙ ap (λ m. first ++ replies one next (n + 1) xs ++ replies one (fold.state_after one next (n + 1) xs) m ys) (count_on n (length xs))
+
+-- the machine of the store
 pub state_push : (s : State) (n : ℕ) (lines : List (List ℕ)) (line : List ℕ) → state_after s n (lines ++ line ∷ []) ≡ step_state (state_after s n lines) (n + length lines) line
-state_push s n [] line = let none : n + 0 ≡ n = omega arith in rw none refl
-state_push s n (l ∷ lines) line =
-    state_push (step_state s n l) (n + 1) lines line ∙ ap (λ m. step_state (state_after (step_state s n l) (n + 1) lines) m line) (count_on n (length lines))
+state_push s n lines line = after_push step s n lines line
 
-pub replies_append : (s : State) (n : ℕ) (xs ys : List (List ℕ)) → replies s n (xs ++ ys) ≡ replies s n xs ++ replies (state_after s n xs) (n + length xs) ys
-replies_append s n [] ys = let none : n + 0 ≡ n = omega arith in rw none refl
-replies_append s n (x ∷ xs) ys =
-    let first = step_reply s n x in
-    let next = step_state s n x in
-    ap (λ v. first ++ v) (replies_append next (n + 1) xs ys)
-    ∙ sym (append_assoc first (replies next (n + 1) xs) (replies (state_after next (n + 1) xs) (n + 1 + length xs) ys))
-    ∙ ap (λ m. first ++ replies next (n + 1) xs ++ replies (state_after next (n + 1) xs) m ys) (count_on n (length xs))
+pub written_append : (s : State) (n : ℕ) (xs ys : List (List ℕ)) → written s n (xs ++ ys) ≡ written s n xs ++ written (state_after s n xs) (n + length xs) ys
+written_append s n xs ys =
+    ap reply_lines (replies_append step s n xs ys) ∙ flat_map-append reply_line (replies step s n xs) (replies step (state_after s n xs) (n + length xs) ys)
 
-pub replies_push : (s : State) (n : ℕ) (lines : List (List ℕ)) (line : List ℕ) → replies s n (lines ++ line ∷ []) ≡ replies s n lines ++ step_reply (state_after s n lines) (n + length lines) line
-replies_push s n lines line =
-    replies_append s n lines (line ∷ []) ∙ ap (λ v. replies s n lines ++ v) (append-nil (step_reply (state_after s n lines) (n + length lines) line))
-
-pub whole_line : (line rest : List ℕ) → IsPlain line → whole_lines (line ++ 10 ∷ rest) ≡ line ∷ whole_lines rest
-whole_line [] rest p = refl
-whole_line (b ∷ line) rest p = let no : (b == 10) ≡ false = grind (arith, nat_tests) in rw (no, whole_line line rest p.1) refl
-
-pub whole_plain : (part : List ℕ) → IsPlain part → whole_lines part ≡ []
-whole_plain [] p = refl
-whole_plain (b ∷ part) p = let no : (b == 10) ≡ false = grind (arith, nat_tests) in rw (no, whole_plain part p.1) refl
+pub written_push : (s : State) (n : ℕ) (lines : List (List ℕ)) (line : List ℕ) → written s n (lines ++ line ∷ []) ≡ written s n lines ++ step_writes (state_after s n lines) (n + length lines) line
+written_push s n lines line =
+    let last = numbered (n + length lines) (step (state_after s n lines) (n + length lines) line).replies in
+    written_append s n lines (line ∷ []) ∙ ap (λ v. written s n lines ++ reply_lines v) (append-nil last)

@@ -9,7 +9,7 @@ use Rattle.cs_view.specs.Document.{id_of}
 use Rattle.cs_view.specs.Dataset.{id_cmp, At, stands, with_doc, ascending}
 use Rattle.cs_view.specs.View.{doc}
 use Rattle.cs_view.specs.declared.doc.Doc.{Doc}
-use Rattle.cs_run.specs.Machine.{most_documents}
+use Rattle.cs_docs.specs.Limits.{most_documents}
 use Rattle.cs_run.specs.Gathered.{gathered, AreById}
 use Rattle.cs_run.proofs.Placing.{same, ascending-with_doc}
 

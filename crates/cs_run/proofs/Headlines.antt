@@ -9,11 +9,11 @@ use Rattle.cs_io.specs.Names.{Files, told_bytes, is_open, number_is}
 use Rattle.cs_io.specs.declared.library.Asked.{Asked}
 use Rattle.cs_run.specs.Expected.{begins, script_writes, first_replies, Causes}
 use Rattle.cs_run.specs.Headline.{ToldRun, RunWrites, IsComplete, start, script, script_number, added}
-use Rattle.cs_run.specs.Machine.{State}
+use Rattle.cs_run.specs.State.{State, begun}
 use Rattle.cs_run.specs.Script.{ScriptWrites, ToldWrites, ToldStarts, AsksNamed}
-use Rattle.cs_run.specs.Store.{docs}
+use Rattle.cs_docs.specs.Store.{docs}
 use Rattle.cs_run.specs.Words.{takes_words, data_of, script_of, names_of}
-use Rattle.cs_run.specs.declared.docs.Docs.{Docs}
+use Rattle.cs_docs.specs.declared.docs.Docs.{Docs}
 use Rattle.cs_run.specs.declared.status.Status.{Status}
 use Rattle.cs_run.specs.declared.status.Status.TheVariants.{Done, ReadFault, Usage, Data, Input, WriteFault, NoMemory, OpenFault}
 use Rattle.cs_run.proofs.Playing.{front_replies, part_of}
@@ -69,11 +69,11 @@ by_rest st words old new files asked left number s None w n b l h = absurd h
 by_rest st words old new files asked left number s (Some rest) w n b l h = script_run st words old new files asked left number s rest w n b l h
 
 pub told_run : (st : Status) (words : List (List ℕ)) (name : Option (List ℕ)) (old new : Option (List ℕ)) (files : Option Files) (asked : List Asked) (left : ℕ → Option (List ℕ)) (number : ℕ) (d : Docs) → takes_words words ≡ true → name ≡ data_of words → script_number (names_of words) asked ≡ Some number
-    → ToldStarts (Ok d) name files → ToldWrites (record { docs = docs d }) st old new (told_bytes files (script_of words)) (left number) → ToldRun st words old new files asked left
+    → ToldStarts (Ok d) name files → ToldWrites (begun (docs d)) st old new (told_bytes files (script_of words)) (left number) → ToldRun st words old new files asked left
 told_run st words name old new None asked left number d w e n b h = tt
 told_run st words name old new (Some files) asked left number d w e n b h =
-    let begin : start words files ≡ begins (record { docs = docs d }) = subst (λ o. ToldStarts (Ok d) o (Some files)) e b in
-    by_rest st words old new files asked left number (record { docs = docs d }) (left number) w n begin refl h
+    let begin : start words files ≡ begins (begun (docs d)) = subst (λ o. ToldStarts (Ok d) o (Some files)) e b in
+    by_rest st words old new files asked left number (begun (docs d)) (left number) w n begin refl h
 
 complete : (st : Status) (words : List (List ℕ)) (old new : Option (List ℕ)) (files : Files) (asked : List Asked) (left : ℕ → Option (List ℕ)) (opens opens' reads reads' writes writes' : ℕ) → RunWrites st words old new files asked left → Causes st opens opens' reads reads' writes writes'
     → IsComplete st words (Some files) opens opens' reads reads' writes writes'

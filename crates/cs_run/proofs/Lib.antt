@@ -4,6 +4,7 @@ pub mod Folding
 pub mod Gathering
 pub mod Headlines
 pub mod Importing
+pub mod Noting
 pub mod Placing
 pub mod Playing
 pub mod Saying

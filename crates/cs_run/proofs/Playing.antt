@@ -11,15 +11,15 @@ use Rattle.cs_io.specs.declared.lines.LineFault.{LineFault}
 use Rattle.cs_io.specs.declared.lines.LineFault.TheVariants.{Read, TooLong, TooMuch}
 use Rattle.cs_io.specs.Laws.{given_lines}
 use Rattle.std.specs.Io.KnownBytes.{Keeps}
-use Rattle.cs_run.specs.Machine.{State, replies, state_after, step_state, step_reply}
+use Rattle.cs_run.specs.Machine.{written, state_after, step_state, step_writes}
+use Rattle.cs_run.specs.State.{State}
 use Rattle.cs_run.specs.Expected.{feed_status, last_line, script_writes, script_ends, first_replies}
-use Rattle.cs_run.specs.Script.{ScriptWrites, ToldWrites, LineStops, Stated, States}
-use Rattle.std.proofs.Common.{Vec, Global}
-use Rattle.std.specs.Result.{IfOk}
-use Rattle.cs_value.specs.declared.memory.NoMemory as memory
+use Rattle.cs_run.specs.Script.{ScriptWrites, ToldWrites, LineStops, Stated}
 use Rattle.cs_run.specs.declared.status.Status.{Status}
 use Rattle.cs_run.specs.declared.status.Status.TheVariants as status
-use Rattle.cs_run.proofs.Folding.{next_of, state_push, replies_append, replies_push, whole_line, whole_plain}
+use Rattle.cs_reply.specs.Stated.{stated_line, long_line, much, script as script_source}
+use Rattle.cs_io.proofs.Feeds.{given_line, given_told, given_end, given_long, given_much, left_from_rest, texts_more, texts_end, texts_read, whole_line, whole_plain}
+use Rattle.cs_run.proofs.Folding.{next_of, state_push, written_append, written_push}
 
 -- the script is some bytes and the rest, and those are these whole lines
 pub record Cuts (script rest : List ℕ) (lines : List (List ℕ)) : Type 0 where
@@ -48,8 +48,9 @@ appends_both (Some xs) None c p q h k = absurd h
 appends_both (Some xs) (Some ys) None p q h k = absurd k
 appends_both (Some xs) (Some ys) (Some zs) p q h k = k ∙ ap (λ v. v ++ q) h ∙ append_assoc xs p q
 
-pub begun : (s0 : State) (script : List ℕ) (old : Option (List ℕ)) (s : State) (r : Reader) → s ≡ s0 → r.given ≡ 0 → r.taken ≡ 0 → r.ahead ≡ [] → Played s0 script old old s r (Some script)
-begun s0 script old s r e g t a = record {
+-- at the beginning
+pub begins : (s0 : State) (script : List ℕ) (old : Option (List ℕ)) (s : State) (r : Reader) → s ≡ s0 → r.given ≡ 0 → r.taken ≡ 0 → r.ahead ≡ [] → Played s0 script old old s r (Some script)
+begins s0 script old s r e g t a = record {
   rest = script;
   rest_is = rw a refl;
   lines = rw (g, t) refl;
@@ -61,90 +62,45 @@ begun s0 script old s r e g t a = record {
   cuts = λ _. record { front = []; script_is = refl; whole = rw g (λ p. refl) };
 }
 
--- what is given, from the bytes from here on, and back
-pub feed_from_rest : (r : Reader) (left : Option (List ℕ)) (y : List ℕ) → rest_at r left ≡ Some y → feed_at r left ≡ Some (feed (r.given + 1) r.taken [] y)
-feed_from_rest r None y e = cc
-feed_from_rest r (Some x) y e = let same : r.ahead ++ x ≡ y = cc in rw same refl
+-- how a run has ended, and what is left of its script
+pub record Ends (s0 : State) (st : Status) (script : List ℕ) (old new left : Option (List ℕ)) : Type 0 where
+  pub rest : List ℕ
+  pub rest_is : left ≡ Some rest
+  pub writes : ScriptWrites s0 st old new script rest
 
-rest_from_feed : (r : Reader) (left : Option (List ℕ)) (g : Feed) → feed_at r left ≡ Some g → (y : List ℕ) × (rest_at r left ≡ Some y) × (g ≡ feed (r.given + 1) r.taken [] y)
-rest_from_feed r None g e = cc
-rest_from_feed r (Some x) g e = (r.ahead ++ x, refl, cc)
-
-left_from_rest : (r : Reader) (left : Option (List ℕ)) (y : List ℕ) → rest_at r left ≡ Some y → (x : List ℕ) × (left ≡ Some x) × (r.ahead ++ x ≡ y)
-left_from_rest r None y e = cc
-left_from_rest r (Some x) y e = (x, refl, cc)
-
-gives_more : (F G : Option Feed) (f : Feed) (l : Line) → Gives (Ok (Some l)) F G → F ≡ Some f → (g : Feed) × (G ≡ Some g) × (f ≡ More l.number l.bytes.items g)
-gives_more None G f l h e = cc
-gives_more (Some k) None f l h e = absurd h
-gives_more (Some k) (Some g) f l h e = (g, refl, cc)
-
-gives_told : (res : Result (Option Line) LineFault) (F G : Option Feed) (f : Feed) → Gives res F G → F ≡ Some f → (g : Feed) × (G ≡ Some g)
-gives_told res None G f h e = cc
-gives_told res (Some k) None f h e = absurd h
-gives_told res (Some k) (Some g) f h e = (g, refl)
-
-gives_end : (F G : Option Feed) (f : Feed) → Gives (Ok None) F G → F ≡ Some f → f ≡ End
-gives_end None G f h e = cc
-gives_end (Some k) None f h e = absurd h
-gives_end (Some k) (Some g) f h e = let over = h.0 in cc
-
-pub gives_long : (F G : Option Feed) (f : Feed) (n : ℕ) → Gives (Err (TooLong n)) F G → F ≡ Some f → f ≡ LineTooLong n
-gives_long None G f n h e = cc
-gives_long (Some k) None f n h e = absurd h
-gives_long (Some k) (Some g) f n h e = cc
-
-pub gives_much : (F G : Option Feed) (f : Feed) (n : ℕ) → Gives (Err (TooMuch n)) F G → F ≡ Some f → f ≡ SourceTooMuch n
-gives_much None G f n h e = cc
-gives_much (Some k) None f n h e = absurd h
-gives_much (Some k) (Some g) f n h e = cc
-
-texts_more : (X Y : Option (List ℕ)) (x y : List ℕ) (l : Line) (ended : Bool) → Texts (Ok (Some l)) X Y ended → X ≡ Some x → Y ≡ Some y → ended ≡ false → IsPlain l.bytes.items × (x ≡ l.bytes.items ++ 10 ∷ y)
-texts_more None Y x y l ended h e k s = cc
-texts_more (Some a) None x y l ended h e k s = cc
-texts_more (Some a) (Some b) x y l true h e k s = cc
-texts_more (Some a) (Some b) x y l false h e k s = let text = h.1 in (h.0, cc)
-
-texts_end : (X Y : Option (List ℕ)) (x y : List ℕ) (ended : Bool) → Texts (Ok None) X Y ended → X ≡ Some x → Y ≡ Some y → y ≡ []
-texts_end None Y x y ended h e k = cc
-texts_end (Some a) None x y ended h e k = cc
-texts_end (Some a) (Some b) x y ended h e k = let over = h.1 in cc
-
-texts_read : (X Y : Option (List ℕ)) (x y : List ℕ) (ended : Bool) → Texts (Err Read) X Y ended → X ≡ Some x → Y ≡ Some y → (part : List ℕ) × IsPlain part × (x ≡ part ++ y)
-texts_read None Y x y ended h e k = cc
-texts_read (Some a) None x y ended h e k = cc
-texts_read (Some a) (Some b) x y ended h e k = let text = h.2 in (h.0, h.1, cc)
-
-pub told_writes : (s0 : State) (st : Status) (old new left0 left1 : Option (List ℕ)) → ((script : List ℕ) → left0 ≡ Some script → (x : List ℕ) × (left1 ≡ Some x) × ScriptWrites s0 st old new script x) → ToldWrites s0 st old new left0 left1
-told_writes s0 st old new None left1 f = tt
-told_writes s0 st old new (Some script) None f = let h = f script refl in let none = h.1 in cc
-told_writes s0 st old new (Some script) (Some z) f =
+told_at : (s0 : State) (st : Status) (old new left0 left1 : Option (List ℕ)) → ((script : List ℕ) → left0 ≡ Some script → Ends s0 st script old new left1) → ToldWrites s0 st old new left0 left1
+told_at s0 st old new None left1 f = tt
+told_at s0 st old new (Some script) None f = let none = (f script refl).rest_is in cc
+told_at s0 st old new (Some script) (Some z) f =
     let h = f script refl in
-    let some = h.1 in
-    let same : h.0 ≡ z = cc in
-    subst (λ v. ScriptWrites s0 st old new script v) same h.2
+    let some = h.rest_is in
+    let same : h.rest ≡ z = cc in
+    subst (λ v. ScriptWrites s0 st old new script v) same h.writes
+
+pub told_writes : {s0 : State} {st : Status} {old new left0 left1 : Option (List ℕ)} → ((script : List ℕ) → left0 ≡ Some script → Ends s0 st script old new left1) → ToldWrites s0 st old new left0 left1
+told_writes {s0} {st} {old} {new} {left0} {left1} f = told_at s0 st old new left0 left1 f
 
 -- nothing more is given: the lines so far are all
 all_given : (k : ℕ) (lines : List (List ℕ)) → drop k lines ≡ [] → take k lines ≡ lines
 all_given k lines e = take_all k lines (omega (arith, ap length e, length-drop k lines))
 
 -- one line more
-more_replies : (s0 : State) (k : ℕ) (s : State) (number : ℕ) (script line : List ℕ) (more : List (List ℕ)) → drop k (given_lines (feed_of script)) ≡ line ∷ more → s ≡ state_after s0 1 (take k (given_lines (feed_of script))) → number ≡ k + 1 → first_replies s0 (suc k) script ≡ first_replies s0 k script ++ step_reply s number line
+more_replies : (s0 : State) (k : ℕ) (s : State) (number : ℕ) (script line : List ℕ) (more : List (List ℕ)) → drop k (given_lines (feed_of script)) ≡ line ∷ more → s ≡ state_after s0 1 (take k (given_lines (feed_of script))) → number ≡ k + 1 → first_replies s0 (suc k) script ≡ first_replies s0 k script ++ step_writes s number line
 more_replies s0 k s number script line more e st n =
     let nx = next_of k (given_lines (feed_of script)) line more e in
     let count : 1 + length (take k (given_lines (feed_of script))) ≡ number = omega (arith, nx.front) in
     let front = take k (given_lines (feed_of script)) in
-    ap (λ v. replies s0 1 v) nx.taken ∙ replies_push s0 1 front line
-    ∙ ap (λ m. replies s0 1 front ++ step_reply (state_after s0 1 front) m line) count
-    ∙ ap (λ v. replies s0 1 front ++ step_reply v number line) (sym st)
+    ap (λ v. written s0 1 v) nx.taken ∙ written_push s0 1 front line
+    ∙ ap (λ m. written s0 1 front ++ step_writes (state_after s0 1 front) m line) count
+    ∙ ap (λ v. written s0 1 front ++ step_writes v number line) (sym st)
 
 -- the first replies stand at the front of what the script writes
 pub front_replies : (s0 : State) (k : ℕ) (script : List ℕ) → (more : List ℕ) × (script_writes s0 script ≡ first_replies s0 k script ++ more)
 front_replies s0 k script =
     let lines = given_lines (feed_of script) in
-    let front = replies s0 1 (take k lines) in
-    let back = replies (state_after s0 1 (take k lines)) (1 + length (take k lines)) (drop k lines) in
-    let parts : replies s0 1 lines ≡ front ++ back = ap (λ v. replies s0 1 v) (sym (take-append-drop k lines)) ∙ replies_append s0 1 (take k lines) (drop k lines) in
+    let front = written s0 1 (take k lines) in
+    let back = written (state_after s0 1 (take k lines)) (1 + length (take k lines)) (drop k lines) in
+    let parts : written s0 1 lines ≡ front ++ back = ap (λ v. written s0 1 v) (sym (take-append-drop k lines)) ∙ written_append s0 1 (take k lines) (drop k lines) in
     (back ++ last_line (feed_of script), ap (λ v. v ++ last_line (feed_of script)) parts ∙ append_assoc front back (last_line (feed_of script)))
 
 -- what was added is at the front of all that is due
@@ -180,35 +136,6 @@ not_ended_at true r (Some x) y n line g b i e f =
     let end = rw empty at f in
     cc
 
-pub went : (s0 : State) (script : List ℕ) (old now now' : Option (List ℕ)) (state state' : State) (r r' : Reader) (left left' : Option (List ℕ)) (l : Line) → Played s0 script old now state r left → InStep r left → Gives (Ok (Some l)) (feed_at r left) (feed_at r' left') → Texts (Ok (Some l)) (rest_at r left) (rest_at r' left') r'.ended → l.number ≡ r.given + 1 → r'.given ≡ l.number → state' ≡ step_state state l.number l.bytes.items → Appends now now' (step_reply state l.number l.bytes.items) → Played s0 script old now' state' r' left'
-went s0 script old now now' state state' r r' left left' l p i gives texts number count st wrote =
-    let m = gives_more (feed_at r left) (feed_at r' left') (feed (r.given + 1) r.taken [] p.rest) l gives (feed_from_rest r left p.rest p.rest_is) in
-    let z = rest_from_feed r' left' m.0 m.1 in
-    let drops : drop r.given (given_lines (feed_of script)) ≡ l.bytes.items ∷ given_lines m.0 = p.lines ∙ ap given_lines m.2 in
-    let nx = next_of r.given (given_lines (feed_of script)) l.bytes.items (given_lines m.0) drops in
-    let given : r'.given ≡ suc r.given = omega arith in
-    let at : 1 + length (take r.given (given_lines (feed_of script))) ≡ l.number = omega (arith, nx.front) in
-    let taken : take r'.given (given_lines (feed_of script)) ≡ take r.given (given_lines (feed_of script)) ++ l.bytes.items ∷ [] = rw given nx.taken in
-    record {
-      rest = z.0;
-      rest_is = z.1;
-      lines = ap (λ k. drop k (given_lines (feed_of script))) given ∙ nx.left ∙ ap given_lines z.2;
-      within = omega (arith, nx.within);
-      ends = p.ends ∙ ap feed_status m.2 ∙ ap feed_status z.2;
-      last = p.last ∙ ap last_line m.2 ∙ ap last_line z.2;
-      state_is = st ∙ ap (λ s. step_state s l.number l.bytes.items) p.state_is ∙ ap (λ m. step_state (state_after s0 1 (take r.given (given_lines (feed_of script)))) m l.bytes.items) (sym at) ∙ sym (state_push s0 1 (take r.given (given_lines (feed_of script))) l.bytes.items) ∙ ap (λ v. state_after s0 1 v) (sym taken);
-      wrote = subst (λ v. Appends old now' v) (sym (ap (λ k. first_replies s0 k script) given ∙ more_replies s0 r.given state l.number script l.bytes.items (given_lines m.0) drops p.state_is number)) (appends_both old now now' (first_replies s0 r.given script) (step_reply state l.number l.bytes.items) p.wrote wrote);
-      cuts = λ going.
-          let was = not_ended_at r.ended r left p.rest l.number l.bytes.items m.0 refl i p.rest_is m.2 in
-          let text = texts_more (rest_at r left) (rest_at r' left') p.rest z.0 l r'.ended texts p.rest_is z.1 going in
-          let cut = p.cuts was in
-          record {
-            front = cut.front ++ l.bytes.items ++ 10 ∷ [];
-            script_is = cut.script_is ∙ ap (λ v. cut.front ++ v) text.1 ∙ seam cut.front l.bytes.items z.0;
-            whole = λ q. ap whole_lines (sym (seam cut.front l.bytes.items q)) ∙ cut.whole (l.bytes.items ++ 10 ∷ q) ∙ ap (λ v. take r.given (given_lines (feed_of script)) ++ v) (whole_line l.bytes.items q text.0) ∙ sym (append_assoc (take r.given (given_lines (feed_of script))) (l.bytes.items ∷ []) (whole_lines q)) ∙ ap (λ v. v ++ whole_lines q) (sym taken);
-          };
-    }
-
 no_back : (a b : List ℕ) → a ++ b ≡ [] → b ≡ []
 no_back [] b e = e
 no_back (y ∷ a) b e = cc
@@ -229,94 +156,124 @@ input_writes s0 status.Usage line script old now now' k x within a due ends h = 
 input_writes s0 status.Data line script old now now' k x within a due ends h = let w = h.whole (λ e. cc) (λ e. cc) in let no = w.0 in cc
 input_writes s0 status.OpenFault line script old now now' k x within a due ends h = let w = h.whole (λ e. cc) (λ e. cc) in let no = w.0 in cc
 
--- the ends of a run
-pub stop_memory : (s0 : State) (res : Result (Option Line) LineFault) (script : List ℕ) (old now : Option (List ℕ)) (state : State) (r r' : Reader) (left left' : Option (List ℕ)) → Played s0 script old now state r left → Gives res (feed_at r left) (feed_at r' left') → (x : List ℕ) × (left' ≡ Some x) × ScriptWrites s0 status.NoMemory old now script x
-stop_memory s0 res script old now state r r' left left' p gives =
-    let g = gives_told res (feed_at r left) (feed_at r' left') (feed (r.given + 1) r.taken [] p.rest) gives (feed_from_rest r left p.rest p.rest_is) in
-    let z = rest_from_feed r' left' g.0 g.1 in
-    let x = left_from_rest r' left' z.0 z.1 in
-    (x.0, x.1, (r.given, p.within, p.wrote))
-
-pub stop_done : (s0 : State) (script : List ℕ) (old now : Option (List ℕ)) (state : State) (r r' : Reader) (left left' : Option (List ℕ)) → Played s0 script old now state r left → Gives (Ok None) (feed_at r left) (feed_at r' left') → Texts (Ok None) (rest_at r left) (rest_at r' left') r'.ended → (x : List ℕ) × (left' ≡ Some x) × ScriptWrites s0 status.Done old now script x
-stop_done s0 script old now state r r' left left' p gives texts =
-    let some = feed_from_rest r left p.rest p.rest_is in
-    let g = gives_told (Ok None) (feed_at r left) (feed_at r' left') (feed (r.given + 1) r.taken [] p.rest) gives some in
-    let end = gives_end (feed_at r left) (feed_at r' left') (feed (r.given + 1) r.taken [] p.rest) gives some in
-    let z = rest_from_feed r' left' g.0 g.1 in
-    let x = left_from_rest r' left' z.0 z.1 in
-    let none = texts_end (rest_at r left) (rest_at r' left') p.rest z.0 r'.ended texts p.rest_is z.1 in
-    let all = all_given r.given (given_lines (feed_of script)) (p.lines ∙ ap given_lines end) in
-    let due : script_writes s0 script ≡ first_replies s0 r.given script = ap (λ v. replies s0 1 (given_lines (feed_of script)) ++ v) (p.last ∙ ap last_line end) ∙ append-nil (replies s0 1 (given_lines (feed_of script))) ∙ ap (λ v. replies s0 1 v) (sym all) in
-    let empty : r'.ahead ++ x.0 ≡ [] = x.2 ∙ none in
-    (x.0, x.1, (p.ends ∙ ap feed_status end, subst (λ v. Appends old now v) (sym due) p.wrote, no_back r'.ahead x.0 empty))
-
-pub stop_read : (s0 : State) (script : List ℕ) (old now : Option (List ℕ)) (state : State) (r r' : Reader) (left left' : Option (List ℕ)) → Played s0 script old now state r left → Gives (Err Read) (feed_at r left) (feed_at r' left') → Texts (Err Read) (rest_at r left) (rest_at r' left') r'.ended → r.ended ≡ false → r'.ahead ≡ [] → (x : List ℕ) × (left' ≡ Some x) × ScriptWrites s0 status.ReadFault old now script x
-stop_read s0 script old now state r r' left left' p gives texts going drained =
-    let g = gives_told (Err Read) (feed_at r left) (feed_at r' left') (feed (r.given + 1) r.taken [] p.rest) gives (feed_from_rest r left p.rest p.rest_is) in
-    let z = rest_from_feed r' left' g.0 g.1 in
-    let x = left_from_rest r' left' z.0 z.1 in
-    let text = texts_read (rest_at r left) (rest_at r' left') p.rest z.0 r'.ended texts p.rest_is z.1 in
-    let cut = p.cuts going in
-    let left_is : z.0 ≡ x.0 = sym x.2 ∙ ap (λ v. v ++ x.0) drained in
-    let whole : script ≡ (cut.front ++ text.0) ++ x.0 = cut.script_is ∙ ap (λ v. cut.front ++ v) (text.2 ∙ ap (λ v. text.0 ++ v) left_is) ∙ sym (append_assoc cut.front text.0 x.0) in
-    let taken : take (length script - length x.0) script ≡ cut.front ++ text.0 = front_is script (cut.front ++ text.0) x.0 whole in
-    let lines : whole_lines (take (length script - length x.0) script) ≡ take r.given (given_lines (feed_of script)) = ap whole_lines taken ∙ cut.whole text.0 ∙ ap (λ v. take r.given (given_lines (feed_of script)) ++ v) (whole_plain text.0 text.1) ∙ append-nil (take r.given (given_lines (feed_of script))) in
-    (x.0, x.1, subst (λ v. Appends old now (replies s0 1 v)) (sym lines) p.wrote)
-
--- what is written behind all replies
-pub stop_input : (s0 : State) (f : Feed) (res : Result (Option Line) LineFault) (st : Status) (line : List ℕ) (script : List ℕ) (old now now' : Option (List ℕ)) (state : State) (r r' : Reader) (left left' : Option (List ℕ)) (p : Played s0 script old now state r left) → Gives res (feed_at r left) (feed_at r' left') → feed (r.given + 1) r.taken [] p.rest ≡ f → given_lines f ≡ [] → last_line f ≡ line → feed_status f ≡ status.Input → Stated st status.Input line now now' → (x : List ℕ) × (left' ≡ Some x) × ScriptWrites s0 st old now' script x
-stop_input s0 f res st line script old now now' state r r' left left' p gives is none last ends stated =
-    let g = gives_told res (feed_at r left) (feed_at r' left') (feed (r.given + 1) r.taken [] p.rest) gives (feed_from_rest r left p.rest p.rest_is) in
-    let z = rest_from_feed r' left' g.0 g.1 in
-    let x = left_from_rest r' left' z.0 z.1 in
-    let all = all_given r.given (given_lines (feed_of script)) (p.lines ∙ ap given_lines is ∙ none) in
-    let due : script_writes s0 script ≡ first_replies s0 r.given script ++ line = ap (λ v. replies s0 1 (given_lines (feed_of script)) ++ v) (p.last ∙ ap last_line is ∙ last) ∙ ap (λ v. replies s0 1 v ++ line) (sym all) in
-    (x.0, x.1, input_writes s0 st line script old now now' r.given x.0 p.within p.wrote due (p.ends ∙ ap feed_status is ∙ ends) stated)
-
-pub stop_write : (s0 : State) (script : List ℕ) (old now now' : Option (List ℕ)) (state : State) (r r' : Reader) (left left' : Option (List ℕ)) (l : Line) → Played s0 script old now state r left → Gives (Ok (Some l)) (feed_at r left) (feed_at r' left') → l.number ≡ r.given + 1 → AppendsPartOf now now' (step_reply state l.number l.bytes.items) → (x : List ℕ) × (left' ≡ Some x) × ScriptWrites s0 status.WriteFault old now' script x
-stop_write s0 script old now now' state r r' left left' l p gives number part =
-    let m = gives_more (feed_at r left) (feed_at r' left') (feed (r.given + 1) r.taken [] p.rest) l gives (feed_from_rest r left p.rest p.rest_is) in
-    let z = rest_from_feed r' left' m.0 m.1 in
-    let x = left_from_rest r' left' z.0 z.1 in
-    let drops : drop r.given (given_lines (feed_of script)) ≡ l.bytes.items ∷ given_lines m.0 = p.lines ∙ ap given_lines m.2 in
-    let front = front_replies s0 (suc r.given) script in
-    let due : script_writes s0 script ≡ first_replies s0 r.given script ++ step_reply state l.number l.bytes.items ++ front.0 = front.1 ∙ ap (λ v. v ++ front.0) (more_replies s0 r.given state l.number script l.bytes.items (given_lines m.0) drops p.state_is number) in
-    (x.0, x.1, part_of old now now' (first_replies s0 r.given script) (step_reply state l.number l.bytes.items) front.0 (script_writes s0 script) p.wrote part due)
-
 kept_bytes : (old now now' : Option (List ℕ)) (p : List ℕ) → Appends old now p → Keeps now now' → Appends old now' p
 kept_bytes None now now' p h k = tt
 kept_bytes (Some xs) None now' p h k = absurd h
 kept_bytes (Some xs) (Some ys) None p h k = absurd k
 kept_bytes (Some xs) (Some ys) (Some zs) p h k = k ∙ h
 
--- a line could not be run to its end
-pub stop_line : (s0 : State) (st : Status) (script : List ℕ) (old now now' : Option (List ℕ)) (state : State) (r r' : Reader) (left left' : Option (List ℕ)) (l : Line) → Played s0 script old now state r left → Gives (Ok (Some l)) (feed_at r left) (feed_at r' left') → l.number ≡ r.given + 1 → LineStops st now now' (step_reply state l.number l.bytes.items) → (x : List ℕ) × (left' ≡ Some x) × ScriptWrites s0 st old now' script x
-stop_line s0 status.WriteFault script old now now' state r r' left left' l p gives number h = stop_write s0 script old now now' state r r' left left' l p gives number h
-stop_line s0 status.NoMemory script old now now' state r r' left left' l p gives number h =
-    let m = gives_more (feed_at r left) (feed_at r' left') (feed (r.given + 1) r.taken [] p.rest) l gives (feed_from_rest r left p.rest p.rest_is) in
-    let z = rest_from_feed r' left' m.0 m.1 in
+-- an answer of a reader, and the bytes that it took
+pub record Answer (res : Result (Option Line) LineFault) (r r' : Reader) (left left' : Option (List ℕ)) : Type 0 where
+  pub gives : Gives res (feed_at r left) (feed_at r' left')
+  pub texts : Texts res (rest_at r left) (rest_at r' left') r'.ended
+
+-- a run that has come so far, and the next answer of its reader
+module _ {s0 : State} {script : List ℕ} {old now : Option (List ℕ)} {state : State} {r r' : Reader} {left left' : Option (List ℕ)} {res : Result (Option Line) LineFault} (p : Played s0 script old now state r left) (a : Answer res r r' left left') where
+  pub stop_memory : Ends s0 status.NoMemory script old now left'
+  stop_memory =
+      let z = given_told r r' left left' p.rest p.rest_is res a.gives in
+      let x = left_from_rest r' left' z.0 z.1 in
+      record { rest = x.0; rest_is = x.1; writes = (r.given, p.within, p.wrote) }
+
+  -- what is written behind all replies
+  stop_input : (f : Feed) (st : Status) (line : List ℕ) (now' : Option (List ℕ)) → feed (r.given + 1) r.taken [] p.rest ≡ f → given_lines f ≡ [] → last_line f ≡ line → feed_status f ≡ status.Input → Stated st status.Input line now now' → Ends s0 st script old now' left'
+  stop_input f st line now' is none last ends stated =
+      let z = given_told r r' left left' p.rest p.rest_is res a.gives in
+      let x = left_from_rest r' left' z.0 z.1 in
+      let all = all_given r.given (given_lines (feed_of script)) (p.lines ∙ ap given_lines is ∙ none) in
+      let due : script_writes s0 script ≡ first_replies s0 r.given script ++ line = ap (λ v. written s0 1 (given_lines (feed_of script)) ++ v) (p.last ∙ ap last_line is ∙ last) ∙ ap (λ v. written s0 1 v ++ line) (sym all) in
+      record { rest = x.0; rest_is = x.1; writes = input_writes s0 st line script old now now' r.given x.0 p.within p.wrote due (p.ends ∙ ap feed_status is ∙ ends) stated }
+
+-- where a line, or the script, is too long
+pub stop_long : {s0 : State} {script : List ℕ} {old now now' : Option (List ℕ)} {state : State} {r r' : Reader} {left left' : Option (List ℕ)} {n : ℕ} {st : Status} → Played s0 script old now state r left → Answer (Err (TooLong n)) r r' left left' → Stated st status.Input (stated_line (long_line script_source n)) now now' → Ends s0 st script old now' left'
+stop_long {s0} {script} {old} {now} {now'} {state} {r} {r'} {left} {left'} {n} {st} p a stated =
+    stop_input p a (LineTooLong n) st (stated_line (long_line script_source n)) now' (given_long r r' left left' p.rest p.rest_is n a.gives) refl refl refl stated
+
+pub stop_much : {s0 : State} {script : List ℕ} {old now now' : Option (List ℕ)} {state : State} {r r' : Reader} {left left' : Option (List ℕ)} {n : ℕ} {st : Status} → Played s0 script old now state r left → Answer (Err (TooMuch n)) r r' left left' → Stated st status.Input (stated_line (much script_source n)) now now' → Ends s0 st script old now' left'
+stop_much {s0} {script} {old} {now} {now'} {state} {r} {r'} {left} {left'} {n} {st} p a stated =
+    stop_input p a (SourceTooMuch n) st (stated_line (much script_source n)) now' (given_much r r' left left' p.rest p.rest_is n a.gives) refl refl refl stated
+
+-- where the answer is the end
+pub stop_done : {s0 : State} {script : List ℕ} {old now : Option (List ℕ)} {state : State} {r r' : Reader} {left left' : Option (List ℕ)} → Played s0 script old now state r left → Answer (Ok None) r r' left left' → Ends s0 status.Done script old now left'
+stop_done {s0} {script} {old} {now} {state} {r} {r'} {left} {left'} p a =
+    let end = given_end r r' left left' p.rest p.rest_is a.gives in
+    let z = given_told r r' left left' p.rest p.rest_is (Ok None) a.gives in
     let x = left_from_rest r' left' z.0 z.1 in
-    (x.0, x.1, (r.given, p.within, kept_bytes old now now' (first_replies s0 r.given script) p.wrote h))
-stop_line s0 status.Done script old now now' state r r' left left' l p gives number h = absurd h
-stop_line s0 status.Usage script old now now' state r r' left left' l p gives number h = absurd h
-stop_line s0 status.Data script old now now' state r r' left left' l p gives number h = absurd h
-stop_line s0 status.Input script old now now' state r r' left left' l p gives number h = absurd h
-stop_line s0 status.ReadFault script old now now' state r r' left left' l p gives number h = absurd h
-stop_line s0 status.OpenFault script old now now' state r r' left left' l p gives number h = absurd h
+    let none = texts_end (rest_at r left) (rest_at r' left') p.rest z.0 r'.ended a.texts p.rest_is z.1 in
+    let all = all_given r.given (given_lines (feed_of script)) (p.lines ∙ ap given_lines end) in
+    let due : script_writes s0 script ≡ first_replies s0 r.given script = ap (λ v. written s0 1 (given_lines (feed_of script)) ++ v) (p.last ∙ ap last_line end) ∙ append-nil (written s0 1 (given_lines (feed_of script))) ∙ ap (λ v. written s0 1 v) (sym all) in
+    let empty : r'.ahead ++ x.0 ≡ [] = x.2 ∙ none in
+    record { rest = x.0; rest_is = x.1; writes = (p.ends ∙ ap feed_status end, subst (λ v. Appends old now v) (sym due) p.wrote, no_back r'.ahead x.0 empty) }
+
+-- where a read failed
+pub stop_read : {s0 : State} {script : List ℕ} {old now : Option (List ℕ)} {state : State} {r r' : Reader} {left left' : Option (List ℕ)} → Played s0 script old now state r left → Answer (Err Read) r r' left left' → r.ended ≡ false → r'.ahead ≡ [] → Ends s0 status.ReadFault script old now left'
+stop_read {s0} {script} {old} {now} {state} {r} {r'} {left} {left'} p a going drained =
+    let z = given_told r r' left left' p.rest p.rest_is (Err Read) a.gives in
+    let x = left_from_rest r' left' z.0 z.1 in
+    let text = texts_read (rest_at r left) (rest_at r' left') p.rest z.0 r'.ended a.texts p.rest_is z.1 in
+    let cut = p.cuts going in
+    let left_is : z.0 ≡ x.0 = sym x.2 ∙ ap (λ v. v ++ x.0) drained in
+    let whole : script ≡ (cut.front ++ text.0) ++ x.0 = cut.script_is ∙ ap (λ v. cut.front ++ v) (text.2 ∙ ap (λ v. text.0 ++ v) left_is) ∙ sym (append_assoc cut.front text.0 x.0) in
+    let taken : take (length script - length x.0) script ≡ cut.front ++ text.0 = front_is script (cut.front ++ text.0) x.0 whole in
+    let lines : whole_lines (take (length script - length x.0) script) ≡ take r.given (given_lines (feed_of script)) = ap whole_lines taken ∙ cut.whole text.0 ∙ ap (λ v. take r.given (given_lines (feed_of script)) ++ v) (whole_plain text.0 text.1) ∙ append-nil (take r.given (given_lines (feed_of script))) in
+    record { rest = x.0; rest_is = x.1; writes = subst (λ v. Appends old now (written s0 1 v)) (sym lines) p.wrote }
+
+-- where the answer is one line more
+module _ {s0 : State} {script : List ℕ} {old now : Option (List ℕ)} {state : State} {r r' : Reader} {left left' : Option (List ℕ)} {l : Line} (p : Played s0 script old now state r left) (a : Answer (Ok (Some l)) r r' left left') (number : l.number ≡ r.given + 1) where
+  -- it is run to its end
+  pub went : {now' : Option (List ℕ)} {state' : State} → InStep r left → r'.given ≡ l.number → state' ≡ step_state state l.number l.bytes.items → Appends now now' (step_writes state l.number l.bytes.items) → Played s0 script old now' state' r' left'
+  went {now'} {state'} i count st wrote =
+      let z = given_line r r' left left' p.rest p.rest_is l a.gives in
+      let rest_lines = given_lines (feed (r'.given + 1) r'.taken [] z.0) in
+      let drops : drop r.given (given_lines (feed_of script)) ≡ l.bytes.items ∷ rest_lines = p.lines ∙ ap given_lines z.2 in
+      let nx = next_of r.given (given_lines (feed_of script)) l.bytes.items rest_lines drops in
+      let given : r'.given ≡ suc r.given = omega (arith, number, count) in
+      let at : 1 + length (take r.given (given_lines (feed_of script))) ≡ l.number = omega (arith, nx.front, number) in
+      let taken : take r'.given (given_lines (feed_of script)) ≡ take r.given (given_lines (feed_of script)) ++ l.bytes.items ∷ [] = rw given nx.taken in
+      record {
+        rest = z.0;
+        rest_is = z.1;
+        lines = ap (λ k. drop k (given_lines (feed_of script))) given ∙ nx.left;
+        within = omega (arith, nx.within, given);
+        ends = p.ends ∙ ap feed_status z.2;
+        last = p.last ∙ ap last_line z.2;
+        state_is = st ∙ ap (λ s. step_state s l.number l.bytes.items) p.state_is ∙ ap (λ m. step_state (state_after s0 1 (take r.given (given_lines (feed_of script)))) m l.bytes.items) (sym at) ∙ sym (state_push s0 1 (take r.given (given_lines (feed_of script))) l.bytes.items) ∙ ap (λ v. state_after s0 1 v) (sym taken);
+        wrote = subst (λ v. Appends old now' v) (sym (ap (λ k. first_replies s0 k script) given ∙ more_replies s0 r.given state l.number script l.bytes.items rest_lines drops p.state_is number)) (appends_both old now now' (first_replies s0 r.given script) (step_writes state l.number l.bytes.items) p.wrote wrote);
+        cuts = λ going.
+            let was = not_ended_at r.ended r left p.rest l.number l.bytes.items (feed (r'.given + 1) r'.taken [] z.0) refl i p.rest_is z.2 in
+            let text = texts_more (rest_at r left) (rest_at r' left') p.rest z.0 l r'.ended a.texts p.rest_is z.1 going in
+            let cut = p.cuts was in
+            record {
+              front = cut.front ++ l.bytes.items ++ 10 ∷ [];
+              script_is = cut.script_is ∙ ap (λ v. cut.front ++ v) text.1 ∙ seam cut.front l.bytes.items z.0;
+              whole = λ q. ap whole_lines (sym (seam cut.front l.bytes.items q)) ∙ cut.whole (l.bytes.items ++ 10 ∷ q) ∙ ap (λ v. take r.given (given_lines (feed_of script)) ++ v) (whole_line l.bytes.items q text.0) ∙ sym (append_assoc (take r.given (given_lines (feed_of script))) (l.bytes.items ∷ []) (whole_lines q)) ∙ ap (λ v. v ++ whole_lines q) (sym taken);
+            };
+      }
+
+  stop_write : (now' : Option (List ℕ)) → AppendsPartOf now now' (step_writes state l.number l.bytes.items) → Ends s0 status.WriteFault script old now' left'
+  stop_write now' part =
+      let z = given_line r r' left left' p.rest p.rest_is l a.gives in
+      let x = left_from_rest r' left' z.0 z.1 in
+      let rest_lines = given_lines (feed (r'.given + 1) r'.taken [] z.0) in
+      let drops : drop r.given (given_lines (feed_of script)) ≡ l.bytes.items ∷ rest_lines = p.lines ∙ ap given_lines z.2 in
+      let front = front_replies s0 (suc r.given) script in
+      let due : script_writes s0 script ≡ first_replies s0 r.given script ++ step_writes state l.number l.bytes.items ++ front.0 = front.1 ∙ ap (λ v. v ++ front.0) (more_replies s0 r.given state l.number script l.bytes.items rest_lines drops p.state_is number) in
+      record { rest = x.0; rest_is = x.1; writes = part_of old now now' (first_replies s0 r.given script) (step_writes state l.number l.bytes.items) front.0 (script_writes s0 script) p.wrote part due }
+
+  -- it could not be run to its end
+  pub stop_line : (st : Status) (now' : Option (List ℕ)) → LineStops st now now' (step_writes state l.number l.bytes.items) → Ends s0 st script old now' left'
+  stop_line status.WriteFault now' h = stop_write now' h
+  stop_line status.NoMemory now' h =
+      let z = given_line r r' left left' p.rest p.rest_is l a.gives in
+      let x = left_from_rest r' left' z.0 z.1 in
+      record { rest = x.0; rest_is = x.1; writes = (r.given, p.within, kept_bytes old now now' (first_replies s0 r.given script) p.wrote h) }
+  stop_line status.Done now' h = absurd h
+  stop_line status.Usage now' h = absurd h
+  stop_line status.Data now' h = absurd h
+  stop_line status.Input now' h = absurd h
+  stop_line status.ReadFault now' h = absurd h
+  stop_line status.OpenFault now' h = absurd h
 
 -- the script could not be begun
 pub none_played : (s0 : State) (script : List ℕ) (old : Option (List ℕ)) → ScriptWrites s0 status.NoMemory old old script script
 none_played s0 script old = (0, omega arith, appends_none old)
-
-part_none : (old new : Option (List ℕ)) (line : List ℕ) → Appends old new [] → AppendsPartOf old new line
-part_none None new line h = tt
-part_none (Some xs) None line h = absurd h
-part_none (Some xs) (Some ys) line h =
-    let same : ys ≡ xs = h ∙ append-nil xs in
-    let none : length ys - length xs ≡ 0 = omega (arith, ap length same) in
-    rw none (same ∙ sym (append-nil xs))
-
--- what stands of a stated line that memory may have been short for
-pub stated_of : (st given : Status) (line : Result (Vec ℕ Global) memory.NoMemory) (old new : Option (List ℕ)) (due : List ℕ) → IfOk line (λ b. b.items ≡ due) → States st given line old new → Stated st given due old new
-stated_of st given (Ok line) old new due is h = subst (λ v. Stated st given v old new) is h
-stated_of st given (Err e) old new due is h = record { whole = λ ne no. absurd (no h.0); part = part_none old new due h.1; none = λ e. h.1 }

@@ -1,7 +1,14 @@
 -- What contracts see of the machine.
-use Rattle.cs_run.specs.Machine.{State}
-use Rattle.cs_run.specs.Store.{docs}
+use Rattle.std.specs.Prelude.{ℕ, List, [], Bool}
+use Rattle.std.specs.BTreeSet.{contains_text}
+use Rattle.cs_value.specs.Tree.{Tree}
+use Rattle.cs_docs.specs.Store.{docs}
+use Rattle.cs_run.specs.State.{State, first_moment}
 use Rattle.cs_run.specs.declared.machine.Core.{Core}
 
+-- stand-in: a state without live queries and listeners, at the first moment
+abbrev pub seen : List Tree → (List ℕ → Bool) → State
+seen documents is_used = record { docs = documents; moment = first_moment; is_used = is_used; lives = []; listeners = [] }
+
 abbrev pub state : Core → State
-state c = record { docs = docs c.docs }
+state c = seen (docs c.docs) (contains_text c.used)

@@ -5,19 +5,12 @@ use Rattle.cs_io.specs.Lines.{Feed, End, LineTooLong, SourceTooMuch, More, feed_
 use Rattle.cs_json.specs.Reading.{Outcome, not_json, too_deep, not_whole, value, outcome}
 use Rattle.cs_view.specs.Document.{is_body, has_text, id_of, deepest_document}
 use Rattle.cs_view.specs.Dataset.{stands, with_doc}
+use Rattle.cs_docs.specs.Limits.{most_documents}
+use Rattle.cs_reply.specs.Stated.{Cause, no_json, deep, fraction, no_document, repeated, full, Stop, long_line, much, bad, dangling, data_file}
 use Rattle.cs_run.specs.Command.{is_blank}
 use Rattle.cs_run.specs.Install.{with_text}
-use Rattle.cs_run.specs.Machine.{first_moment, most_documents}
+use Rattle.cs_run.specs.State.{first_moment}
 use Rattle.cs_run.specs.References.{first_dangling}
-
--- why a line of a data file is refused
-pub data Cause : Type 0 where
-  no_json : Cause
-  deep : Cause
-  fraction : Cause
-  no_document : Cause
-  repeated : List ℕ → Cause
-  full : Cause
 
 -- an attribute that is no text becomes this one
 abbrev pub with_default : List ℕ → List ℕ → Tree → Tree
@@ -50,29 +43,26 @@ of_outcome docs (value t) = of_body docs t
 unfoldable pub said : List Tree → List ℕ → Said
 said docs line = cond (is_blank line) nothing (of_outcome docs (outcome deepest_document line))
 
--- how the reading of a data file ends
+-- how the reading of a data file ends: with a dataset, or it is stopped
 pub data Loaded : Type 0 where
   dataset : List Tree → Loaded
-  long_line : ℕ → Loaded
-  much : ℕ → Loaded
-  bad : ℕ → Cause → Loaded
-  dangling : List ℕ → List ℕ → Loaded
+  stopped : Stop → Loaded
 
 abbrev pub of_references : List Tree → Option (List ℕ × List ℕ) → Loaded
 of_references docs None = dataset docs
-of_references docs (Some pair) = dangling pair.0 pair.1
+of_references docs (Some pair) = stopped (dangling pair.0 pair.1)
 
 -- the reading goes on with the documents so far and one line more
 abbrev pub after_said : Said → (List Tree → Loaded) → List Tree → ℕ → Loaded
 after_said nothing next docs n = next docs
 after_said (a_document d) next docs n = next (with_doc d docs)
-after_said (refused cause) next docs n = bad n cause
+after_said (refused cause) next docs n = stopped (bad n cause)
 
 -- what the documents so far and the lines to come make
 abbrev pub loaded_from : Feed → List Tree → Loaded
 loaded_from End docs = of_references docs (first_dangling docs)
-loaded_from (LineTooLong n) docs = long_line n
-loaded_from (SourceTooMuch n) docs = much n
+loaded_from (LineTooLong n) docs = stopped (long_line data_file n)
+loaded_from (SourceTooMuch n) docs = stopped (much data_file n)
 loaded_from (More n line rest) docs = after_said (said docs line) (loaded_from rest) docs n
 
 -- the outcome of a data file's bytes

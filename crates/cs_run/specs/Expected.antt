@@ -1,29 +1,21 @@
 -- What a data file and a script have the program write, and how the run ends: this project's profile.
-use Rattle.std.specs.Prelude.{◌≡◌, ℕ, ◌≤◌, List, [], ◌++◌, length, take, Option, codes}
+use Rattle.std.specs.Prelude.{◌≡◌, ℕ, ◌≤◌, List, [], ◌++◌, length, take, Option}
 use Rattle.std.specs.Io.KnownBytes.{Appends}
-use Rattle.cs_value.specs.Tree.{Tree}
 use Rattle.cs_io.specs.Causes.{Rose}
 use Rattle.cs_io.specs.Laws.{given_lines}
 use Rattle.cs_io.specs.Lines.{Feed, End, LineTooLong, SourceTooMuch, More, feed_of}
-use Rattle.cs_run.specs.DataFile.{Cause, no_json, deep, fraction, no_document, repeated, full, Loaded, dataset, long_line, much, bad, dangling}
-use Rattle.cs_run.specs.Machine.{State, replies}
-use Rattle.cs_run.specs.Replies.{limit_reply, data_reply, repeated_reply, dangling_reply, reply_line}
+use Rattle.cs_reply.specs.Stated.{Stop, long_line, much, bad, dangling, stated_line, script as script_source}
+use Rattle.cs_run.specs.DataFile.{Loaded, dataset, stopped}
+use Rattle.cs_run.specs.Machine.{written}
+use Rattle.cs_run.specs.State.{State, begun}
 use Rattle.cs_run.specs.declared.status.Status.{Status}
 use Rattle.cs_run.specs.declared.status.Status.TheVariants.{Done, ReadFault, Data, Input, WriteFault, OpenFault}
-
-abbrev pub cause_reply : ℕ → Cause → Tree
-cause_reply n no_json = data_reply (codes "not-json") n
-cause_reply n deep = data_reply (codes "too-deep") n
-cause_reply n fraction = data_reply (codes "not-whole") n
-cause_reply n no_document = data_reply (codes "bad-document") n
-cause_reply n (repeated id) = repeated_reply id n
-cause_reply n full = data_reply (codes "full-documents") n
 
 -- what follows the replies to the lines that a script gives
 abbrev pub last_line : Feed → List ℕ
 last_line End = []
-last_line (LineTooLong n) = reply_line (limit_reply (codes "too-long") (codes "script") n)
-last_line (SourceTooMuch n) = reply_line (limit_reply (codes "too-much") (codes "script") n)
+last_line (LineTooLong n) = stated_line (long_line script_source n)
+last_line (SourceTooMuch n) = stated_line (much script_source n)
 last_line (More n line rest) = last_line rest
 
 abbrev pub feed_status : Feed → Status
@@ -34,27 +26,31 @@ feed_status (More n line rest) = feed_status rest
 
 -- what a script has the machine write from a state, and how it ends
 abbrev pub script_writes : State → List ℕ → List ℕ
-script_writes s script = replies s 1 (given_lines (feed_of script)) ++ last_line (feed_of script)
+script_writes s script = written s 1 (given_lines (feed_of script)) ++ last_line (feed_of script)
 
 abbrev pub script_ends : List ℕ → Status
 script_ends script = feed_status (feed_of script)
 
 -- what the first k lines of a script have it write
 abbrev pub first_replies : State → ℕ → List ℕ → List ℕ
-first_replies s k script = replies s 1 (take k (given_lines (feed_of script)))
+first_replies s k script = written s 1 (take k (given_lines (feed_of script)))
 
--- where a run begins: with a state, or it ends before the script with a stated line
+-- how a run ends that something stops: a source is too big, or the data file is refused
+abbrev pub stop_status : Stop → Status
+stop_status (long_line source n) = Input
+stop_status (much source n) = Input
+stop_status (bad n cause) = Data
+stop_status (dangling from to) = Data
+
+-- where a run begins: in a state, or it is stopped before the script
 pub data Start : Type 0 where
   begins : State → Start
-  stops : Status → List ℕ → Start
+  stops : Stop → Start
 
--- the dataset of a data file is the state in which the script begins
+-- the dataset of a data file is that of the state in which the script begins
 abbrev pub start_of : Loaded → Start
-start_of (dataset docs) = begins (record { docs = docs })
-start_of (long_line n) = stops Input (reply_line (limit_reply (codes "too-long") (codes "data") n))
-start_of (much n) = stops Input (reply_line (limit_reply (codes "too-much") (codes "data") n))
-start_of (bad n cause) = stops Data (reply_line (cause_reply n cause))
-start_of (dangling from to) = stops Data (reply_line (dangling_reply from to))
+start_of (dataset docs) = begins (begun docs)
+start_of (stopped stop) = stops stop
 
 -- what was written is the replies to so many of the script's lines
 abbrev pub WroteReplies : State → Option (List ℕ) → Option (List ℕ) → List ℕ → Type 0

@@ -7,8 +7,10 @@ use Rattle.cs_io.specs.Lines.{whole_lines}
 use Rattle.cs_io.specs.Names.{Files, file_bytes}
 use Rattle.cs_io.specs.declared.library.Asked.{Asked}
 use Rattle.cs_run.specs.DataFile.{loaded}
-use Rattle.cs_run.specs.Expected.{script_writes, script_ends, Start, begins, stops, start_of, WroteReplies}
-use Rattle.cs_run.specs.Machine.{first_state, replies}
+use Rattle.cs_reply.specs.Stated.{stated_line}
+use Rattle.cs_run.specs.Expected.{script_writes, script_ends, Start, begins, stops, start_of, stop_status, WroteReplies}
+use Rattle.cs_run.specs.Machine.{written}
+use Rattle.cs_run.specs.State.{begun}
 use Rattle.cs_run.specs.Words.{takes_words, data_of, script_of, names_of}
 use Rattle.cs_run.specs.declared.status.Status.{Status}
 use Rattle.cs_run.specs.declared.status.Status.TheVariants.{Done, ReadFault, Usage, Data, Input, WriteFault, NoMemory, OpenFault}
@@ -19,7 +21,7 @@ usage_line = codes "{\"error\":\"usage\"}\n"
 
 -- where a run begins: with the dataset of the data file, where one is named
 abbrev pub start_with : Option (List ℕ) → Files → Start
-start_with None files = begins first_state
+start_with None files = begins (begun [])
 start_with (Some name) files = start_of (loaded (file_bytes files name))
 
 abbrev pub start : List (List ℕ) → Files → Start
@@ -30,11 +32,11 @@ script words files = file_bytes files (script_of words)
 
 abbrev pub start_writes : Start → List ℕ → List ℕ
 start_writes (begins s) bytes = script_writes s bytes
-start_writes (stops status line) bytes = line
+start_writes (stops stop) bytes = stated_line stop
 
 abbrev pub start_ends : Start → List ℕ → Status
 start_ends (begins s) bytes = script_ends bytes
-start_ends (stops status line) bytes = status
+start_ends (stops stop) bytes = stop_status stop
 
 abbrev pub expected : List (List ℕ) → Files → List ℕ
 expected words files = cond (takes_words words) (start_writes (start words files) (script words files)) usage_line
@@ -70,8 +72,8 @@ taken_of bytes rest = take (length bytes - length rest) bytes
 
 -- the replies to all whole lines in the bytes taken of a script
 abbrev pub replies_so_far : Start → List ℕ → List ℕ → List ℕ
-replies_so_far (begins s) bytes rest = replies s 1 (whole_lines (taken_of bytes rest))
-replies_so_far (stops status line) bytes rest = []
+replies_so_far (begins s) bytes rest = written s 1 (whole_lines (taken_of bytes rest))
+replies_so_far (stops stop) bytes rest = []
 
 -- what was written when a read failed: those replies where the script was open, else nothing
 abbrev pub WritesSoFar : Option ℕ → (ℕ → Option (List ℕ)) → Start → List ℕ → Option (List ℕ) → Option (List ℕ) → Type 0
@@ -81,7 +83,7 @@ WritesSoFar (Some number) left begin bytes old new = MatchOption (left number) �
 -- what was written when memory was short: nothing, or the replies to so many lines
 abbrev pub WritesLines : Start → Option (List ℕ) → Option (List ℕ) → List ℕ → Type 0
 WritesLines (begins s) old new bytes = Appends old new [] ⊎ WroteReplies s old new bytes
-WritesLines (stops status line) old new bytes = Appends old new []
+WritesLines (stops stop) old new bytes = Appends old new []
 
 -- what was written, by how the run ended
 abbrev pub RunWrites : Status → List (List ℕ) → Option (List ℕ) → Option (List ℕ) → Files → List Asked → (ℕ → Option (List ℕ)) → Type 0

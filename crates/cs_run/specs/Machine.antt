@@ -1,68 +1,48 @@
--- The plain machine, this project's profile: what each line of a script does to the documents, and what it replies. It holds a list of documents and nothing else: no index and no cache.
-use Rattle.std.specs.Prelude.{ℕ, ◌+◌, List, [], ◌∷◌, ◌++◌, length, ◌==◌, cond, codes}
-use Rattle.cs_value.specs.Tree.{Tree, list, trees}
-use Rattle.cs_view.specs.Document.{id_of}
-use Rattle.cs_view.specs.Dataset.{stands, with_doc}
-use Rattle.cs_run.specs.Command.{is_blank, Asking, refused, query_all, create, asking_of}
-use Rattle.cs_run.specs.Install.{stamped, tx_of_line}
-use Rattle.cs_run.specs.Replies.{refusal, exists_reply, query_reply, change_of, transaction_reply, reply_lines}
+-- The plain machine, this project's profile: what each line of a script does to the state, and what it replies.
+use Rattle.std.specs.Prelude.{ℕ, List, [], cond, Option, Some, None}
+use Rattle.cs_json.specs.Reading.{Outcome, not_json, too_deep, not_whole, value, outcome}
+use Rattle.cs_wire.specs.Commands.{Request}
+use Rattle.cs_wire.specs.Rows.{command}
+use Rattle.cs_reply.specs.Reply.{reply_lines, numbered}
+use Rattle.cs_reply.specs.Refusal as why
+use Rattle.cs_run.specs.Built.{is_built}
+use Rattle.cs_run.specs.Command.{is_blank, deepest_line}
+use Rattle.cs_run.specs.Fold.{Stepped}
+use Rattle.cs_run.specs.Fold as fold
+use Rattle.cs_run.specs.Refused.{refuse}
+use Rattle.cs_run.specs.Rows.{row}
+use Rattle.cs_run.specs.State.{State}
 
--- the documents, in ascending order of their ids
-pub record State : Type 0 where
-  pub docs : List Tree
+-- a command, as far as it is built
+abbrev pub done : State → ℕ → Request → Stepped State
+done s n request = cond (is_built s request) (row s n request) (refuse s why.not_built)
 
-abbrev pub first_state : State
-first_state = record { docs = [] }
+abbrev pub by_command : State → ℕ → Option Request → Stepped State
+by_command s n None = refuse s why.bad_command
+by_command s n (Some request) = done s n request
 
--- the moment at which every run begins
-abbrev pub first_moment : List ℕ
-first_moment = codes "1970-01-01T00:00:00Z"
-
--- what one line leads to
-pub record Stepped : Type 0 where
-  pub state : State
-  pub replies : List Tree
-
--- the line has a reply, and changes nothing
-abbrev pub answered : State → Tree → Stepped
-answered s reply = record { state = s; replies = reply ∷ [] }
-
--- the most documents that the machine holds
-abbrev pub most_documents : ℕ
-most_documents = 1048576
-
--- one mutation, the first of its transaction: refused where a document has the id, not built yet where the documents are full, else installed
-abbrev pub created : State → ℕ → Tree → Stepped
-created s n t =
-    cond (stands (id_of t) s.docs) (answered s (exists_reply (id_of t) 0 n))
-    (cond (length s.docs == most_documents) (answered s (refusal (codes "not-built") n))
-    (record {
-      state = record { docs = with_doc (stamped (tx_of_line n) first_moment t) s.docs };
-      replies = transaction_reply (change_of (codes "create") (id_of t) ∷ []) (tx_of_line n) n ∷ [];
-    }))
-
-abbrev pub done : State → ℕ → Asking → Stepped
-done s n (refused word) = answered s (refusal word n)
-done s n query_all = answered s (query_reply (list (trees s.docs)) n)
-done s n (create t) = created s n t
+-- a line that was read, or the first fault of its JSON
+abbrev pub heard : State → ℕ → Outcome → Stepped State
+heard s n not_json = refuse s why.not_json
+heard s n too_deep = refuse s why.too_deep
+heard s n not_whole = refuse s why.not_whole
+heard s n (value t) = by_command s n (command t)
 
 -- what the line with this number leads to: a blank line to nothing
-unfoldable pub step : State → ℕ → List ℕ → Stepped
-step s n line = cond (is_blank line) (record { state = s; replies = [] }) (done s n (asking_of line))
+unfoldable pub step : State → ℕ → List ℕ → Stepped State
+step s n line = cond (is_blank line) (record { state = s; replies = [] }) (heard s n (outcome deepest_line line))
 
 -- what the line has the machine write
-abbrev pub step_reply : State → ℕ → List ℕ → List ℕ
-step_reply s n line = reply_lines (step s n line).replies
+abbrev pub step_writes : State → ℕ → List ℕ → List ℕ
+step_writes s n line = reply_lines (numbered n (step s n line).replies)
 
 abbrev pub step_state : State → ℕ → List ℕ → State
 step_state s n line = (step s n line).state
 
 -- the state after the lines, the first of which has the number n
 abbrev pub state_after : State → ℕ → List (List ℕ) → State
-state_after s n [] = s
-state_after s n (line ∷ lines) = state_after (step_state s n line) (n + 1) lines
+state_after = fold.state_after step
 
--- what the lines have the machine write
-abbrev pub replies : State → ℕ → List (List ℕ) → List ℕ
-replies s n [] = []
-replies s n (line ∷ lines) = step_reply s n line ++ replies (step_state s n line) (n + 1) lines
+-- what the lines have the machine write: the text of their replies
+abbrev pub written : State → ℕ → List (List ℕ) → List ℕ
+written s n lines = reply_lines (fold.replies step s n lines)

@@ -1,5 +1,5 @@
 -- What the parts of a run leave. For private clauses.
-use Rattle.std.specs.Prelude.{◌≡◌, ◌≢◌, ℕ, List, [], Option, None, Some, Result, Ok, Err, ⊤, Vec}
+use Rattle.std.specs.Prelude.{◌≡◌, ◌≢◌, ℕ, List, [], Option, None, Some, Result, Ok, Err, IfSome, MatchOption, ⊤, Vec}
 use Rattle.std.specs.declared.alloc.Global.{Global}
 use Rattle.std.specs.Io.KnownBytes.{Appends, Keeps}
 use Rattle.cs_value.specs.declared.memory.NoMemory as memory
@@ -7,18 +7,18 @@ use Rattle.cs_io.specs.Bytes.{AppendsPartOf}
 use Rattle.cs_io.specs.Lines.{whole_lines}
 use Rattle.cs_io.specs.Names.{Files}
 use Rattle.cs_io.specs.declared.library.Asked.{Asked}
-use Rattle.cs_run.specs.Expected.{Start, begins, stops, script_writes, script_ends, cause_reply, WroteReplies}
+use Rattle.cs_docs.specs.Store.{docs}
+use Rattle.cs_docs.specs.declared.docs.Docs.{Docs}
+use Rattle.cs_reply.specs.Stated.{stated_line}
+use Rattle.cs_run.specs.Expected.{Start, begins, stops, script_writes, script_ends, stop_status, WroteReplies}
 use Rattle.cs_run.specs.Headline.{start_with, taken_of}
-use Rattle.cs_run.specs.Loading.{AsksFor, cause_of}
-use Rattle.cs_run.specs.Machine.{State, replies}
-use Rattle.cs_run.specs.Replies.{limit_reply, dangling_reply, reply_line}
-use Rattle.cs_run.specs.Store.{docs}
-use Rattle.cs_run.specs.declared.docs.Docs.{Docs}
+use Rattle.cs_run.specs.Loading.{AsksFor, stop_of}
+use Rattle.cs_run.specs.Machine.{written}
+use Rattle.cs_run.specs.State.{State, begun}
 use Rattle.cs_run.specs.declared.fault.LoadFault.{LoadFault}
 use Rattle.cs_run.specs.declared.fault.LoadFault.TheVariants as fault
 use Rattle.cs_run.specs.declared.status.Status.{Status}
 use Rattle.cs_run.specs.declared.status.Status.TheVariants.{Done, ReadFault, Usage, Data, Input, WriteFault, NoMemory, OpenFault}
-use Rattle.std.specs.Prelude.{codes}
 
 -- a stated line was written and the status given, or memory or the sink failed
 pub record Stated (result status : Status) (line : List ℕ) (old new : Option (List ℕ)) : Type 0 where
@@ -46,7 +46,7 @@ LineStops OpenFault old new reply = ⊥
 abbrev pub ScriptWrites : State → Status → Option (List ℕ) → Option (List ℕ) → List ℕ → List ℕ → Type 0
 ScriptWrites s Done old new script rest = (script_ends script ≡ Done) × Appends old new (script_writes s script) × (rest ≡ [])
 ScriptWrites s Input old new script rest = (script_ends script ≡ Input) × Appends old new (script_writes s script)
-ScriptWrites s ReadFault old new script rest = Appends old new (replies s 1 (whole_lines (taken_of script rest)))
+ScriptWrites s ReadFault old new script rest = Appends old new (written s 1 (whole_lines (taken_of script rest)))
 ScriptWrites s WriteFault old new script rest = AppendsPartOf old new (script_writes s script)
 ScriptWrites s NoMemory old new script rest = WroteReplies s old new script
 ScriptWrites s Usage old new script rest = ⊥
@@ -61,14 +61,8 @@ ToldWrites s status old new (Some script) (Some rest) = ScriptWrites s status ol
 
 -- where a run begins, by what the loading of its data file answered
 abbrev pub Starts : Result Docs LoadFault → Start → Type 0
-Starts (Ok d) begin = begin ≡ begins (record { docs = docs d })
-Starts (Err fault.Open) begin = ⊤
-Starts (Err fault.Read) begin = ⊤
-Starts (Err (fault.TooLong n)) begin = begin ≡ stops Input (reply_line (limit_reply (codes "too-long") (codes "data") n))
-Starts (Err (fault.TooMuch n)) begin = begin ≡ stops Input (reply_line (limit_reply (codes "too-much") (codes "data") n))
-Starts (Err (fault.Bad n c)) begin = begin ≡ stops Data (reply_line (cause_reply n (cause_of c)))
-Starts (Err (fault.Dangling from to)) begin = begin ≡ stops Data (reply_line (dangling_reply from to))
-Starts (Err fault.NoMemory) begin = ⊤
+Starts (Ok d) begin = begin ≡ begins (begun (docs d))
+Starts (Err fault) begin = IfSome (stop_of fault) (λ stop. begin ≡ stops stop)
 
 abbrev pub ToldStarts : Result Docs LoadFault → Option (List ℕ) → Option Files → Type 0
 ToldStarts r name None = ⊤
@@ -79,12 +73,17 @@ abbrev pub AsksNamed : Option (List ℕ) → Result Docs LoadFault → List Aske
 AsksNamed None r old new = new ≡ old
 AsksNamed (Some name) r old new = AsksFor r old new name
 
+-- how a run ends that nothing of its data file stops
+abbrev pub failure_status : LoadFault → Status
+failure_status fault.Open = OpenFault
+failure_status fault.Read = ReadFault
+failure_status fault.NoMemory = NoMemory
+failure_status (fault.TooLong n) = Input
+failure_status (fault.TooMuch n) = Input
+failure_status (fault.Bad n c) = Data
+failure_status (fault.Dangling from to) = Data
+
 -- how a run ends whose data file was not loaded
 abbrev pub DataEnds : LoadFault → Status → Option (List ℕ) → Option (List ℕ) → Type 0
-DataEnds fault.Open result old new = (result ≡ OpenFault) × Appends old new []
-DataEnds fault.Read result old new = (result ≡ ReadFault) × Appends old new []
-DataEnds (fault.TooLong n) result old new = Stated result Input (reply_line (limit_reply (codes "too-long") (codes "data") n)) old new
-DataEnds (fault.TooMuch n) result old new = Stated result Input (reply_line (limit_reply (codes "too-much") (codes "data") n)) old new
-DataEnds (fault.Bad n c) result old new = Stated result Data (reply_line (cause_reply n (cause_of c))) old new
-DataEnds (fault.Dangling from to) result old new = Stated result Data (reply_line (dangling_reply from to)) old new
-DataEnds fault.NoMemory result old new = (result ≡ NoMemory) × Appends old new []
+DataEnds fault result old new =
+    MatchOption (stop_of fault) ((result ≡ failure_status fault) × Appends old new []) (λ stop. Stated result (stop_status stop) (stated_line stop) old new)

@@ -5,17 +5,17 @@
 mod blank;
 mod command;
 mod data_file;
-mod docs;
 mod fault;
 mod import;
 #[cfg(test)]
 mod load_tests;
 mod loading;
 mod machine;
+mod mutate;
+mod query;
 mod references;
 mod refs;
 mod refusal;
-mod reply;
 mod stamp;
 mod status;
 #[cfg(test)]
@@ -25,8 +25,8 @@ mod words;
 #[cfg(test)]
 mod words_tests;
 
+pub use cs_docs::Docs;
 pub use data_file::load;
-pub use docs::Docs;
 pub use fault::{DataCause, LoadFault};
 pub use machine::{Core, CoreFault, Replies};
 pub use status::Status;

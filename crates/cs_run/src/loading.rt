@@ -7,15 +7,15 @@ ghost use Rattle.cs_view.specs.Document.{is_body, is_shallow, id_of, deepest_doc
 ghost use Rattle.cs_view.specs.View.{doc};
 ghost use Rattle.cs_run.specs.DataFile.{a_document, imported, of_body, of_outcome, said};
 ghost use Rattle.cs_run.specs.Gathered.{gathered, AreById};
-ghost use Rattle.cs_run.specs.Machine.{most_documents};
 ghost use Rattle.cs_run.specs.Refusals.{IsRefused};
-ghost use Rattle.cs_run.specs.Store.{docs};
+ghost use Rattle.cs_docs.specs.Store.{docs};
+ghost use Rattle.cs_docs.specs.Limits.{most_documents};
 
 use crate::blank::is_blank;
-use crate::docs::{Docs, MOST_DOCUMENTS};
 use crate::fault::DataCause;
 use crate::import::imported;
 use crate::refusal::{Refusal, json_refusal};
+use cs_docs::{Docs, MOST_DOCUMENTS};
 use cs_value::{NoMemory, Txt, Val};
 use cs_view::{DEEPEST_DOCUMENT, Doc, is_body};
 use std::alloc::Global;

@@ -1,28 +1,33 @@
-ghost use Rattle.std.specs.Prelude.{◌≡◌, ◌≤◌, ◌<◌, IfOk, OnOk, OnErr, length, List, ℕ, map, codes, [], ◌∷◌, true};
+//! The machine: what the lines so far have left, and its step.
+ghost use Rattle.std.specs.Prelude.{◌≡◌, ◌≤◌, IfOk, OnOk, OnErr, IsOk, length, [], true};
 ghost use Rattle.cs_io.specs.Lines.{longest_line};
-ghost use Rattle.cs_value.specs.Tree.{trees, list};
-ghost use Rattle.cs_value.specs.View.{tree, list_tree};
-ghost use Rattle.cs_view.specs.Document.{is_body, is_shallow, id_of};
-ghost use Rattle.cs_view.specs.Dataset.{with_doc};
-ghost use Rattle.cs_view.specs.View.{doc};
-ghost use Rattle.cs_run.specs.Asking.{asking, word_of, IsFit};
-ghost use Rattle.cs_run.specs.Machine.{most_documents, step_reply, step_state, done, created};
-ghost use Rattle.cs_run.specs.Replies.{reply_line, reply_lines, transaction_reply, change_of, query_reply};
-ghost use Rattle.cs_run.specs.Places.{IsGapFor};
+ghost use Rattle.cs_value.specs.View.{tree};
+ghost use Rattle.cs_json.specs.Reading.{outcome};
+ghost use Rattle.cs_wire.specs.View.{request};
+ghost use Rattle.cs_docs.specs.Store.{docs as docs_of};
+ghost use Rattle.cs_reply.specs.View.{refusal};
+ghost use Rattle.cs_run.specs.Command.{is_blank, deepest_line};
 ghost use Rattle.cs_run.specs.Core.{state};
-ghost use Rattle.cs_run.specs.Store.{docs as docs_of};
+ghost use Rattle.cs_run.specs.Does.{Does, Leaves};
+ghost use Rattle.cs_wire.specs.Rows.{command};
+ghost use Rattle.cs_run.specs.Machine.{by_command, done, heard, step, step_writes, step_state};
+ghost use Rattle.cs_run.specs.Refused.{refuse};
+ghost use Rattle.cs_run.specs.State.{begun};
 
 use crate::blank::is_blank;
-use crate::command::{Asking, LineCause, read_asking};
-use crate::docs::Docs;
-use crate::reply;
-use crate::stamp::{FIRST_MOMENT, stamped, tx_of_line};
+use cs_docs::Docs;
 use cs_io::Line;
+use cs_json::JsonFault;
+use cs_reply::{Refusal, Reply};
 use cs_value::{NoMemory, Steps, Val};
-use cs_view::Doc;
+use cs_wire::{BadCommand, Command};
 use std::alloc::Global;
+use std::collections::BTreeSet;
 use std::marker::Model;
 use std::sync::ledger::Ledger;
+
+// How many levels of lists and objects a line may nest.
+const DEEPEST_LINE: u32 = 64;
 
 /// Why a step has no replies.
 #[derive(Clone, Copy, Debug, Drop, PartialEq, Eq)]
@@ -60,30 +65,24 @@ impl Replies {
     }
 }
 
-/// The machine: the documents that the lines so far have left.
+/// The machine: the documents that the lines so far have left, and the ids of accepted transactions.
 #[derive(Drop)]
 pub struct Core {
-    alloc: Global,
-    docs: Docs,
-}
-
-// The documents as the list that a query answers.
-fn all_documents(alloc: Global, documents: &[Doc]) -> Result<Val, NoMemory>
-    ensures { IfOk result (λ v. tree v ≡ list (trees (map doc documents.now))) }
-{
-    let mut copies = Vec::with_capacity(alloc, documents.len())?;
-    for document in documents {
-        copies.push(document.val().copy(alloc)?)?;
-    }
-    Ok(Val::List(copies))
+    pub(crate) alloc: Global,
+    pub(crate) docs: Docs,
+    pub(crate) used: BTreeSet<String>,
 }
 
 impl Core {
-    /// A machine with these documents, at the first moment.
+    /// A machine with these documents, at the first moment, and with nothing else.
     pub fn new(alloc: Global, docs: Docs) -> Result<Core, NoMemory>
-        ensures { IfOk result (λ core. state core ≡ record { docs = docs_of docs }) }
+        ensures { IfOk result (λ core. state core ≡ begun (docs_of docs)) }
     {
-        Ok(Core { alloc, docs })
+        Ok(Core {
+            alloc,
+            docs,
+            used: BTreeSet::new(alloc),
+        })
     }
 
     /// The documents that the lines so far have left.
@@ -93,77 +92,6 @@ impl Core {
         &self.docs
     }
 
-    // Installs a document at the place where it goes, as the one mutation of its transaction.
-    fn install(
-        &mut self,
-        place: usize,
-        document: Doc,
-        tx: &str,
-        line: u32,
-    ) -> Result<Vec<u8>, NoMemory>
-        requires gap { IsGapFor (id_of (doc document)) (docs_of self.old.docs) place }
-        requires room { length (docs_of self.old.docs) < most_documents }
-        ensures replies { IfOk result (λ bytes. bytes.items ≡ reply_line
-            (transaction_reply (change_of (codes "create") (id_of (doc document)) ∷ []) tx.now
-            line)) }
-        ensures put { OnOk result (docs_of self.new.docs ≡ with_doc (doc document)
-            (docs_of self.old.docs)) }
-        ensures kept { OnErr result (docs_of self.new.docs ≡ docs_of self.old.docs) }
-    {
-        let bytes = reply::created(self.alloc, document.id().as_str(), tx, line)?;
-        self.docs.insert(place, document)?;
-        Ok(bytes)
-    }
-
-    // A transaction that creates one document.
-    fn create(&mut self, body: Val, line: u32) -> Result<Vec<u8>, NoMemory>
-        requires body { is_body (tree body) ≡ true }
-        requires shallow { is_shallow (tree body) ≡ true }
-        ensures replies { IfOk result (λ bytes. bytes.items ≡ reply_lines
-            (created (state self.old) line (tree body)).replies) }
-        ensures state { OnOk result (state self.new ≡
-            (created (state self.old) line (tree body)).state) }
-        ensures kept { OnErr result (state self.new ≡ state self.old) }
-    {
-        let tx = tx_of_line(self.alloc, line)?;
-        let document = stamped(self.alloc, body, tx.as_str(), FIRST_MOMENT)?;
-        let id = document.id().as_str();
-        match self.docs.search(id) {
-            Ok(_) => reply::exists(self.alloc, id, 0, line),
-            Err(place) => {
-                if self.docs.is_full() {
-                    return reply::refusal(self.alloc, LineCause::NotBuilt.word(), line);
-                }
-                self.install(place, document, tx.as_str(), line)
-            }
-        }
-    }
-
-    // What a line that is not blank asks for.
-    fn answer(&mut self, asked: Asking, line: u32) -> Result<Vec<u8>, NoMemory>
-        requires fit { IsFit asked }
-        ensures replies { IfOk result (λ bytes. bytes.items ≡ reply_lines
-            (done (state self.old) line (asking asked)).replies) }
-        ensures state { OnOk result (state self.new ≡
-            (done (state self.old) line (asking asked)).state) }
-        ensures kept { OnErr result (state self.new ≡ state self.old) }
-    {
-        match asked {
-            Asking::Refused(cause) => reply::refusal(self.alloc, cause.word(), line),
-            Asking::QueryAll => self.find_all(line),
-            Asking::Create(body) => self.create(body, line),
-        }
-    }
-
-    // The query for all documents.
-    fn find_all(&self, line: u32) -> Result<Vec<u8>, NoMemory>
-        ensures { IfOk result (λ bytes. bytes.items ≡ reply_line
-            (query_reply (list (trees (docs_of self.now.docs))) line)) }
-    {
-        let found = all_documents(self.alloc, self.docs.as_slice())?;
-        reply::query(self.alloc, found, line)
-    }
-
     /// One step of the machine: the replies to the line, as the plain machine gives them, and its state
     /// afterwards. A blank line has no replies and takes no memory. After [`CoreFault::NoMemory`] the
     /// machine is as before. The line is one that [`cs_io::Lines`] gives, so it has at most 16,777,216
@@ -171,30 +99,122 @@ impl Core {
     pub fn step<L: Ledger>(
         &mut self,
         line: &Line,
-        _steps: &mut Steps<L>,
+        steps: &mut Steps<L>,
     ) -> Result<Replies, CoreFault>
         requires { length line.now.bytes.items ≤ longest_line }
-        ensures replies { IfOk result (λ replies. replies ≡ step_reply (state self.old)
+        ensures replies { IfOk result (λ replies. replies ≡ step_writes (state self.old)
             line.now.number line.now.bytes.items) }
         ensures state { OnOk result (state self.new ≡ step_state (state self.old) line.now.number
             line.now.bytes.items) }
-        ensures kept { OnErr result (state self.new ≡ state self.old) }
+        ensures leaves { OnErr result (Leaves self.old self.new) }
+        ensures blank { is_blank line.now.bytes.items ≡ true → IsOk result }
     {
-        let bytes = self.step_line(line.number, line.bytes.as_slice())?;
+        let mut bytes = Vec::new(self.alloc);
+        self.reply_to(line, steps, &mut bytes)?;
         Ok(Replies { bytes })
     }
 
-    #[tactic(auto, unfolding(crate::specs::Machine::step))]
-    fn step_line(&mut self, number: u32, line: &[u8]) -> Result<Vec<u8>, NoMemory>
-        ensures replies { IfOk result (λ bytes. bytes.items ≡ step_reply (state self.old) number
-            line.now) }
-        ensures state { OnOk result (state self.new ≡ step_state (state self.old) number line.now) }
-        ensures kept { OnErr result (state self.new ≡ state self.old) }
+    // The replies to the line are appended.
+    fn reply_to<L: Ledger>(
+        &mut self,
+        line: &Line,
+        steps: &mut Steps<L>,
+        out: &mut Vec<u8>,
+    ) -> Result<(), NoMemory>
+        requires { length line.now.bytes.items ≤ longest_line }
+        ensures does { OnOk result (Does out.old.items out.new.items (state self.new)
+            line.now.number (step (state self.old) line.now.number line.now.bytes.items)) }
+        ensures leaves { OnErr result (Leaves self.old self.new) }
+        ensures blank { is_blank line.now.bytes.items ≡ true → IsOk result }
     {
-        if is_blank(line) {
-            return Ok(Vec::new(self.alloc));
+        if is_blank(line.bytes.as_slice()) {
+            return Ok(());
         }
-        let asked = read_asking(self.alloc, line)?;
-        self.answer(asked, number)
+        self.hear(line.number, line.bytes.as_slice(), steps, out)
+    }
+
+    // The line is refused.
+    pub(crate) fn refuse(
+        &self,
+        why: Refusal<'_>,
+        line: u32,
+        out: &mut Vec<u8>,
+    ) -> Result<(), NoMemory>
+        ensures { OnOk result (Does out.old.items out.new.items (state self.now) line
+            (refuse (state self.now) (refusal why.entry))) }
+    {
+        Reply::Refused(why).write(self.alloc, line, out)
+    }
+
+    // A line that is not blank.
+    fn hear<L: Ledger>(
+        &mut self,
+        number: u32,
+        line: &[u8],
+        steps: &mut Steps<L>,
+        out: &mut Vec<u8>,
+    ) -> Result<(), NoMemory>
+        requires { length line.now ≤ longest_line }
+        ensures does { OnOk result (Does out.old.items out.new.items (state self.new) number
+            (heard (state self.old) number (outcome deepest_line line.now))) }
+        ensures leaves { OnErr result (Leaves self.old self.new) }
+    {
+        match cs_json::read(self.alloc, line, DEEPEST_LINE) {
+            Ok(val) => self.command(val, number, steps, out),
+            Err(JsonFault::NotJson) => self.refuse(Refusal::NotJson, number, out),
+            Err(JsonFault::TooDeep) => self.refuse(Refusal::TooDeep, number, out),
+            Err(JsonFault::NotWhole) => self.refuse(Refusal::NotWhole, number, out),
+            Err(JsonFault::NoMemory) => Err(NoMemory),
+        }
+    }
+
+    // A line that was read.
+    fn command<L: Ledger>(
+        &mut self,
+        val: Val,
+        line: u32,
+        steps: &mut Steps<L>,
+        out: &mut Vec<u8>,
+    ) -> Result<(), NoMemory>
+        ensures does { OnOk result (Does out.old.items out.new.items (state self.new) line
+            (by_command (state self.old) line (command (tree val)))) }
+        ensures leaves { OnErr result (Leaves self.old self.new) }
+    {
+        match Command::read(self.alloc, val) {
+            Ok(command) => self.run(command, line, steps, out),
+            Err(BadCommand) => self.refuse(Refusal::BadCommand, line, out),
+        }
+    }
+
+    // A command, as far as it is built: each row of the table has an arm.
+    fn run<L: Ledger>(
+        &mut self,
+        command: Command,
+        line: u32,
+        steps: &mut Steps<L>,
+        out: &mut Vec<u8>,
+    ) -> Result<(), NoMemory>
+        ensures does { OnOk result (Does out.old.items out.new.items (state self.new) line
+            (done (state self.old) line (request command))) }
+        ensures leaves { OnErr result (Leaves self.old self.new) }
+    {
+        match command {
+            Command::Mutate { body } => self.mutate(body, line, out),
+            Command::Query { text, params: _ } => self.query(text.as_str(), line, out),
+            Command::Live {
+                name: _,
+                text: _,
+                params: _,
+            } => self.refuse(Refusal::NotBuilt, line, out),
+            Command::Listen {
+                name: _,
+                text: _,
+                params: _,
+                include_result: _,
+                include_previous: _,
+            } => self.refuse(Refusal::NotBuilt, line, out),
+            Command::Stop { name: _ } => self.refuse(Refusal::NotBuilt, line, out),
+            Command::At { moment: _ } => self.refuse(Refusal::NotBuilt, line, out),
+        }
     }
 }

@@ -1,27 +1,30 @@
-ghost use Rattle.std.specs.Prelude.{◌≡◌, ◌≢◌, ◌≤◌, OnOk, IfOk, IfErr, length, true, false, Option, option_map, ◌∷◌};
+//! The top call: the words, the data file, and the lines of the script.
+ghost use Rattle.std.specs.Prelude.{◌≡◌, ◌≢◌, ◌≤◌, OnOk, IfOk, IfErr, length, true, false, Option, option_map};
 ghost use Rattle.std.specs.Io.KnownBytes.{Appends};
+ghost use Rattle.cs_docs.specs.Store.{docs as docs_of};
 ghost use Rattle.cs_io.specs.Causes.{Rose};
 ghost use Rattle.cs_io.specs.Lines.{longest_line};
 ghost use Rattle.cs_io.specs.Names.{is_open};
+ghost use Rattle.cs_reply.specs.Stated.{stated_line};
+ghost use Rattle.cs_reply.specs.View.{stop as stop_seen, cause as cause_seen};
 ghost use Rattle.cs_run.specs.Core.{state};
-ghost use Rattle.cs_run.specs.Expected.{Causes, cause_reply};
+ghost use Rattle.cs_run.specs.Expected.{Causes, stop_status};
 ghost use Rattle.cs_run.specs.Headline.{ToldRun, Asks, RefusedWrites, IsComplete, added};
-ghost use Rattle.cs_run.specs.Loading.{LoadHasCause, cause_of};
-ghost use Rattle.cs_run.specs.Machine.{step_reply, step_state};
-ghost use Rattle.cs_run.specs.Replies.{reply_line};
+ghost use Rattle.cs_run.specs.Loading.{LoadHasCause, cause_of, stop_of};
+ghost use Rattle.cs_run.specs.Machine.{step_writes, step_state};
 ghost use Rattle.cs_run.specs.Script.{Stated, States, LineStops, ToldWrites, ToldStarts, AsksNamed, DataEnds};
-ghost use Rattle.cs_run.specs.Store.{docs as docs_of};
+ghost use Rattle.cs_run.specs.State.{begun};
 ghost use Rattle.cs_run.specs.Words.{takes_words, names_of};
 
 use crate::data_file::load;
-use crate::docs::Docs;
 use crate::fault::{DataCause, LoadFault};
 use crate::machine::Core;
-use crate::reply;
 use crate::status::Status;
 use crate::words::{WordsFault, read_words};
+use cs_docs::Docs;
 use cs_io::{Library, Line, LineFault, Lines, Sink, write_whole};
-use cs_value::{NoMemory, Steps, Txt};
+use cs_reply::{Cause, Source, Stop};
+use cs_value::{Steps, Txt};
 use std::alloc::Global;
 use std::sync::ledger::Ledger;
 
@@ -43,16 +46,26 @@ fn answer<K: Sink>(sink: &mut K, line: &[u8], status: Status) -> Status
     }
 }
 
-// The same of a line that memory may have been short for.
-fn state_line<K: Sink>(sink: &mut K, line: Result<Vec<u8>, NoMemory>, status: Status) -> Status
-    requires { (status ≢ Status.WriteFault) × (status ≢ Status.NoMemory) }
-    ensures stated { States result status line (K.taken sink.old) (K.taken sink.new) }
-    ensures same { result ≢ Status.WriteFault → result ≢ Status.NoMemory → result ≡ status }
+// The status of a run that something stops.
+fn stop_status(stop: &Stop<'_>) -> Status
+    ensures { result ≡ stop_status (stop_seen stop.now) }
+{
+    match stop {
+        Stop::TooLong { source: _, line: _ } | Stop::TooMuch { source: _, line: _ } => Status::Input,
+        Stop::Bad { line: _, cause: _ } | Stop::Dangling { from: _, to: _ } => Status::Data,
+    }
+}
+
+// Ends the run that something stops: the line that says so is written.
+fn end_stopped<K: Sink>(alloc: Global, sink: &mut K, stop: &Stop<'_>) -> Status
+    ensures stated { Stated result (stop_status (stop_seen stop.now))
+        (stated_line (stop_seen stop.now)) (K.taken sink.old) (K.taken sink.new) }
     ensures later { K.faults sink.old ≤ K.faults sink.new }
     ensures cause { result ≡ Status.WriteFault → Rose (K.faults sink.old) (K.faults sink.new) }
+    ensures ends { (result ≢ Status.OpenFault) × (result ≢ Status.ReadFault) × (result ≢ Status.Usage) }
 {
-    match line {
-        Ok(bytes) => answer(sink, bytes.as_slice(), status),
+    match stop.line(alloc) {
+        Ok(line) => answer(sink, line.as_slice(), stop_status(stop)),
         Err(_) => Status::NoMemory,
     }
 }
@@ -66,11 +79,11 @@ fn run_line<K: Sink, L: Ledger>(
 ) -> Result<(), Status>
     requires { length line.now.bytes.items ≤ longest_line }
     ensures writes { OnOk result (Appends (K.taken sink.old) (K.taken sink.new)
-        (step_reply (state core.old) line.now.number line.now.bytes.items)) }
+        (step_writes (state core.old) line.now.number line.now.bytes.items)) }
     ensures state { OnOk result (state core.new ≡ step_state (state core.old) line.now.number
         line.now.bytes.items) }
     ensures stops { IfErr result (λ status. LineStops status (K.taken sink.old) (K.taken sink.new)
-        (step_reply (state core.old) line.now.number line.now.bytes.items)) }
+        (step_writes (state core.old) line.now.number line.now.bytes.items)) }
     ensures later { K.faults sink.old ≤ K.faults sink.new }
     ensures cause { IfErr result (λ status. status ≡ Status.WriteFault → Rose (K.faults sink.old)
         (K.faults sink.new)) }
@@ -84,17 +97,41 @@ fn run_line<K: Sink, L: Ledger>(
     }
 }
 
-fn cause_line(alloc: Global, line: u32, cause: &DataCause) -> Result<Vec<u8>, NoMemory>
-    ensures { IfOk result (λ bytes. bytes.items ≡ reply_line
-        (cause_reply line (cause_of cause.now))) }
+fn cause(cause: &DataCause) -> Cause<'_>
+    ensures { cause_seen result ≡ cause_of cause.entry.now }
 {
     match cause {
-        DataCause::NotJson => reply::bad_line(alloc, "not-json", line),
-        DataCause::TooDeep => reply::bad_line(alloc, "too-deep", line),
-        DataCause::NotWhole => reply::bad_line(alloc, "not-whole", line),
-        DataCause::BadDocument => reply::bad_line(alloc, "bad-document", line),
-        DataCause::Repeated { id } => reply::repeated_line(alloc, id.as_str(), line),
-        DataCause::FullDocuments => reply::bad_line(alloc, "full-documents", line),
+        DataCause::NotJson => Cause::NotJson,
+        DataCause::TooDeep => Cause::TooDeep,
+        DataCause::NotWhole => Cause::NotWhole,
+        DataCause::BadDocument => Cause::BadDocument,
+        DataCause::Repeated { id } => Cause::Repeated { id: id.as_str() },
+        DataCause::FullDocuments => Cause::FullDocuments,
+    }
+}
+
+// What a data file is stopped by. `None` where the outside failed, or memory was short.
+fn stop(fault: &LoadFault) -> Option<Stop<'_>>
+    ensures { option_map stop_seen result ≡ stop_of fault.entry.now }
+{
+    match fault {
+        LoadFault::Open | LoadFault::Read | LoadFault::NoMemory => None,
+        LoadFault::TooLong { line } => Some(Stop::TooLong {
+            source: Source::Data,
+            line: *line,
+        }),
+        LoadFault::TooMuch { line } => Some(Stop::TooMuch {
+            source: Source::Data,
+            line: *line,
+        }),
+        LoadFault::Bad { line, cause: why } => Some(Stop::Bad {
+            line: *line,
+            cause: cause(why),
+        }),
+        LoadFault::Dangling { from, to } => Some(Stop::Dangling {
+            from: from.as_str(),
+            to: to.as_str(),
+        }),
     }
 }
 
@@ -107,34 +144,13 @@ fn refuse_data<K: Sink>(alloc: Global, sink: &mut K, fault: &LoadFault) -> Statu
     ensures read { result ≡ Status.ReadFault → fault.now ≡ LoadFault.Read }
     ensures usage { result ≢ Status.Usage }
 {
+    if let Some(stop) = stop(fault) {
+        return end_stopped(alloc, sink, &stop);
+    }
     match fault {
         LoadFault::Open => Status::OpenFault,
         LoadFault::Read => Status::ReadFault,
-        LoadFault::TooLong { line } => {
-            state_line(
-                sink,
-                reply::limit(alloc, "too-long", "data", *line),
-                Status::Input,
-            )
-        }
-        LoadFault::TooMuch { line } => {
-            state_line(
-                sink,
-                reply::limit(alloc, "too-much", "data", *line),
-                Status::Input,
-            )
-        }
-        LoadFault::Bad { line, cause } => {
-            state_line(sink, cause_line(alloc, *line, cause), Status::Data)
-        }
-        LoadFault::Dangling { from, to } => {
-            state_line(
-                sink,
-                reply::dangling_line(alloc, from.as_str(), to.as_str()),
-                Status::Data,
-            )
-        }
-        LoadFault::NoMemory => Status::NoMemory,
+        _ => Status::NoMemory,
     }
 }
 
@@ -167,8 +183,8 @@ fn run_script<Lb: Library, K: Sink, L: Ledger>(
     steps: &mut Steps<L>,
 ) -> Status
     requires { is_open (Lb.asked library.old) number ≡ true }
-    ensures writes { ToldWrites (record { docs = docs_of docs }) result (K.taken sink.old)
-        (K.taken sink.new) (Lb.left library.old number) (Lb.left library.new number) }
+    ensures writes { ToldWrites (begun (docs_of docs)) result (K.taken sink.old) (K.taken sink.new)
+        (Lb.left library.old number) (Lb.left library.new number) }
     ensures causes { Causes result (Lb.open_faults library.old) (Lb.open_faults library.new)
         (Lb.read_faults library.old) (Lb.read_faults library.new) (K.faults sink.old)
         (K.faults sink.new) }
@@ -190,55 +206,15 @@ fn run_script<Lb: Library, K: Sink, L: Ledger>(
             Ok(None) => return Status::Done,
             Err(LineFault::Read) => return Status::ReadFault,
             Err(LineFault::TooLong { line }) => {
-                return state_line(
-                    sink,
-                    reply::limit(alloc, "too-long", "script", line),
-                    Status::Input,
-                );
+                let source = Source::Script;
+                return end_stopped(alloc, sink, &Stop::TooLong { source, line });
             }
             Err(LineFault::TooMuch { line }) => {
-                return state_line(
-                    sink,
-                    reply::limit(alloc, "too-much", "script", line),
-                    Status::Input,
-                );
+                let source = Source::Script;
+                return end_stopped(alloc, sink, &Stop::TooMuch { source, line });
             }
             Err(LineFault::NoMemory) => return Status::NoMemory,
         }
-    }
-}
-
-// Reads the words, loads the data file and runs the script.
-fn play<Lb: Library, K: Sink, L: Ledger>(
-    alloc: Global,
-    words: &[Txt],
-    library: &mut Lb,
-    sink: &mut K,
-    steps: &mut Steps<L>,
-) -> Status
-    ensures writes { ToldRun result words.now (K.taken sink.old) (K.taken sink.new)
-        (Lb.files library.old) (added (Lb.asked library.old) (Lb.asked library.new))
-        (Lb.left library.new) }
-    ensures causes { Causes result (Lb.open_faults library.old) (Lb.open_faults library.new)
-        (Lb.read_faults library.old) (Lb.read_faults library.new) (K.faults sink.old)
-        (K.faults sink.new) }
-    ensures names { Asks (Lb.asked library.old) (Lb.asked library.new) (names_of words.now) }
-    ensures usage { result ≡ Status.Usage → takes_words words.now ≡ false }
-    ensures refused { takes_words words.now ≡ false → RefusedWrites result (K.taken sink.old)
-        (K.taken sink.new) }
-{
-    let read = match read_words(alloc, words) {
-        Ok(read) => read,
-        Err(WordsFault::Refused) => return answer(sink, USAGE, Status::Usage),
-        Err(WordsFault::NoMemory) => return Status::NoMemory,
-    };
-    let docs = match load_named(alloc, library, read.data) {
-        Ok(docs) => docs,
-        Err(fault) => return refuse_data(alloc, sink, &fault),
-    };
-    match library.open(read.script) {
-        Ok(number) => run_script(alloc, number, docs, library, sink, steps),
-        Err(_) => Status::OpenFault,
     }
 }
 
@@ -270,5 +246,17 @@ pub fn run<Lb: Library, K: Sink, L: Ledger>(
         (Lb.open_faults library.old) (Lb.open_faults library.new) (Lb.read_faults library.old)
         (Lb.read_faults library.new) (K.faults sink.old) (K.faults sink.new) }
 {
-    play(alloc, words, library, sink, steps)
+    let read = match read_words(alloc, words) {
+        Ok(read) => read,
+        Err(WordsFault::Refused) => return answer(sink, USAGE, Status::Usage),
+        Err(WordsFault::NoMemory) => return Status::NoMemory,
+    };
+    let docs = match load_named(alloc, library, read.data) {
+        Ok(docs) => docs,
+        Err(fault) => return refuse_data(alloc, sink, &fault),
+    };
+    match library.open(read.script) {
+        Ok(number) => run_script(alloc, number, docs, library, sink, steps),
+        Err(_) => Status::OpenFault,
+    }
 }

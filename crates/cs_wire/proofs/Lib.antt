@@ -1,3 +1,4 @@
 pub mod Asking
+mod Lengths
 pub mod OneRow
 pub mod Holding

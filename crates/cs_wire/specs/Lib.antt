@@ -1,3 +1,4 @@
 pub mod Commands
 pub mod Rows
 pub mod View
+pub mod Within

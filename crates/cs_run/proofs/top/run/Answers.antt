@@ -1,6 +1,26 @@
-use Rattle.cs_run.proofs.Headlines.{completes}
+use Rattle.std.proofs.Common.{◌≡◌, ◌∙◌, ap, ◌∷◌, ◌++◌, [], true, refl, Some, Ok}
+use Rattle.std.specs.Option.{option_map}
+use Rattle.cs_io.specs.Names.{told_bytes}
+use Rattle.cs_run.specs.Script.{ToldWrites, ToldStarts, AsksNamed}
+use Rattle.cs_run.specs.State.{begun}
+use Rattle.cs_docs.specs.Store.{docs}
+use Rattle.cs_run.specs.Words.{takes_words, script_of}
+use Rattle.cs_run.proofs.Headlines.{is_open-added, number_from, told_run}
 use Rattle.cs_run.proofs.top.run.Goals as goal
 
-pub returns-clause-completes : goal.returns-clause-completes
-returns-clause-completes g c =
-    completes c.play.result c.args.words.now (g.K.Sink.taken c.args.sink.now) (g.K.Sink.taken c.play.new.sink) (g.Lb.Library.files c.args.library.now) _ (g.Lb.Library.left c.play.new.library) _ _ _ _ _ _ c.play.ensures.writes c.play.ensures.causes
+pub run_script-requires : goal.run_script-requires
+run_script-requires g c = rw c.in-Ok-open.ensures.added (is_open-added (g.Lb.Library.asked c.load_named.new.library) _ c.in-Ok-open.number refl)
+
+pub returns-in-Ok-open-clause-writes : goal.returns-in-Ok-open-clause-writes
+returns-in-Ok-open-clause-writes g c =
+    let name = option_map (λ n. n.now) c.in-Ok.read.data in
+    let words : takes_words c.args.words.now ≡ true = c.in-Ok.ensures.taken in
+    let asked = g.Lb.Library.asked c.args.library.now in
+    let named : AsksNamed name (Ok c.in-Ok-load_named.docs) asked (g.Lb.Library.asked c.load_named.new.library) = c.in-Ok-load_named.ensures.names in
+    let got : g.Lb.Library.asked c.run_script.new.library ≡ g.Lb.Library.asked c.load_named.new.library ++ record { name = script_of c.args.words.now; number = Some c.in-Ok-open.number } ∷ []
+    = c.run_script.ensures.asked ∙ c.in-Ok-open.ensures.added ∙ ap (λ n. g.Lb.Library.asked c.load_named.new.library ++ record { name = n; number = Some c.in-Ok-open.number } ∷ []) c.in-Ok.ensures.script_name in
+    let number = number_from c.args.words.now name c.in-Ok-load_named.docs asked (g.Lb.Library.asked c.load_named.new.library) (g.Lb.Library.asked c.run_script.new.library) c.in-Ok-open.number words c.in-Ok.ensures.data_name named got in
+    let starts : ToldStarts (Ok c.in-Ok-load_named.docs) name (g.Lb.Library.files c.args.library.now) = c.in-Ok-load_named.ensures.starts in
+    let writes : ToldWrites (begun (docs c.in-Ok-load_named.docs)) c.run_script.result (g.K.Sink.taken c.args.sink.now) (g.K.Sink.taken c.run_script.new.sink) (told_bytes (g.Lb.Library.files c.args.library.now) (script_of c.args.words.now)) (g.Lb.Library.left c.run_script.new.library c.in-Ok-open.number)
+    = rw (c.in-Ok-open.ensures.bytes, c.load_named.ensures.files, c.in-Ok.ensures.script_name) at c.run_script.ensures.writes in
+    told_run c.run_script.result c.args.words.now name (g.K.Sink.taken c.args.sink.now) (g.K.Sink.taken c.run_script.new.sink) (g.Lb.Library.files c.args.library.now) _ (g.Lb.Library.left c.run_script.new.library) c.in-Ok-open.number c.in-Ok-load_named.docs words c.in-Ok.ensures.data_name number starts writes

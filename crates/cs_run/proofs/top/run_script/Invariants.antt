@@ -3,7 +3,8 @@ use Rattle.cs_io.specs.Lines.{largest_source}
 use Rattle.cs_io.specs.Names.{is_open}
 use Rattle.cs_io.specs.Reader.{OnlyReads, InStep}
 use Rattle.cs_run.specs.Core.{state}
-use Rattle.cs_run.specs.Store.{docs}
+use Rattle.cs_run.specs.State.{begun}
+use Rattle.cs_docs.specs.Store.{docs}
 use Rattle.cs_run.proofs.Playing.{Played}
 use Rattle.cs_run.proofs.top.run_script.Given as goal
 
@@ -15,7 +16,7 @@ invariant-turns g l = record {
   within : l.lines.given ≤ largest_source;
   writes_later : g.K.Sink.faults l.initial.sink ≤ g.K.Sink.faults l.sink;
   calls : OnlyReads g.Lb.Library.files g.Lb.Library.asked g.Lb.Library.open_faults g.Lb.Library.read_faults l.initial.library l.library;
-  played : (script : List ℕ) → g.Lb.Library.left l.initial.library l.number ≡ Some script → Played (record { docs = docs l.fn.docs }) script (g.K.Sink.taken l.initial.sink) (g.K.Sink.taken l.sink) (state l.core) l.lines (g.Lb.Library.left l.library l.number);
+  played : (script : List ℕ) → g.Lb.Library.left l.initial.library l.number ≡ Some script → Played (begun (docs l.fn.docs)) script (g.K.Sink.taken l.initial.sink) (g.K.Sink.taken l.sink) (state l.core) l.lines (g.Lb.Library.left l.library l.number);
 }
 
 abbrev pub decreases-turns : goal.decreases-turns

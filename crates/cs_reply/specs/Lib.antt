@@ -1,0 +1,5 @@
+pub mod Fields
+pub mod Refusal
+pub mod Reply
+pub mod Stated
+pub mod View

@@ -1,0 +1,71 @@
+-- What contracts see of the replies that are written.
+use Rattle.std.specs.Prelude.{◌≡◌, ℕ, List, ◌++◌, map}
+use Rattle.cs_value.specs.Tree.{Tree}
+use Rattle.cs_json.specs.Nodes.{node_tree}
+use Rattle.cs_reply.specs.Refusal as why
+use Rattle.cs_reply.specs.Reply as said
+use Rattle.cs_reply.specs.Stated as stated
+use Rattle.cs_reply.specs.declared.refusal.Refusal.{Refusal}
+use Rattle.cs_reply.specs.declared.refusal.Refusal.TheVariants.{NotJson, TooDeep, NotWhole, BadCommand, NotBuilt, BadToken, DeepQuery, Syntax, Unsupported, UnknownFunction, Arity, NoKey, TxUsed, Exists}
+use Rattle.cs_reply.specs.declared.reply.Operation.{Operation}
+use Rattle.cs_reply.specs.declared.reply.Operation.TheVariants.{Create, Update, Delete}
+use Rattle.cs_reply.specs.declared.reply.Outcome.{Outcome}
+use Rattle.cs_reply.specs.declared.reply.Reply.{Reply}
+use Rattle.cs_reply.specs.declared.reply.Reply.TheVariants.{Committed, Found, Refused}
+use Rattle.cs_reply.specs.declared.stated.Cause.{Cause}
+use Rattle.cs_reply.specs.declared.stated.Cause.TheVariants as line
+use Rattle.cs_reply.specs.declared.stated.Source.{Source}
+use Rattle.cs_reply.specs.declared.stated.Source.TheVariants.{Data, Script}
+use Rattle.cs_reply.specs.declared.stated.Stop.{Stop}
+use Rattle.cs_reply.specs.declared.stated.Stop.TheVariants as ends
+
+abbrev pub refusal : Refusal → why.Refusal
+refusal NotJson = why.not_json
+refusal TooDeep = why.too_deep
+refusal NotWhole = why.not_whole
+refusal BadCommand = why.bad_command
+refusal NotBuilt = why.not_built
+refusal (BadToken at) = why.bad_token at
+refusal DeepQuery = why.deep_query
+refusal Syntax = why.syntax
+refusal (Unsupported name) = why.unsupported name.now
+refusal (UnknownFunction name) = why.unknown_function name.now
+refusal (Arity name) = why.arity name.now
+refusal NoKey = why.no_key
+refusal (TxUsed id) = why.tx_used id.now
+refusal (Exists mutation id) = why.exists mutation id.now
+
+abbrev pub operation : Operation → said.Operation
+operation Create = said.create
+operation Update = said.update
+operation Delete = said.delete
+
+abbrev pub outcome : Outcome → List ℕ × said.Operation
+outcome o = (o.id.now, operation o.operation)
+
+abbrev pub reply : Reply → said.Reply
+reply (Committed tx outcomes) = said.committed tx.now (map outcome outcomes.now)
+reply (Found node) = said.found (node_tree node)
+reply (Refused r) = said.refused (refusal r)
+
+abbrev pub cause : Cause → stated.Cause
+cause line.NotJson = stated.no_json
+cause line.TooDeep = stated.deep
+cause line.NotWhole = stated.fraction
+cause line.BadDocument = stated.no_document
+cause (line.Repeated id) = stated.repeated id.now
+cause line.FullDocuments = stated.full
+
+abbrev pub source : Source → stated.Source
+source Data = stated.data_file
+source Script = stated.script
+
+abbrev pub stop : Stop → stated.Stop
+stop (ends.TooLong s line) = stated.long_line (source s) line
+stop (ends.TooMuch s line) = stated.much (source s) line
+stop (ends.Bad line c) = stated.bad line (cause c)
+stop (ends.Dangling from to) = stated.dangling from.now to.now
+
+-- the value was written as a line behind what stood there
+abbrev pub Appended : List ℕ → List ℕ → Tree → Type 0
+Appended old new t = new ≡ old ++ said.written_line t

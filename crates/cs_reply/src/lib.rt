@@ -1,0 +1,14 @@
+//! The replies to the lines of a script, and the line that ends a run early, written from borrowed
+//! parts: no value is copied.
+#![tactic(auto)]
+
+mod line;
+mod refusal;
+mod reply;
+mod stated;
+#[cfg(test)]
+mod tests;
+
+pub use refusal::Refusal;
+pub use reply::{Operation, Outcome, Reply};
+pub use stated::{Cause, Source, Stop};

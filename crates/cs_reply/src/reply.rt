@@ -1,0 +1,125 @@
+//! The replies to a line.
+ghost use Rattle.std.specs.Prelude.{◌≡◌, OnOk, IfOk, ◌∷◌, [], codes, map};
+ghost use Rattle.cs_value.specs.Tree.{text, list, trees};
+ghost use Rattle.cs_json.specs.Nodes.{node_tree};
+ghost use Rattle.cs_reply.specs.Fields.{object_of, number};
+ghost use Rattle.cs_reply.specs.Reply.{operation_word, reply_tree, committed, found, outcome as outcome_tree};
+ghost use Rattle.cs_reply.specs.View.{operation, outcome, reply, Appended};
+
+use crate::line::{list, member, number, text, write_line};
+use crate::refusal::Refusal;
+use cs_json::Node;
+use cs_value::NoMemory;
+use std::alloc::Global;
+
+/// What became of a document.
+#[derive(Clone, Copy, Debug, PartialEq, Eq)]
+pub enum Operation {
+    /// It was made.
+    Create,
+    /// It is another.
+    Update,
+    /// It is gone.
+    Delete,
+}
+
+impl Operation {
+    fn word(self) -> &'static str
+        ensures { result.now ≡ operation_word (operation self) }
+    {
+        match self {
+            Operation::Create => "create",
+            Operation::Update => "update",
+            Operation::Delete => "delete",
+        }
+    }
+}
+
+/// What became of one document in a transaction.
+#[derive(Clone, Copy, Debug)]
+pub struct Outcome<'a> {
+    /// The id of the document.
+    pub id: &'a str,
+    /// What became of it.
+    pub operation: Operation,
+}
+
+/// A reply to a line.
+#[derive(Drop)]
+pub enum Reply<'a> {
+    /// A transaction was accepted: its id, and what became of each document that it changed, by
+    /// ascending id.
+    Committed {
+        tx: &'a str,
+        outcomes: &'a [Outcome<'a>],
+    },
+    /// What a query found.
+    Found(Node<'a>),
+    /// The line is refused.
+    Refused(Refusal<'a>),
+}
+
+// What became of one document.
+fn outcome_node<'a>(alloc: Global, changed: &Outcome<'a>) -> Result<Node<'a>, NoMemory>
+    ensures { IfOk result (λ node. node_tree node ≡ outcome_tree (outcome changed.now)) }
+{
+    let operation = changed.operation.word();
+    Ok(Node::Object(vec![in alloc;
+        member("id", Node::Text(changed.id)),
+        member("operation", Node::Text(operation)),
+    ]?))
+}
+
+// What became of each.
+fn outcome_nodes<'a>(alloc: Global, outcomes: &[Outcome<'a>]) -> Result<Vec<Node<'a>>, NoMemory>
+    ensures { IfOk result (λ nodes. map node_tree nodes.items ≡ map outcome_tree
+        (map outcome outcomes.now)) }
+{
+    let mut nodes = Vec::with_capacity(alloc, outcomes.len())?;
+    for changed in outcomes {
+        nodes.push(outcome_node(alloc, changed)?)?;
+    }
+    Ok(nodes)
+}
+
+fn write_committed<'a>(
+    alloc: Global,
+    tx: &'a str,
+    outcomes: &[Outcome<'a>],
+    line: u32,
+    out: &mut Vec<u8>,
+) -> Result<(), NoMemory>
+    ensures { OnOk result (Appended out.old.items out.new.items
+        (reply_tree line (committed tx.now (map outcome outcomes.now)))) }
+{
+    let results = outcome_nodes(alloc, outcomes)?;
+    let members = vec![in alloc;
+        member("line", number(line)),
+        member("results", list(results)),
+        member("transactionId", text(tx)),
+    ]?;
+    write_line(alloc, members, out)
+}
+
+fn write_found(alloc: Global, node: Node<'_>, line: u32, out: &mut Vec<u8>) -> Result<(), NoMemory>
+    ensures { OnOk result (Appended out.old.items out.new.items
+        (reply_tree line (found (node_tree node.entry)))) }
+{
+    let members = vec![in alloc; member("line", number(line)), member("result", node)]?;
+    write_line(alloc, members, out)
+}
+
+impl Reply<'_> {
+    /// Appends the reply to the line of the number: its compact text and a newline. After `NoMemory`
+    /// a part of it may have been appended.
+    pub fn write(self, alloc: Global, line: u32, out: &mut Vec<u8>) -> Result<(), NoMemory>
+        ensures { OnOk result (Appended out.old.items out.new.items
+            (reply_tree line (reply self.entry))) }
+    {
+        match self {
+            Reply::Committed { tx, outcomes } => write_committed(alloc, tx, outcomes, line, out),
+            Reply::Found(node) => write_found(alloc, node, line, out),
+            Reply::Refused(refusal) => refusal.write(alloc, line, out),
+        }
+    }
+}

@@ -1,0 +1,135 @@
+//! The row of `mutate`: a transaction, as far as it is built. What can be refused comes first and
+//! changes nothing, then the reply, and then what is changed at once.
+ghost use Rattle.std.specs.Prelude.{◌≡◌, ◌<◌, ℕ, ◌∷◌, [], OnOk, OnErr, MatchResult, length, true, false};
+ghost use Rattle.std.specs.BTreeSet.{contains_text};
+ghost use Rattle.cs_value.specs.Tree.{Tree};
+ghost use Rattle.cs_value.specs.View.{tree};
+ghost use Rattle.cs_view.specs.Document.{is_body, is_shallow, id_of};
+ghost use Rattle.cs_view.specs.Dataset.{with_doc};
+ghost use Rattle.cs_view.specs.View.{doc};
+ghost use Rattle.cs_wire.specs.Commands.{mutate};
+ghost use Rattle.cs_docs.specs.Places.{IsGapFor};
+ghost use Rattle.cs_docs.specs.Store.{docs as docs_of};
+ghost use Rattle.cs_docs.specs.Limits.{most_documents};
+ghost use Rattle.cs_reply.specs.Reply.{reply_tree, committed, create};
+ghost use Rattle.cs_reply.specs.View.{refusal, Appended};
+ghost use Rattle.cs_run.specs.Core.{state};
+ghost use Rattle.cs_run.specs.Does.{Does, Leaves, creating};
+ghost use Rattle.cs_run.specs.Install.{tx_of_line};
+ghost use Rattle.cs_run.specs.Machine.{done};
+ghost use Rattle.cs_run.specs.Refused.{refuse};
+ghost use Rattle.cs_run.specs.State.{with_docs, with_used};
+
+use crate::command::created_by;
+use crate::machine::Core;
+use crate::stamp::{FIRST_MOMENT, stamped, tx_of_line};
+use cs_reply::{Operation, Outcome, Refusal, Reply};
+use cs_value::{NoMemory, Val};
+use cs_view::Doc;
+
+impl Core {
+    // A transaction, as far as it is built: one create of an object that refers to nothing.
+    pub(crate) fn mutate(
+        &mut self,
+        body: Val,
+        line: u32,
+        out: &mut Vec<u8>,
+    ) -> Result<(), NoMemory>
+        ensures does { OnOk result (Does out.old.items out.new.items (state self.new) line
+            (done (state self.old) line (mutate (tree body)))) }
+        ensures leaves { OnErr result (Leaves self.old self.new) }
+    {
+        match created_by(body) {
+            Some(document) => self.create(document, line, out),
+            None => self.refuse(Refusal::NotBuilt, line, out),
+        }
+    }
+
+    fn create(&mut self, body: Val, line: u32, out: &mut Vec<u8>) -> Result<(), NoMemory>
+        requires body { is_body (tree body) ≡ true }
+        requires shallow { is_shallow (tree body) ≡ true }
+        ensures does { OnOk result (Does out.old.items out.new.items (state self.new) line
+            (creating (state self.old) line (tree body))) }
+        ensures leaves { OnErr result (Leaves self.old self.new) }
+    {
+        let tx = tx_of_line(self.alloc, line)?;
+        let document = stamped(self.alloc, body, tx.as_str(), FIRST_MOMENT)?;
+        match self.prepare(&document, tx.as_str()) {
+            Ok(place) => {
+                self.write_created(&document, tx.as_str(), line, out)?;
+                self.commit(place, document, tx.as_str())
+            }
+            Err(refusal) => self.refuse(refusal, line, out),
+        }
+    }
+
+    // The place of the document that a transaction creates, or why it is refused.
+    fn prepare<'d>(&self, document: &'d Doc, tx: &'d str) -> Result<usize, Refusal<'d>>
+        ensures { MatchResult result
+            (λ place. IsGapFor (id_of (doc document.entry.now)) (docs_of self.now.docs) place
+                × (length (docs_of self.now.docs) < most_documents)
+                × (contains_text self.now.used tx.entry.now ≡ false))
+            (λ r. (n : ℕ) (t : Tree) → tx.entry.now ≡ tx_of_line n → id_of (doc document.entry.now) ≡ id_of t
+                → creating (state self.now) n t ≡ refuse (state self.now) (refusal r)) }
+    {
+        let id = document.id().as_str();
+        let is_used = self.used.contains(tx);
+        match self.docs.search(id) {
+            Ok(_) => {
+                if is_used {
+                    return Err(Refusal::TxUsed { id: tx });
+                }
+                Err(Refusal::Exists { mutation: 0, id })
+            }
+            Err(place) => {
+                if self.docs.is_full() {
+                    return Err(Refusal::NotBuilt);
+                }
+                if is_used {
+                    return Err(Refusal::TxUsed { id: tx });
+                }
+                Ok(place)
+            }
+        }
+    }
+
+    // The reply to the transaction.
+    fn write_created(
+        &self,
+        document: &Doc,
+        tx: &str,
+        line: u32,
+        out: &mut Vec<u8>,
+    ) -> Result<(), NoMemory>
+        ensures { OnOk result (Appended out.old.items out.new.items (reply_tree line
+            (committed tx.now ((id_of (doc document.now), create) ∷ [])))) }
+    {
+        let created = Outcome {
+            id: document.id().as_str(),
+            operation: Operation::Create,
+        };
+        Reply::Committed {
+            tx,
+            outcomes: &[created],
+        }
+        .write(self.alloc, line, out)
+    }
+
+    // Installs the document at its place, and notes the transaction's id: both, or neither.
+    fn commit(&mut self, place: usize, document: Doc, tx: &str) -> Result<(), NoMemory>
+        requires gap { IsGapFor (id_of (doc document)) (docs_of self.old.docs) place }
+        requires room { length (docs_of self.old.docs) < most_documents }
+        requires unused { contains_text self.old.used tx.now ≡ false }
+        ensures committed { OnOk result (state self.new ≡ with_used tx.now
+            (with_docs (with_doc (doc document) (docs_of self.old.docs)) (state self.old))) }
+        ensures leaves { OnErr result (Leaves self.old self.new) }
+    {
+        let id = String::from_str(self.alloc, tx)?;
+        self.used.insert(id)?;
+        let installed = self.docs.insert(place, document);
+        if installed.is_err() {
+            self.used.remove(tx);
+        }
+        installed
+    }
+}
