@@ -7,6 +7,10 @@ use Rattle.cs_jsonmatch.specs.declared.path.Item.{Item as CodeItem}
 use Rattle.cs_jsonmatch.specs.declared.path.Item.TheVariants as item
 use Rattle.cs_jsonmatch.specs.declared.path.Step.{Step as CodeStep}
 use Rattle.cs_jsonmatch.specs.declared.path.JsonPath.{JsonPath}
+use Rattle.cs_jsonmatch.specs.declared.places.Part.{Part}
+use Rattle.cs_jsonmatch.specs.declared.places.Part.TheVariants as part
+use Rattle.cs_jsonmatch.specs.declared.places.Key.{Key}
+use Rattle.cs_jsonmatch.specs.declared.places.Key.TheVariants as key
 use Rattle.cs_jsonmatch.specs.declared.places.Place.{Place}
 
 abbrev pub item_of : CodeItem → Item
@@ -24,6 +28,10 @@ path_of ss = map step_of ss
 
 abbrev pub path : JsonPath → Path
 path p = path_of p.steps.items
+
+abbrev pub part_of : Key → Part
+part_of (key.Name name) = part.Name name.now
+part_of (key.Pos k) = part.Pos k
 
 abbrev pub locations : List Place → List Location
 locations ps = map (λ p. p.parts.items) ps

@@ -15,3 +15,10 @@ pub struct Place {
     /// The parts, from the outermost.
     pub parts: Vec<Part>,
 }
+
+// A part whose name is borrowed.
+#[derive(Clone, Copy, Drop)]
+pub(crate) enum Key<'k> {
+    Name(&'k str),
+    Pos(usize),
+}

@@ -3,11 +3,11 @@ ghost use Rattle.std.specs.List.{list_any};
 ghost use Rattle.cs_value.specs.Tree.{Tree};
 ghost use Rattle.cs_value.specs.View.{tree};
 ghost use Rattle.cs_jsonmatch.specs.Places.{is_position, clamped, from_end, to_end, follow, stands, met, selects};
-ghost use Rattle.cs_jsonmatch.specs.View.{item_of};
+ghost use Rattle.cs_jsonmatch.specs.View.{item_of, part_of};
 ghost use Rattle.cs_jsonmatch.specs.declared.places.Part.TheVariants.{Pos, Name};
 
 use crate::path::{Comparison, Item, Step, Test};
-use crate::places::Part;
+use crate::places::Key;
 use cs_ops::{equal, partial};
 use cs_value::{Txt, Val};
 
@@ -100,20 +100,20 @@ fn selects_named(item: &Item, name: &str) -> bool
     }
 }
 
-fn selects_part(item: &Item, count: usize, part: &Part, val: &Val) -> bool
-    ensures { result ≡ selects count part.now (tree val.now) (item_of item.now) }
+fn selects_key(item: &Item, count: usize, key: Key<'_>, val: &Val) -> bool
+    ensures { result ≡ selects count (part_of key.entry) (tree val.now) (item_of item.now) }
 {
-    match part {
-        Part::Name(name) => selects_named(item, name.as_str()),
-        Part::Pos(here) => selects_at(item, count, *here, val),
+    match key {
+        Key::Name(name) => selects_named(item, name),
+        Key::Pos(here) => selects_at(item, count, here, val),
     }
 }
 
-pub(crate) fn step_selects(step: &Step, count: usize, part: &Part, val: &Val) -> bool
-    ensures { result ≡ list_any (selects count part.now (tree val.now)) (map item_of step.now.items.items) }
+pub(crate) fn step_selects(step: &Step, count: usize, key: Key<'_>, val: &Val) -> bool
+    ensures { result ≡ list_any (selects count (part_of key.entry) (tree val.now)) (map item_of step.now.items.items) }
 {
     for item in &step.items {
-        if selects_part(item, count, part, val) {
+        if selects_key(item, count, key, val) {
             return true;
         }
     }

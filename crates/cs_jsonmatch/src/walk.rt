@@ -1,13 +1,13 @@
-ghost use Rattle.std.specs.Prelude.{◌≡◌, ◌+◌, ◌++◌, ◌∷◌, [], length, map, false, IfOk, OnOk, true, replicate, cond};
+ghost use Rattle.std.specs.Prelude.{◌≡◌, ◌++◌, ◌∷◌, [], length, map, take, false, unwrap_or, slice_get, IfOk, OnOk, cond};
 ghost use Rattle.std.specs.List.{list_any};
 ghost use Rattle.cs_value.specs.Tree.{list, object as object_of, trees};
 ghost use Rattle.cs_value.specs.View.{tree, list_tree, fields};
 ghost use Rattle.cs_jsonmatch.specs.Places.{selects, trails, item_trails, pair_trails, places as places_of};
-ghost use Rattle.cs_jsonmatch.specs.View.{item_of, path_of, path, locations};
+ghost use Rattle.cs_jsonmatch.specs.View.{path_of, path, part_of, locations};
 ghost use Rattle.cs_jsonmatch.specs.Walk.{next as next_waiting, reached};
 
 use crate::path::{JsonPath, Step};
-use crate::places::{Part, Place};
+use crate::places::{Key, Part, Place};
 use crate::select::step_selects;
 use cs_value::{Fields, NoMemory, Txt, Val};
 use std::alloc::Global;
@@ -27,24 +27,22 @@ fn copy_parts(alloc: Global, parts: &[Part]) -> Result<Vec<Part>, NoMemory>
     Ok(copies)
 }
 
-// Which rests of the path wait below a part.
+// Which rests of the path wait below a part: one more than above at most.
 fn next(
     alloc: Global,
     steps: &[Step],
     waiting: &[bool],
     count: usize,
-    part: &Part,
+    key: Key<'_>,
     val: &Val,
 ) -> Result<Vec<bool>, NoMemory>
-    requires { length waiting.now ≡ length steps.now + 1 }
-    ensures length { IfOk result (λ v. length v.items ≡ length steps.now + 1) }
-    ensures next { IfOk result (λ v. v.items ≡ next_waiting (selects count part.now (tree val.now)) false waiting.now (path_of steps.now)) }
+    ensures { IfOk result (λ v. v.items ≡ next_waiting (selects count (part_of key.entry) (tree val.now)) false waiting.now (path_of steps.now)) }
 {
     let mut below = Vec::new(alloc);
     let mut here = false;
-    for (i, step) in steps.iter().enumerate() {
-        below.push(here || (waiting[i] && step.deep))?;
-        here = waiting[i] && step_selects(step, count, part, val);
+    for (waits, step) in waiting.iter().zip(steps) {
+        below.push(here || (*waits && step.deep))?;
+        here = *waits && step_selects(step, count, key, val);
     }
     below.push(here)?;
     Ok(below)
@@ -59,6 +57,20 @@ fn any_waits(waiting: &[bool]) -> bool
         }
     }
     false
+}
+
+// Whether the path ends at a value where these rests wait.
+fn path_ends(steps: &[Step], waiting: &[bool]) -> bool
+    ensures { result ≡ unwrap_or (slice_get waiting.now (length steps.now)) false }
+{
+    waiting.get(steps.len()).copied().unwrap_or(false)
+}
+
+// Whether a rest waits that has a step.
+fn goes_on(steps: &[Step], waiting: &[bool]) -> bool
+    ensures { result ≡ list_any (λ b. b) (take (length steps.now) waiting.now) }
+{
+    any_waits(&waiting[..steps.len().min(waiting.len())])
 }
 
 // Adds the place where the path has ended there.
@@ -82,14 +94,13 @@ fn walk(
     above: &mut Vec<Part>,
     found: &mut Vec<Place>,
 ) -> Result<(), NoMemory>
-    requires { length waiting.now ≡ length steps.now + 1 }
     ensures found { OnOk result (locations found.new.items ≡ locations found.old.items ++ reached above.old.items waiting.now (path_of steps.now) (tree val.now) (trails (tree val.now))) }
     ensures above { OnOk result (above.new.items ≡ above.old.items) }
 {
-    if !any_waits(waiting) {
+    arrive(alloc, path_ends(steps, waiting), above, found)?;
+    if !goes_on(steps, waiting) {
         return Ok(());
     }
-    arrive(alloc, waiting[steps.len()], above, found)?;
     match val {
         Val::List(items) => walk_items(alloc, steps, waiting, items, above, found),
         Val::Obj(object) => walk_pairs(alloc, steps, waiting, object, above, found),
@@ -109,15 +120,13 @@ fn walk_items(
     above: &mut Vec<Part>,
     found: &mut Vec<Place>,
 ) -> Result<(), NoMemory>
-    requires { length waiting.now ≡ length steps.now + 1 }
     ensures found { OnOk result (locations found.new.items ≡ locations found.old.items ++ reached above.old.items waiting.now (path_of steps.now) (list (trees (list_tree items.now.items))) (item_trails 0 (trees (list_tree items.now.items)))) }
     ensures above { OnOk result (above.new.items ≡ above.old.items) }
 {
     let count = items.len();
     for (k, item) in items.iter().enumerate() {
-        let part = Part::Pos(k);
-        let below = next(alloc, steps, waiting, count, &part, item)?;
-        above.push(part)?;
+        let below = next(alloc, steps, waiting, count, Key::Pos(k), item)?;
+        above.push(Part::Pos(k))?;
         walk(alloc, steps, &below, item, above, found)?;
         drop(above.pop());
     }
@@ -133,44 +142,32 @@ fn walk_pairs(
     above: &mut Vec<Part>,
     found: &mut Vec<Place>,
 ) -> Result<(), NoMemory>
-    requires { length waiting.now ≡ length steps.now + 1 }
     ensures found { OnOk result (locations found.new.items ≡ locations found.old.items ++ reached above.old.items waiting.now (path_of steps.now) (object_of (fields object.now)) (pair_trails (fields object.now))) }
     ensures above { OnOk result (above.new.items ≡ above.old.items) }
 {
     for (name, member) in object.pairs.iter() {
-        let part = Part::Name(Txt::copy_of(alloc, name.as_str())?);
-        let below = next(alloc, steps, waiting, 0, &part, member)?;
-        above.push(part)?;
+        let below = next(alloc, steps, waiting, 0, Key::Name(name.as_str()), member)?;
+        if !any_waits(&below) {
+            continue;
+        }
+        above.push(Part::Name(Txt::copy_of(alloc, name.as_str())?))?;
         walk(alloc, steps, &below, member, above, found)?;
         drop(above.pop());
     }
     Ok(())
 }
 
-// At the start the whole path waits, and no later rest of it.
-fn start(alloc: Global, steps: &[Step]) -> Result<Vec<bool>, NoMemory>
-    ensures length { IfOk result (λ v. length v.items ≡ length steps.now + 1) }
-    ensures start { IfOk result (λ v. v.items ≡ true ∷ replicate (length steps.now) false) }
-{
-    let mut waiting = Vec::new(alloc);
-    waiting.push(true)?;
-    for i in 0..steps.len() {
-        waiting.push(false)?;
-    }
-    Ok(waiting)
-}
-
 impl JsonPath {
     /// The places of the value that the path selects, in document order, each once. It walks the
-    /// value once, and does not enter what no rest of the path can lead into. `NoMemory` where the
-    /// allocator has no room for what waits or for the places.
+    /// value once, and does not enter what no rest of the path can lead into: it keeps a flag for
+    /// each rest, of which one more can wait at each level. `NoMemory` where the allocator has no
+    /// room for the flags or for the places.
     pub fn places(&self, alloc: Global, val: &Val) -> Result<Vec<Place>, NoMemory>
         ensures { IfOk result (λ found. locations found.items ≡ places_of (path self.now) (tree val.now)) }
     {
-        let waiting = start(alloc, &self.steps)?;
         let mut above = Vec::new(alloc);
         let mut found = Vec::new(alloc);
-        walk(alloc, &self.steps, &waiting, val, &mut above, &mut found)?;
+        walk(alloc, &self.steps, &[true], val, &mut above, &mut found)?;
         Ok(found)
     }
 }

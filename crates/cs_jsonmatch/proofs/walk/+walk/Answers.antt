@@ -1,4 +1,4 @@
-use Rattle.std.proofs.Common.{◌≡◌, ◌++◌, ◌<◌, length, get_or, false, refl, sym, ap, ◌∙◌, arith}
+use Rattle.std.proofs.Common.{◌≡◌, ◌++◌, ◌∷◌, [], cond, ◌<◌, length, get_or, false, refl, sym, ap, ◌∙◌, arith}
 use Rattle.std.specs.List.{list_any}
 use Rattle.cs_value.specs.Tree.{list, object, trees}
 use Rattle.cs_value.specs.View.{tree, fields, list_tree}
@@ -8,7 +8,7 @@ use Rattle.cs_jsonmatch.specs.View.{path_of}
 use Rattle.cs_jsonmatch.specs.Walk.{next, reached}
 use Rattle.cs_jsonmatch.specs.View.{locations}
 use Rattle.cs_jsonmatch.specs.declared.places.Part.TheVariants.{Name, Pos}
-use Rattle.cs_jsonmatch.proofs.Walks.{many, on_ok, arrived, leaf, trails-Null, trails-Bool, trails-Num, trails-Text, item_step, pair_step, popped, none_reached}
+use Rattle.cs_jsonmatch.proofs.Walks.{on_ok, arrived, alone, at_end, trails-Null, trails-Bool, trails-Num, trails-Text, item_step, pair_step, popped, none_reached}
 use Rattle.cs_jsonmatch.proofs.walk.+walk.Goals as goal
 
 pub walk-returns-in-List-clause-found : goal.walk-returns-in-List-clause-found
@@ -20,7 +20,7 @@ walk-returns-in-List-clause-found t c =
     let ls = item_trails 0 (trees (list_tree c.in-List.items.items)) in
     rw (c.in-List.is, tree-List c.in-List.items)
     (on_ok c.walk_items.result (locations c.walk_items.new.found.items ≡ locations c.arrive.new.found.items ++ reached above ws (path_of ss) v ls) _
-    (λ q. arrived (locations c.args.found.now.items) (locations c.arrive.new.found.items) _ c.deref.result.now above ws ss v ls c.requires c.deref.ensures.value c.in_ok-arrive.ensures q)
+    (λ q. arrived (locations c.args.found.now.items) (locations c.arrive.new.found.items) _ c.deref.result.now above ws ss v ls c.deref.ensures.value (c.in_ok-arrive.ensures ∙ ap (λ b. locations c.args.found.now.items ++ cond b (c.deref.result.now ∷ []) []) c.path_ends.ensures) q)
     c.walk_items.ensures.found)
 
 pub walk-returns-in-Obj-clause-found : goal.walk-returns-in-Obj-clause-found
@@ -32,30 +32,30 @@ walk-returns-in-Obj-clause-found t c =
     let ls = pair_trails (fields c.in-Obj.object) in
     rw (c.in-Obj.is, tree-Obj c.in-Obj.object)
     (on_ok c.walk_pairs.result (locations c.walk_pairs.new.found.items ≡ locations c.arrive.new.found.items ++ reached above ws (path_of ss) v ls) _
-    (λ q. arrived (locations c.args.found.now.items) (locations c.arrive.new.found.items) _ c.deref.result.now above ws ss v ls c.requires c.deref.ensures.value c.in_ok-arrive.ensures q)
+    (λ q. arrived (locations c.args.found.now.items) (locations c.arrive.new.found.items) _ c.deref.result.now above ws ss v ls c.deref.ensures.value (c.in_ok-arrive.ensures ∙ ap (λ b. locations c.args.found.now.items ++ cond b (c.deref.result.now ∷ []) []) c.path_ends.ensures) q)
     c.walk_pairs.ensures.found)
 
 pub walk-returns-in-Null : goal.walk-returns-in-Null
 walk-returns-in-Null t c = record {
-  found = leaf (locations c.args.found.now.items) (locations c.arrive.new.found.items) c.deref.result.now c.args.above.now.items c.args.waiting.now c.args.steps.now (tree c.args.val.now) c.requires c.deref.ensures.value c.in_ok-arrive.ensures (rw c.in-Null.is (trails-Null));
+  found = alone (locations c.args.found.now.items) (locations c.arrive.new.found.items) c.deref.result.now c.args.above.now.items c.args.waiting.now c.args.steps.now (tree c.args.val.now) [] c.deref.ensures.value (c.in_ok-arrive.ensures ∙ ap (λ b. locations c.args.found.now.items ++ cond b (c.deref.result.now ∷ []) []) c.path_ends.ensures) (rw c.in-Null.is (trails-Null)) refl;
   above = refl;
 }
 
 pub walk-returns-in-Bool : goal.walk-returns-in-Bool
 walk-returns-in-Bool t c = record {
-  found = leaf (locations c.args.found.now.items) (locations c.arrive.new.found.items) c.deref.result.now c.args.above.now.items c.args.waiting.now c.args.steps.now (tree c.args.val.now) c.requires c.deref.ensures.value c.in_ok-arrive.ensures (rw c.in-Bool.is (trails-Bool c.in-Bool.field-0));
+  found = alone (locations c.args.found.now.items) (locations c.arrive.new.found.items) c.deref.result.now c.args.above.now.items c.args.waiting.now c.args.steps.now (tree c.args.val.now) [] c.deref.ensures.value (c.in_ok-arrive.ensures ∙ ap (λ b. locations c.args.found.now.items ++ cond b (c.deref.result.now ∷ []) []) c.path_ends.ensures) (rw c.in-Bool.is (trails-Bool c.in-Bool.field-0)) refl;
   above = refl;
 }
 
 pub walk-returns-in-Num : goal.walk-returns-in-Num
 walk-returns-in-Num t c = record {
-  found = leaf (locations c.args.found.now.items) (locations c.arrive.new.found.items) c.deref.result.now c.args.above.now.items c.args.waiting.now c.args.steps.now (tree c.args.val.now) c.requires c.deref.ensures.value c.in_ok-arrive.ensures (rw c.in-Num.is (trails-Num c.in-Num.field-0));
+  found = alone (locations c.args.found.now.items) (locations c.arrive.new.found.items) c.deref.result.now c.args.above.now.items c.args.waiting.now c.args.steps.now (tree c.args.val.now) [] c.deref.ensures.value (c.in_ok-arrive.ensures ∙ ap (λ b. locations c.args.found.now.items ++ cond b (c.deref.result.now ∷ []) []) c.path_ends.ensures) (rw c.in-Num.is (trails-Num c.in-Num.field-0)) refl;
   above = refl;
 }
 
 pub walk-returns-in-Text : goal.walk-returns-in-Text
 walk-returns-in-Text t c = record {
-  found = leaf (locations c.args.found.now.items) (locations c.arrive.new.found.items) c.deref.result.now c.args.above.now.items c.args.waiting.now c.args.steps.now (tree c.args.val.now) c.requires c.deref.ensures.value c.in_ok-arrive.ensures (rw c.in-Text.is (trails-Text c.in-Text.field-0));
+  found = alone (locations c.args.found.now.items) (locations c.arrive.new.found.items) c.deref.result.now c.args.above.now.items c.args.waiting.now c.args.steps.now (tree c.args.val.now) [] c.deref.ensures.value (c.in_ok-arrive.ensures ∙ ap (λ b. locations c.args.found.now.items ++ cond b (c.deref.result.now ∷ []) []) c.path_ends.ensures) (rw c.in-Text.is (trails-Text c.in-Text.field-0)) refl;
   above = refl;
 }
 
@@ -71,10 +71,10 @@ walk_items-loop-k-preserved t c =
     let at : x ≡ get_or xs i x = c.item-item.is ∙ ap (λ ys. get_or ys i x) c.deref-item-items.ensures.value in
     let here : i < length xs = omega arith in
     let count : c.len-count.result ≡ length xs = omega arith in
-    let next_is = c.in_ok-below.ensures.next ∙ ap (λ n. next (selects n (Pos i) (tree x)) false ws (path_of ss)) count in
+    let next_is = c.in_ok-below.ensures ∙ ap (λ n. next (selects n (Pos i) (tree x)) false ws (path_of ss)) count in
     let walked = c.in_ok-walk.ensures.found ∙ ap (λ a. found ++ reached a c.deref.result.now (path_of ss) (tree x) (trails (tree x))) c.in_ok-push.ensures.items in
     let back = popped above c.walk.new.above.items c.pop.new.self.items (Pos i) c.walk.new.above.len (c.in_ok-walk.ensures.above ∙ c.in_ok-push.ensures.items) (omega arith) c.pop.ensures.rest in (
-      rw back (item_step found (locations c.walk.new.found.items) above ws c.deref.result.now (path_of ss) xs i x (many ws ss c.requires) here at (c.deref.ensures.value ∙ next_is) walked ∙ c.loop-k.invariant.0),
+      rw back (item_step found (locations c.walk.new.found.items) above ws c.deref.result.now (path_of ss) xs i x here at (c.deref.ensures.value ∙ next_is) walked ∙ c.loop-k.invariant.0),
       back ∙ c.loop-k.invariant.1,
     )
 
@@ -85,16 +85,32 @@ walk_pairs-loop-name-preserved t c =
     let ss = c.args.steps.now in
     let e : Entry = (c.in-Some.name.now, c.in-Some.member.now) in
     let name = c.in_ok-copy_of.field-0 in
-    let name_is = c.in_ok-copy_of.ensures ∙ c.as_str.ensures.value in
+    let name_is = c.in_ok-copy_of.ensures ∙ c.as_str-in-loop-name.ensures.value in
     let above = l.above.items in
     let found = locations l.found.items in
-    let walked = c.in_ok-walk.ensures.found ∙ ap (λ a. found ++ reached a c.deref.result.now (path_of ss) (tree e.1) (trails (tree e.1))) c.in_ok-push.ensures.items in
+    let below_is = c.in_ok-below.ensures ∙ ap (λ m. next (selects 0 (Name m) (tree e.1)) false ws (path_of ss)) (c.as_str.ensures.value ∙ sym name_is) in
+    let walked = c.in_ok-walk.ensures.found ∙ ap (λ a. found ++ reached a c.deref-in-loop-name.result.now (path_of ss) (tree e.1) (trails (tree e.1))) c.in_ok-push.ensures.items in
     let back = popped above c.walk.new.above.items c.pop.new.self.items (Name name) c.walk.new.above.len (c.in_ok-walk.ensures.above ∙ c.in_ok-push.ensures.items) (omega arith) c.pop.ensures.rest in (
-      rw back (pair_step found (locations c.walk.new.found.items) above ws c.deref.result.now (path_of ss) c.args.object.now l.name-iterator c.next.new.self name e (many ws ss c.requires) c.in-Some.ensures.steps name_is (c.deref.ensures.value ∙ c.in_ok-below.ensures.next) walked ∙ l.invariant.0),
+      rw back (pair_step found (locations c.walk.new.found.items) above ws c.deref-in-loop-name.result.now (path_of ss) c.args.object.now l.name-iterator c.next.new.self name e c.in-Some.ensures.steps name_is (c.deref-in-loop-name.ensures.value ∙ below_is) walked ∙ l.invariant.0),
       back ∙ l.invariant.1,
     )
 
-pub walk-returns-then-not-any_waits-clause-found : goal.walk-returns-then-not-any_waits-clause-found
-walk-returns-then-not-any_waits-clause-found t c =
-    let none : list_any (λ b. b) c.args.waiting.now ≡ false = sym c.any_waits.ensures ∙ c.if-not-any_waits.true in
-    none_reached _ c.args.above.now.items c.args.waiting.now (path_of c.args.steps.now) (tree c.args.val.now) (trails (tree c.args.val.now)) none
+pub walk_pairs-loop-name-preserved-then-not-any_waits : goal.walk_pairs-loop-name-preserved-then-not-any_waits
+walk_pairs-loop-name-preserved-then-not-any_waits t c =
+    let l = c.loop-name in
+    let e : Entry = (c.in-Some.name.now, c.in-Some.member.now) in
+    let ms = path_of c.args.steps.now in
+    let below = c.deref.result.now in
+    let above = l.above.items in
+    let found = locations l.found.items in
+    let name = c.as_str.result.now in
+    let none : list_any (λ b. b) below ≡ false = sym c.any_waits.ensures ∙ c.if-not-any_waits.true in
+    let walked = none_reached found (above ++ Name name ∷ []) below ms (tree e.1) (trails (tree e.1)) none in (
+      pair_step found found above c.args.waiting.now below ms c.args.object.now l.name-iterator c.next.new.self name e c.in-Some.ensures.steps c.as_str.ensures.value (c.deref.ensures.value ∙ c.in_ok-below.ensures) walked ∙ l.invariant.0,
+      l.invariant.1,
+    )
+
+pub walk-returns-then-not-goes_on-clause-found : goal.walk-returns-then-not-goes_on-clause-found
+walk-returns-then-not-goes_on-clause-found t c =
+    at_end (locations c.args.found.now.items) (locations c.arrive.new.found.items) c.deref.result.now c.args.above.now.items c.args.waiting.now c.args.steps.now (tree c.args.val.now)
+    c.deref.ensures.value (c.in_ok-arrive.ensures ∙ ap (λ b. locations c.args.found.now.items ++ cond b (c.deref.result.now ∷ []) []) c.path_ends.ensures) (sym c.goes_on.ensures ∙ c.if-not-goes_on.true)
