@@ -2,14 +2,14 @@ ghost use Rattle.std.specs.Prelude.{ℕ, ℤ, ◌≡◌, ◌≢◌, ◌<◌, ◌
 ghost use Rattle.cs_value.specs.Tree.{Tree};
 ghost use Rattle.cs_value.specs.View.{tree};
 ghost use Rattle.cs_jsonmatch.specs.Path.{Item as PathItem, Path, meets};
-ghost use Rattle.cs_jsonmatch.specs.View.{item_of};
-ghost use Rattle.cs_jsonmatch.specs.declared.class.Class.TheVariants.{Letter};
+ghost use Rattle.cs_jsonmatch.specs.View.{item_of, items_of};
+ghost use Rattle.cs_jsonmatch.specs.declared.class.Class.TheVariants.{Letter, Space};
 ghost use Rattle.cs_jsonmatch.specs.Machine.{front, before, to, left_done, half, angle, literal, letters, next_letter, after, done, more};
 ghost use Rattle.cs_jsonmatch.specs.Reading.{reading, next_class, after_int, IsRead};
 
 use crate::class::Class;
 use crate::cursor::{Cursor, Stop};
-use crate::path::{Comparison, Item, Test};
+use crate::path::{Comparison, Item, Items, Test};
 use cs_value::{Txt, Val};
 use std::alloc::Global;
 
@@ -167,11 +167,12 @@ impl<'t> Cursor<'t> {
     {
         let comparison = self.comparison()?;
         let constant = self.constant(alloc)?;
-        Ok(Item::Meets(Test {
+        let test = Test {
             names,
             comparison,
             constant,
-        }))
+        };
+        Ok(Item::Meets(Box::new(alloc, test)?))
     }
 
     // The range whose first end and colon have been taken.
@@ -224,21 +225,34 @@ impl<'t> Cursor<'t> {
         }
     }
 
-    // The items of a bracket and its end, where its beginning has been taken.
-    pub fn items(&mut self, alloc: Global) -> Result<Vec<Item>, Stop>
-        ensures items { (p : Path) (d : Bool) → IsRead result (λ is. reading self.new.rest.now (done (more p d (map item_of is.items)))) (reading self.old.rest.now (before p d [])) self.new.rest.now }
+    // The items of a bracket and its end, where the first has been taken, with the spaces behind it.
+    fn more_items(&mut self, alloc: Global, first: Item) -> Result<Vec<Item>, Stop>
+        requires { next_class self.old.rest.now ≢ Space }
+        ensures items { (p : Path) (d : Bool) → IsRead result (λ is. reading self.new.rest.now (done (more p d (map item_of is.items)))) (reading self.old.rest.now (after p d (item_of first ∷ []))) self.new.rest.now }
         ensures shorter { length self.new.rest.now ≤ length self.old.rest.now }
     {
         let mut items = Vec::new(alloc);
-        loop {
+        items.push(first)?;
+        while self.skip(Class::Comma) {
             items.push(self.item(alloc)?)?;
             self.skip_spaces();
-            if self.skip(Class::Closing) {
-                return Ok(items);
-            }
-            if !self.skip(Class::Comma) {
-                return Err(Stop::Here);
-            }
         }
+        if !self.skip(Class::Closing) {
+            return Err(Stop::Here);
+        }
+        Ok(items)
+    }
+
+    // The items of a bracket and its end, where its beginning has been taken.
+    pub fn items(&mut self, alloc: Global) -> Result<Items, Stop>
+        ensures items { (p : Path) (d : Bool) → IsRead result (λ is. reading self.new.rest.now (done (more p d (items_of is)))) (reading self.old.rest.now (before p d [])) self.new.rest.now }
+        ensures shorter { length self.new.rest.now ≤ length self.old.rest.now }
+    {
+        let first = self.item(alloc)?;
+        self.skip_spaces();
+        if self.skip(Class::Closing) {
+            return Ok(Items::One(first));
+        }
+        Ok(Items::Many(self.more_items(alloc, first)?))
     }
 }

@@ -11,7 +11,15 @@ pub struct JsonPath {
 #[derive(Drop)]
 pub(crate) struct Step {
     pub deep: bool,
-    pub items: Vec<Item>,
+    pub items: Items,
+}
+
+// The items of a step. A path may have millions of steps, nearly all of one item, so that stands in
+// its step.
+#[derive(Drop)]
+pub(crate) enum Items {
+    One(Item),
+    Many(Vec<Item>),
 }
 
 #[derive(Drop)]
@@ -24,7 +32,8 @@ pub(crate) enum Item {
     Every,
     // The attribute of a name.
     Named(Txt),
-    Meets(Test),
+    // Boxed, since it is by far the largest.
+    Meets(Box<Test>),
 }
 
 // A comparison of what stands under the names, one in the other, with a constant. Without names it

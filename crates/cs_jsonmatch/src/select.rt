@@ -3,10 +3,10 @@ ghost use Rattle.std.specs.List.{list_any};
 ghost use Rattle.cs_value.specs.Tree.{Tree};
 ghost use Rattle.cs_value.specs.View.{tree};
 ghost use Rattle.cs_jsonmatch.specs.Places.{is_position, clamped, from_end, to_end, follow, stands, met, selects};
-ghost use Rattle.cs_jsonmatch.specs.View.{item_of, part_of};
+ghost use Rattle.cs_jsonmatch.specs.View.{item_of, items_of, part_of};
 ghost use Rattle.cs_jsonmatch.specs.declared.places.Part.TheVariants.{Pos, Name};
 
-use crate::path::{Comparison, Item, Step, Test};
+use crate::path::{Comparison, Item, Items, Step, Test};
 use crate::places::Key;
 use cs_ops::{equal, partial};
 use cs_value::{Txt, Val};
@@ -109,13 +109,22 @@ fn selects_key(item: &Item, count: usize, key: Key<'_>, val: &Val) -> bool
     }
 }
 
-pub(crate) fn step_selects(step: &Step, count: usize, key: Key<'_>, val: &Val) -> bool
-    ensures { result ≡ list_any (selects count (part_of key.entry) (tree val.now)) (map item_of step.now.items.items) }
+fn some_selects(items: &[Item], count: usize, key: Key<'_>, val: &Val) -> bool
+    ensures { result ≡ list_any (selects count (part_of key.entry) (tree val.now)) (map item_of items.now) }
 {
-    for item in &step.items {
+    for item in items {
         if selects_key(item, count, key, val) {
             return true;
         }
     }
     false
+}
+
+pub(crate) fn step_selects(step: &Step, count: usize, key: Key<'_>, val: &Val) -> bool
+    ensures { result ≡ list_any (selects count (part_of key.entry) (tree val.now)) (items_of step.now.items) }
+{
+    match &step.items {
+        Items::One(item) => selects_key(item, count, key, val),
+        Items::Many(items) => some_selects(items, count, key, val),
+    }
 }

@@ -7,7 +7,7 @@ ghost use Rattle.cs_jsonmatch.specs.Reading.{reading, next_class, IsRead, TakesN
 
 use crate::class::Class;
 use crate::cursor::{Cursor, Stop};
-use crate::path::{Item, Step};
+use crate::path::{Item, Items, Step};
 use std::alloc::Global;
 
 impl<'t> Cursor<'t> {
@@ -17,9 +17,7 @@ impl<'t> Cursor<'t> {
         ensures step { (s0 : State) (p : Path) → TakesName s0 p deep → IsRead result (λ s. reading self.new.rest.now (done (p ++ step_of s ∷ []))) (reading self.old.rest.now s0) self.new.rest.now }
         ensures shorter { length self.new.rest.now ≤ length self.old.rest.now }
     {
-        let name = self.name(alloc)?;
-        let mut items = Vec::new(alloc);
-        items.push(Item::Named(name))?;
+        let items = Items::One(Item::Named(self.name(alloc)?));
         Ok(Step { deep, items })
     }
 

@@ -1,6 +1,8 @@
 use super::*;
+use crate::path::Step;
 use cs_value::{Fields, Txt, Val};
 use std::alloc::Global;
+use std::mem::size_of;
 use std::test::Fail;
 
 fn text(alloc: Global, text: &str) -> Result<Val, Fail> {
@@ -286,5 +288,12 @@ fn paths_on_a_sample(rt: HostRuntime) -> Result<(), Fail> {
         let got = answer(alloc, text, &val)?;
         assert_eq!(rt; got.as_str(), wanted, "{text}");
     }
+    Ok(())
+}
+
+// A path may have millions of steps. The text of a name is beside them.
+#[test]
+fn a_step_has_at_most_64_bytes(rt: HostRuntime) -> Result<(), Fail> {
+    assert!(rt; size_of::<Step>() <= 64);
     Ok(())
 }
