@@ -66,7 +66,9 @@ impl<'t> Cursor<'t> {
 
     // The next character, taken.
     pub fn next(&mut self) -> Option<char>
-        ensures { MatchOption result ((self.old.rest.now ≡ []) × (self.new.rest.now ≡ [])) (λ c. (self.old.rest.now ≡ encode_utf8 c ++ self.new.rest.now) × (length self.new.rest.now < length self.old.rest.now)) }
+        ensures { MatchOption result ((self.old.rest.now ≡ []) × (self.new.rest.now ≡ []))
+            (λ c. (self.old.rest.now ≡ encode_utf8 c ++ self.new.rest.now)
+            × (length self.new.rest.now < length self.old.rest.now)) }
     {
         let mut chars = self.rest.chars();
         let next = chars.next();
@@ -77,7 +79,8 @@ impl<'t> Cursor<'t> {
     // The next character, taken where it is of the class.
     pub fn take(&mut self, wanted: Class) -> Option<char>
         requires { wanted ≢ Other }
-        ensures { MatchOption result (Missed wanted self.old.rest.now self.new.rest.now) (λ c. Took wanted c self.old.rest.now self.new.rest.now) }
+        ensures { MatchOption result (Missed wanted self.old.rest.now self.new.rest.now)
+            (λ c. Took wanted c self.old.rest.now self.new.rest.now) }
     {
         if self.peek() != wanted {
             return None;
@@ -88,7 +91,8 @@ impl<'t> Cursor<'t> {
     // Whether the next character is of the class; it is taken then.
     pub fn skip(&mut self, wanted: Class) -> bool
         requires { wanted ≢ Other }
-        ensures { MatchBool result ((b : ℕ) × Took wanted b self.old.rest.now self.new.rest.now) (Missed wanted self.old.rest.now self.new.rest.now) }
+        ensures { MatchBool result ((b : ℕ) × Took wanted b self.old.rest.now self.new.rest.now)
+            (Missed wanted self.old.rest.now self.new.rest.now) }
     {
         self.take(wanted).is_some()
     }
@@ -104,7 +108,8 @@ impl<'t> Cursor<'t> {
 
     // Takes the spaces that stand next.
     pub fn skip_spaces(&mut self)
-        ensures reads { (s : State) → taken s 32 ≡ Some s → reading self.old.rest.now s ≡ reading self.new.rest.now s }
+        ensures reads { (s : State) → taken s 32 ≡ Some s →
+            reading self.old.rest.now s ≡ reading self.new.rest.now s }
         ensures next { next_class self.new.rest.now ≢ Space }
         ensures shorter { length self.new.rest.now ≤ length self.old.rest.now }
     {

@@ -17,7 +17,9 @@ impl<'t> Cursor<'t> {
     // Names with dots between them; the first letter stands next.
     fn names(&mut self, alloc: Global) -> Result<Vec<Txt>, Stop>
         requires { next_class self.old.rest.now ≡ Letter }
-        ensures names { (p : Path) (d : Bool) (is : List PathItem) → IsRead result (λ ns. reading self.new.rest.now (left_done p d is ns.items)) (reading self.old.rest.now (before p d is)) self.new.rest.now }
+        ensures names { (p : Path) (d : Bool) (is : List PathItem) →
+            IsRead result (λ ns. reading self.new.rest.now (left_done p d is ns.items))
+            (reading self.old.rest.now (before p d is)) self.new.rest.now }
         ensures shorter { length self.new.rest.now ≤ length self.old.rest.now }
     {
         let mut names = Vec::new(alloc);
@@ -33,7 +35,9 @@ impl<'t> Cursor<'t> {
 
     // The second sign of an operator that has two.
     fn equal_sign(&mut self, comparison: Comparison) -> Result<Comparison, Stop>
-        ensures operator { (p : Path) (d : Bool) (is : List PathItem) (ns : List (List ℕ)) → IsRead result (λ c. reading self.new.rest.now (literal p d is ns c)) (reading self.old.rest.now (half p d is ns comparison)) self.new.rest.now }
+        ensures operator { (p : Path) (d : Bool) (is : List PathItem) (ns : List (List ℕ)) →
+            IsRead result (λ c. reading self.new.rest.now (literal p d is ns c))
+            (reading self.old.rest.now (half p d is ns comparison)) self.new.rest.now }
         ensures shorter { length self.new.rest.now ≤ length self.old.rest.now }
     {
         if self.skip(Class::EqualSign) {
@@ -45,7 +49,9 @@ impl<'t> Cursor<'t> {
 
     // The operator that begins with `<` or `>`, which has been taken.
     fn angle(&mut self, alone: Comparison, with_equal: Comparison) -> Comparison
-        ensures operator { (p : Path) (d : Bool) (is : List PathItem) (ns : List (List ℕ)) → reading self.old.rest.now (angle p d is ns alone with_equal) ≡ reading self.new.rest.now (literal p d is ns result) }
+        ensures operator { (p : Path) (d : Bool) (is : List PathItem) (ns : List (List ℕ)) →
+            reading self.old.rest.now (angle p d is ns alone with_equal)
+            ≡ reading self.new.rest.now (literal p d is ns result) }
         ensures shorter { length self.new.rest.now ≤ length self.old.rest.now }
     {
         if self.skip(Class::EqualSign) {
@@ -56,7 +62,9 @@ impl<'t> Cursor<'t> {
     }
 
     fn comparison(&mut self) -> Result<Comparison, Stop>
-        ensures operator { (p : Path) (d : Bool) (is : List PathItem) (ns : List (List ℕ)) → IsRead result (λ c. reading self.new.rest.now (literal p d is ns c)) (reading self.old.rest.now (left_done p d is ns)) self.new.rest.now }
+        ensures operator { (p : Path) (d : Bool) (is : List PathItem) (ns : List (List ℕ)) →
+            IsRead result (λ c. reading self.new.rest.now (literal p d is ns c))
+            (reading self.old.rest.now (left_done p d is ns)) self.new.rest.now }
         ensures shorter { length self.new.rest.now ≤ length self.old.rest.now }
     {
         self.skip_spaces();
@@ -84,7 +92,9 @@ impl<'t> Cursor<'t> {
     // Whether this letter stands next; it is taken then.
     fn skip_letter(&mut self, wanted: char) -> bool
         requires { wanted < 128 }
-        ensures { MatchBool result (self.old.rest.now ≡ encode_utf8 wanted ++ self.new.rest.now) ((self.new.rest.now ≡ self.old.rest.now) × ((t : List ℕ) → self.old.rest.now ≢ wanted ∷ t)) }
+        ensures { MatchBool result (self.old.rest.now ≡ encode_utf8 wanted ++ self.new.rest.now)
+            ((self.new.rest.now ≡ self.old.rest.now) ×
+            ((t : List ℕ) → self.old.rest.now ≢ wanted ∷ t)) }
     {
         let mut chars = self.rest.chars();
         match chars.next() {
@@ -102,7 +112,10 @@ impl<'t> Cursor<'t> {
     // This letter, the next of a word.
     fn letter(&mut self, wanted: char) -> Result<(), Stop>
         requires { wanted < 128 }
-        ensures letter { (p : Path) (d : Bool) (is : List PathItem) (ns : List (List ℕ)) (c : Comparison) (t : Tree) (left : List ℕ) → IsRead result (λ _. reading self.new.rest.now (next_letter p d is ns c t left)) (reading self.old.rest.now (letters p d is ns c t (wanted ∷ left))) self.new.rest.now }
+        ensures letter { (p : Path) (d : Bool) (is : List PathItem) (ns : List (List ℕ))
+            (c : Comparison) (t : Tree) (left : List ℕ) →
+            IsRead result (λ _. reading self.new.rest.now (next_letter p d is ns c t left))
+            (reading self.old.rest.now (letters p d is ns c t (wanted ∷ left))) self.new.rest.now }
         ensures shorter { length self.new.rest.now ≤ length self.old.rest.now }
     {
         if self.skip_letter(wanted) {
@@ -115,7 +128,11 @@ impl<'t> Cursor<'t> {
     // These letters, the next of a word.
     fn three_letters(&mut self, first: char, second: char, third: char) -> Result<(), Stop>
         requires { (first < 128) × (second < 128) × (third < 128) }
-        ensures letters { (p : Path) (d : Bool) (is : List PathItem) (ns : List (List ℕ)) (c : Comparison) (t : Tree) (left : List ℕ) → IsRead result (λ _. reading self.new.rest.now (next_letter p d is ns c t left)) (reading self.old.rest.now (letters p d is ns c t (first ∷ second ∷ third ∷ left))) self.new.rest.now }
+        ensures letters { (p : Path) (d : Bool) (is : List PathItem) (ns : List (List ℕ))
+            (c : Comparison) (t : Tree) (left : List ℕ) →
+            IsRead result (λ _. reading self.new.rest.now (next_letter p d is ns c t left))
+            (reading self.old.rest.now (letters p d is ns c t (first ∷ second ∷ third ∷ left)))
+            self.new.rest.now }
         ensures shorter { length self.new.rest.now ≤ length self.old.rest.now }
     {
         self.letter(first)?;
@@ -126,7 +143,10 @@ impl<'t> Cursor<'t> {
     // `true`, `false` or `null`; a letter stands next.
     fn word(&mut self) -> Result<Val, Stop>
         requires { next_class self.old.rest.now ≡ Letter }
-        ensures word { (p : Path) (d : Bool) (is : List PathItem) (ns : List (List ℕ)) (c : Comparison) → IsRead result (λ v. reading self.new.rest.now (after p d (is ++ meets ns c (tree v) ∷ []))) (reading self.old.rest.now (literal p d is ns c)) self.new.rest.now }
+        ensures word { (p : Path) (d : Bool) (is : List PathItem) (ns : List (List ℕ))
+            (c : Comparison) → IsRead result
+            (λ v. reading self.new.rest.now (after p d (is ++ meets ns c (tree v) ∷ [])))
+            (reading self.old.rest.now (literal p d is ns c)) self.new.rest.now }
         ensures shorter { length self.new.rest.now ≤ length self.old.rest.now }
     {
         if self.skip_letter('t') {
@@ -146,7 +166,10 @@ impl<'t> Cursor<'t> {
     }
 
     fn constant(&mut self, alloc: Global) -> Result<Val, Stop>
-        ensures constant { (p : Path) (d : Bool) (is : List PathItem) (ns : List (List ℕ)) (c : Comparison) → IsRead result (λ v. reading self.new.rest.now (after p d (is ++ meets ns c (tree v) ∷ []))) (reading self.old.rest.now (literal p d is ns c)) self.new.rest.now }
+        ensures constant { (p : Path) (d : Bool) (is : List PathItem) (ns : List (List ℕ))
+            (c : Comparison) → IsRead result
+            (λ v. reading self.new.rest.now (after p d (is ++ meets ns c (tree v) ∷ [])))
+            (reading self.old.rest.now (literal p d is ns c)) self.new.rest.now }
         ensures shorter { length self.new.rest.now ≤ length self.old.rest.now }
     {
         self.skip_spaces();
@@ -162,7 +185,9 @@ impl<'t> Cursor<'t> {
 
     // The comparison of what stands under the names.
     fn test(&mut self, alloc: Global, names: Vec<Txt>) -> Result<Item, Stop>
-        ensures item { (p : Path) (d : Bool) (is : List PathItem) → IsRead result (λ i. reading self.new.rest.now (after p d (is ++ item_of i ∷ []))) (reading self.old.rest.now (left_done p d is names.items)) self.new.rest.now }
+        ensures item { (p : Path) (d : Bool) (is : List PathItem) →
+            IsRead result (λ i. reading self.new.rest.now (after p d (is ++ item_of i ∷ [])))
+            (reading self.old.rest.now (left_done p d is names.items)) self.new.rest.now }
         ensures shorter { length self.new.rest.now ≤ length self.old.rest.now }
     {
         let comparison = self.comparison()?;
@@ -177,7 +202,9 @@ impl<'t> Cursor<'t> {
 
     // The range whose first end and colon have been taken.
     fn range(&mut self, from: Option<i64>) -> Result<Item, Stop>
-        ensures item { (p : Path) (d : Bool) (is : List PathItem) → IsRead result (λ i. reading self.new.rest.now (after p d (is ++ item_of i ∷ []))) (reading self.old.rest.now (to p d is from)) self.new.rest.now }
+        ensures item { (p : Path) (d : Bool) (is : List PathItem) →
+            IsRead result (λ i. reading self.new.rest.now (after p d (is ++ item_of i ∷ [])))
+            (reading self.old.rest.now (to p d is from)) self.new.rest.now }
         ensures shorter { length self.new.rest.now ≤ length self.old.rest.now }
     {
         Ok(Item::Range(from, self.int()?))
@@ -185,7 +212,9 @@ impl<'t> Cursor<'t> {
 
     // The item that begins with an integer, which has been taken.
     fn position_or_range(&mut self, number: i64) -> Result<Item, Stop>
-        ensures item { (p : Path) (d : Bool) (is : List PathItem) → IsRead result (λ i. reading self.new.rest.now (after p d (is ++ item_of i ∷ []))) (after_int self.old.rest.now p d is front number) self.new.rest.now }
+        ensures item { (p : Path) (d : Bool) (is : List PathItem) →
+            IsRead result (λ i. reading self.new.rest.now (after p d (is ++ item_of i ∷ [])))
+            (after_int self.old.rest.now p d is front number) self.new.rest.now }
         ensures shorter { length self.new.rest.now ≤ length self.old.rest.now }
     {
         if self.skip(Class::Colon) {
@@ -196,7 +225,9 @@ impl<'t> Cursor<'t> {
     }
 
     fn item(&mut self, alloc: Global) -> Result<Item, Stop>
-        ensures item { (p : Path) (d : Bool) (is : List PathItem) → IsRead result (λ i. reading self.new.rest.now (after p d (is ++ item_of i ∷ []))) (reading self.old.rest.now (before p d is)) self.new.rest.now }
+        ensures item { (p : Path) (d : Bool) (is : List PathItem) →
+            IsRead result (λ i. reading self.new.rest.now (after p d (is ++ item_of i ∷ [])))
+            (reading self.old.rest.now (before p d is)) self.new.rest.now }
         ensures shorter { length self.new.rest.now ≤ length self.old.rest.now }
     {
         self.skip_spaces();
@@ -225,10 +256,13 @@ impl<'t> Cursor<'t> {
         }
     }
 
-    // The items of a bracket and its end, where the first has been taken, with the spaces behind it.
+    // The items of a bracket and its end, where the first has been taken, with the spaces behind
+    // it.
     fn more_items(&mut self, alloc: Global, first: Item) -> Result<Vec<Item>, Stop>
         requires { next_class self.old.rest.now ≢ Space }
-        ensures items { (p : Path) (d : Bool) → IsRead result (λ is. reading self.new.rest.now (done (more p d (map item_of is.items)))) (reading self.old.rest.now (after p d (item_of first ∷ []))) self.new.rest.now }
+        ensures items { (p : Path) (d : Bool) →
+            IsRead result (λ is. reading self.new.rest.now (done (more p d (map item_of is.items))))
+            (reading self.old.rest.now (after p d (item_of first ∷ []))) self.new.rest.now }
         ensures shorter { length self.new.rest.now ≤ length self.old.rest.now }
     {
         let mut items = Vec::new(alloc);
@@ -245,7 +279,9 @@ impl<'t> Cursor<'t> {
 
     // The items of a bracket and its end, where its beginning has been taken.
     pub fn items(&mut self, alloc: Global) -> Result<Items, Stop>
-        ensures items { (p : Path) (d : Bool) → IsRead result (λ is. reading self.new.rest.now (done (more p d (items_of is)))) (reading self.old.rest.now (before p d [])) self.new.rest.now }
+        ensures items { (p : Path) (d : Bool) →
+            IsRead result (λ is. reading self.new.rest.now (done (more p d (items_of is))))
+            (reading self.old.rest.now (before p d [])) self.new.rest.now }
         ensures shorter { length self.new.rest.now ≤ length self.old.rest.now }
     {
         let first = self.item(alloc)?;

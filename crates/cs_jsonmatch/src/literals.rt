@@ -24,7 +24,11 @@ fn signed(negative: bool, number: u64) -> i64
 
 impl<'t> Cursor<'t> {
     fn letter_or_digit(&mut self) -> Option<char>
-        ensures { MatchOption result (Missed Letter self.old.rest.now self.new.rest.now × Missed Digit self.old.rest.now self.new.rest.now) (λ c. Took Letter c self.old.rest.now self.new.rest.now ⊎ Took Digit c self.old.rest.now self.new.rest.now) }
+        ensures { MatchOption result
+            (Missed Letter self.old.rest.now self.new.rest.now
+            × Missed Digit self.old.rest.now self.new.rest.now)
+            (λ c. Took Letter c self.old.rest.now self.new.rest.now
+            ⊎ Took Digit c self.old.rest.now self.new.rest.now) }
     {
         match self.take(Class::Letter) {
             Some(c) => Some(c),
@@ -47,7 +51,8 @@ impl<'t> Cursor<'t> {
 
     // The number that the next digits spell, at most eighteen of them.
     fn digits(&mut self) -> Option<u64>
-        ensures digits { MatchOption result (Missed Digit self.old.rest.now self.new.rest.now) (λ n. AreDigitsRead n self.old.rest.now self.new.rest.now) }
+        ensures digits { MatchOption result (Missed Digit self.old.rest.now self.new.rest.now)
+            (λ n. AreDigitsRead n self.old.rest.now self.new.rest.now) }
         ensures shorter { length self.new.rest.now ≤ length self.old.rest.now }
     {
         let mut number = 0;
@@ -62,7 +67,9 @@ impl<'t> Cursor<'t> {
 
     // The integer that stands next, if one does.
     pub fn int(&mut self) -> Result<Option<i64>, Stop>
-        ensures int { (p : Path) (d : Bool) (is : List Item) (g : Slot) → MatchResult result (λ n. IsIntRead n p d is g self.old.rest.now self.new.rest.now) (λ e. IsStop e (reading self.old.rest.now (before_int p d is g)) self.new.rest.now) }
+        ensures int { (p : Path) (d : Bool) (is : List Item) (g : Slot) →
+            MatchResult result (λ n. IsIntRead n p d is g self.old.rest.now self.new.rest.now)
+            (λ e. IsStop e (reading self.old.rest.now (before_int p d is g)) self.new.rest.now) }
         ensures shorter { length self.new.rest.now ≤ length self.old.rest.now }
     {
         let negative = self.skip(Class::Minus);
@@ -75,7 +82,11 @@ impl<'t> Cursor<'t> {
 
     // The character that `c` stands for between quotes, where `c` has been taken.
     fn unescaped(&mut self, c: char) -> Result<char, Stop>
-        ensures text { (p : Path) (d : Bool) (is : List Item) (g : Slot) (q : ℕ) (s : List ℕ) → class q ≡ Quote → c ≢ q → IsRead result (λ e. reading self.new.rest.now (quoted p d is g q (s ++ encode_utf8 e))) (reading (encode_utf8 c ++ self.old.rest.now) (quoted p d is g q s)) self.new.rest.now }
+        ensures text { (p : Path) (d : Bool) (is : List Item) (g : Slot) (q : ℕ) (s : List ℕ) →
+            class q ≡ Quote → c ≢ q → IsRead result
+            (λ e. reading self.new.rest.now (quoted p d is g q (s ++ encode_utf8 e)))
+            (reading (encode_utf8 c ++ self.old.rest.now) (quoted p d is g q s))
+            self.new.rest.now }
         ensures shorter { length self.new.rest.now ≤ length self.old.rest.now }
     {
         if c != '\\' {
@@ -93,7 +104,9 @@ impl<'t> Cursor<'t> {
     // The text up to the closing quote, where the opening one has been taken.
     fn unquoted(&mut self, alloc: Global, quote: char) -> Result<Txt, Stop>
         requires { class quote ≡ Quote }
-        ensures text { (p : Path) (d : Bool) (is : List Item) (g : Slot) → IsRead result (λ s. reading self.new.rest.now (after p d (is ++ text_item g s ∷ []))) (reading self.old.rest.now (quoted p d is g quote [])) self.new.rest.now }
+        ensures text { (p : Path) (d : Bool) (is : List Item) (g : Slot) →
+            IsRead result (λ s. reading self.new.rest.now (after p d (is ++ text_item g s ∷ [])))
+            (reading self.old.rest.now (quoted p d is g quote [])) self.new.rest.now }
         ensures shorter { length self.new.rest.now ≤ length self.old.rest.now }
     {
         let mut text = String::new(alloc);
@@ -109,7 +122,10 @@ impl<'t> Cursor<'t> {
     // The quoted text whose opening quote stands next.
     pub fn text(&mut self, alloc: Global) -> Result<Txt, Stop>
         requires { next_class self.old.rest.now ≡ Quote }
-        ensures text { (s0 : State) (p : Path) (d : Bool) (is : List Item) (g : Slot) → TakesQuote s0 p d is g → IsRead result (λ s. reading self.new.rest.now (after p d (is ++ text_item g s ∷ []))) (reading self.old.rest.now s0) self.new.rest.now }
+        ensures text { (s0 : State) (p : Path) (d : Bool) (is : List Item) (g : Slot) →
+            TakesQuote s0 p d is g → IsRead result
+            (λ s. reading self.new.rest.now (after p d (is ++ text_item g s ∷ [])))
+            (reading self.old.rest.now s0) self.new.rest.now }
         ensures shorter { length self.new.rest.now ≤ length self.old.rest.now }
     {
         let Some(quote) = self.take(Class::Quote) else {

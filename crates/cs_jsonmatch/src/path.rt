@@ -14,8 +14,8 @@ pub(crate) struct Step {
     pub items: Items,
 }
 
-// The items of a step. A path may have millions of steps, nearly all of one item, so that stands in
-// its step.
+// The items of a step. A path may have millions of steps, nearly all of one item, so that stands
+// in its step.
 #[derive(Drop)]
 pub(crate) enum Items {
     One(Item),

@@ -16,10 +16,10 @@ pub enum PathFault {
 }
 
 impl JsonPath {
-    /// The path that the text spells, and `BadPath` exactly where it spells none: the answer is the
-    /// text's one reading, `path_verdict`. `NoMemory` comes where the allocator has no room. The text
-    /// has fewer than 2^32 bytes. Paths are written as in Sanity's JSONMatch, in the profile of
-    /// `docs/PATCHES.md`.
+    /// The path that the text spells, and `BadPath` exactly where it spells none: the answer is
+    /// the text's one reading, `path_verdict`. `NoMemory` comes where the allocator has no room.
+    /// The text has fewer than 2^32 bytes. Paths are written as in Sanity's JSONMatch, in the
+    /// profile of `docs/PATCHES.md`.
     pub fn read(alloc: Global, text: &str) -> Result<JsonPath, PathFault>
         requires { length text.now < 2 ^ 32 }
         ensures { IfSome (reading result) (λ r. path_verdict text.now ≡ r) }

@@ -61,7 +61,8 @@ fn follow_names<'v>(val: &'v Val, names: &[Txt]) -> Option<&'v Val>
 }
 
 fn meets(test: &Test, val: &Val) -> bool
-    ensures { result ≡ met test.now.comparison (tree test.now.constant) (follow test.now.names.items (tree val.now)) }
+    ensures { result ≡ met test.now.comparison (tree test.now.constant)
+        (follow test.now.names.items (tree val.now)) }
 {
     let Some(found) = follow_names(val, &test.names) else {
         return false;
@@ -92,7 +93,8 @@ fn selects_at(item: &Item, count: usize, here: usize, val: &Val) -> bool
 }
 
 fn selects_named(item: &Item, name: &str) -> bool
-    ensures { (count : ℕ) (t : Tree) → result ≡ selects count (Name name.now) t (item_of item.now) }
+    ensures { (count : ℕ) (t : Tree) →
+        result ≡ selects count (Name name.now) t (item_of item.now) }
 {
     match item {
         Item::Named(wanted) => wanted.as_str() == name,
@@ -110,7 +112,8 @@ fn selects_key(item: &Item, count: usize, key: Key<'_>, val: &Val) -> bool
 }
 
 fn some_selects(items: &[Item], count: usize, key: Key<'_>, val: &Val) -> bool
-    ensures { result ≡ list_any (selects count (part_of key.entry) (tree val.now)) (map item_of items.now) }
+    ensures { result ≡ list_any (selects count (part_of key.entry) (tree val.now))
+        (map item_of items.now) }
 {
     for item in items {
         if selects_key(item, count, key, val) {
@@ -121,7 +124,8 @@ fn some_selects(items: &[Item], count: usize, key: Key<'_>, val: &Val) -> bool
 }
 
 pub(crate) fn step_selects(step: &Step, count: usize, key: Key<'_>, val: &Val) -> bool
-    ensures { result ≡ list_any (selects count (part_of key.entry) (tree val.now)) (items_of step.now.items) }
+    ensures { result ≡ list_any (selects count (part_of key.entry) (tree val.now))
+        (items_of step.now.items) }
 {
     match &step.items {
         Items::One(item) => selects_key(item, count, key, val),

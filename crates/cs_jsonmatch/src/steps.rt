@@ -14,7 +14,9 @@ impl<'t> Cursor<'t> {
     // The name whose first letter stands next, as a step.
     fn named(&mut self, alloc: Global, deep: bool) -> Result<Step, Stop>
         requires { next_class self.old.rest.now ≡ Letter }
-        ensures step { (s0 : State) (p : Path) → TakesName s0 p deep → IsRead result (λ s. reading self.new.rest.now (done (p ++ step_of s ∷ []))) (reading self.old.rest.now s0) self.new.rest.now }
+        ensures step { (s0 : State) (p : Path) → TakesName s0 p deep →
+            IsRead result (λ s. reading self.new.rest.now (done (p ++ step_of s ∷ [])))
+            (reading self.old.rest.now s0) self.new.rest.now }
         ensures shorter { length self.new.rest.now ≤ length self.old.rest.now }
     {
         let items = Items::One(Item::Named(self.name(alloc)?));
@@ -24,7 +26,9 @@ impl<'t> Cursor<'t> {
     // The bracket whose beginning stands next, as a step.
     fn bracketed(&mut self, alloc: Global, deep: bool) -> Result<Step, Stop>
         requires { next_class self.old.rest.now ≡ Opening }
-        ensures step { (s0 : State) (p : Path) → TakesBracket s0 p deep → IsRead result (λ s. reading self.new.rest.now (done (p ++ step_of s ∷ []))) (reading self.old.rest.now s0) self.new.rest.now }
+        ensures step { (s0 : State) (p : Path) → TakesBracket s0 p deep →
+            IsRead result (λ s. reading self.new.rest.now (done (p ++ step_of s ∷ [])))
+            (reading self.old.rest.now s0) self.new.rest.now }
         ensures shorter { length self.new.rest.now < length self.old.rest.now }
     {
         self.advance(Class::Opening);
@@ -34,7 +38,9 @@ impl<'t> Cursor<'t> {
 
     // The step behind `..`.
     fn deep_step(&mut self, alloc: Global) -> Result<Step, Stop>
-        ensures step { (p : Path) → IsRead result (λ s. reading self.new.rest.now (done (p ++ step_of s ∷ []))) (reading self.old.rest.now (two_dots p)) self.new.rest.now }
+        ensures step { (p : Path) → IsRead result
+            (λ s. reading self.new.rest.now (done (p ++ step_of s ∷ [])))
+            (reading self.old.rest.now (two_dots p)) self.new.rest.now }
         ensures shorter { length self.new.rest.now ≤ length self.old.rest.now }
     {
         match self.peek() {
@@ -46,7 +52,8 @@ impl<'t> Cursor<'t> {
 
     // The first step of a path.
     fn first_step(&mut self, alloc: Global) -> Result<Step, Stop>
-        ensures step { IsRead result (λ s. reading self.new.rest.now (done (step_of s ∷ []))) (reading self.old.rest.now start) self.new.rest.now }
+        ensures step { IsRead result (λ s. reading self.new.rest.now (done (step_of s ∷ [])))
+            (reading self.old.rest.now start) self.new.rest.now }
         ensures shorter { length self.new.rest.now ≤ length self.old.rest.now }
     {
         match self.peek() {
@@ -65,7 +72,9 @@ impl<'t> Cursor<'t> {
 
     // The step behind a dot.
     fn dotted(&mut self, alloc: Global) -> Result<Step, Stop>
-        ensures step { (p : Path) → IsRead result (λ s. reading self.new.rest.now (done (p ++ step_of s ∷ []))) (reading self.old.rest.now (one_dot p)) self.new.rest.now }
+        ensures step { (p : Path) → IsRead result
+            (λ s. reading self.new.rest.now (done (p ++ step_of s ∷ [])))
+            (reading self.old.rest.now (one_dot p)) self.new.rest.now }
         ensures shorter { length self.new.rest.now ≤ length self.old.rest.now }
     {
         match self.peek() {
@@ -81,7 +90,9 @@ impl<'t> Cursor<'t> {
     // A further step of a path.
     fn next_step(&mut self, alloc: Global) -> Result<Step, Stop>
         requires { 0 < length self.old.rest.now }
-        ensures step { (p : Path) → IsRead result (λ s. reading self.new.rest.now (done (p ++ step_of s ∷ []))) (reading self.old.rest.now (done p)) self.new.rest.now }
+        ensures step { (p : Path) → IsRead result
+            (λ s. reading self.new.rest.now (done (p ++ step_of s ∷ [])))
+            (reading self.old.rest.now (done p)) self.new.rest.now }
         ensures shorter { IfOk result (λ _. length self.new.rest.now < length self.old.rest.now) }
     {
         match self.peek() {
@@ -96,7 +107,8 @@ impl<'t> Cursor<'t> {
 
     // The steps of a path, to the end of the text.
     pub fn steps(&mut self, alloc: Global) -> Result<Vec<Step>, Stop>
-        ensures { IsRead result (λ ss. reading [] (done (path_of ss.items))) (reading self.old.rest.now start) self.new.rest.now }
+        ensures { IsRead result (λ ss. reading [] (done (path_of ss.items)))
+            (reading self.old.rest.now start) self.new.rest.now }
     {
         let mut steps = Vec::new(alloc);
         steps.push(self.first_step(alloc)?)?;

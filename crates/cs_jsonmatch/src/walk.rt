@@ -36,7 +36,9 @@ fn next(
     key: Key<'_>,
     val: &Val,
 ) -> Result<Vec<bool>, NoMemory>
-    ensures { IfOk result (λ v. v.items ≡ next_waiting (selects count (part_of key.entry) (tree val.now)) false waiting.now (path_of steps.now)) }
+    ensures { IfOk result (λ v. v.items
+        ≡ next_waiting (selects count (part_of key.entry) (tree val.now)) false waiting.now
+        (path_of steps.now)) }
 {
     let mut below = Vec::new(alloc);
     let mut here = false;
@@ -75,7 +77,8 @@ fn goes_on(steps: &[Step], waiting: &[bool]) -> bool
 
 // Adds the place where the path has ended there.
 fn arrive(alloc: Global, ends: bool, above: &[Part], found: &mut Vec<Place>) -> Result<(), NoMemory>
-    ensures { OnOk result (locations found.new.items ≡ locations found.old.items ++ cond ends (above.now ∷ []) []) }
+    ensures { OnOk result (locations found.new.items
+        ≡ locations found.old.items ++ cond ends (above.now ∷ []) []) }
 {
     if ends {
         found.push(Place {
@@ -94,7 +97,9 @@ fn walk(
     above: &mut Vec<Part>,
     found: &mut Vec<Place>,
 ) -> Result<(), NoMemory>
-    ensures found { OnOk result (locations found.new.items ≡ locations found.old.items ++ reached above.old.items waiting.now (path_of steps.now) (tree val.now) (trails (tree val.now))) }
+    ensures found { OnOk result (locations found.new.items ≡ locations found.old.items
+        ++ reached above.old.items waiting.now (path_of steps.now) (tree val.now)
+        (trails (tree val.now))) }
     ensures above { OnOk result (above.new.items ≡ above.old.items) }
 {
     arrive(alloc, path_ends(steps, waiting), above, found)?;
@@ -120,7 +125,10 @@ fn walk_items(
     above: &mut Vec<Part>,
     found: &mut Vec<Place>,
 ) -> Result<(), NoMemory>
-    ensures found { OnOk result (locations found.new.items ≡ locations found.old.items ++ reached above.old.items waiting.now (path_of steps.now) (list (trees (list_tree items.now.items))) (item_trails 0 (trees (list_tree items.now.items)))) }
+    ensures found { OnOk result (locations found.new.items ≡ locations found.old.items
+        ++ reached above.old.items waiting.now (path_of steps.now)
+        (list (trees (list_tree items.now.items)))
+        (item_trails 0 (trees (list_tree items.now.items)))) }
     ensures above { OnOk result (above.new.items ≡ above.old.items) }
 {
     let count = items.len();
@@ -142,7 +150,9 @@ fn walk_pairs(
     above: &mut Vec<Part>,
     found: &mut Vec<Place>,
 ) -> Result<(), NoMemory>
-    ensures found { OnOk result (locations found.new.items ≡ locations found.old.items ++ reached above.old.items waiting.now (path_of steps.now) (object_of (fields object.now)) (pair_trails (fields object.now))) }
+    ensures found { OnOk result (locations found.new.items ≡ locations found.old.items
+        ++ reached above.old.items waiting.now (path_of steps.now) (object_of (fields object.now))
+        (pair_trails (fields object.now))) }
     ensures above { OnOk result (above.new.items ≡ above.old.items) }
 {
     for (name, member) in object.pairs.iter() {
@@ -163,7 +173,8 @@ impl JsonPath {
     /// each rest, of which one more can wait at each level. `NoMemory` where the allocator has no
     /// room for the flags or for the places.
     pub fn places(&self, alloc: Global, val: &Val) -> Result<Vec<Place>, NoMemory>
-        ensures { IfOk result (λ found. locations found.items ≡ places_of (path self.now) (tree val.now)) }
+        ensures { IfOk result (λ found. locations found.items
+            ≡ places_of (path self.now) (tree val.now)) }
     {
         let mut above = Vec::new(alloc);
         let mut found = Vec::new(alloc);

@@ -38,8 +38,8 @@ pub fn each_text_is_read()
     ensures { (text : List ℕ) → IsRead text (verdict text) }
 {}
 
-/// A text is read as its verdict says, and in no other way. So each answer of `parse` comes exactly
-/// where its text is read so, but for want of memory.
+/// A text is read as its verdict says, and in no other way. So each answer of `parse` comes
+/// exactly where its text is read so, but for want of memory.
 pub fn reading_is_verdict()
     ensures { (text : List ℕ) (r : Reading) → IsRead text r ↔ (verdict text ≡ r) }
 {

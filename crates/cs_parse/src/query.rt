@@ -50,12 +50,12 @@ fn read_text(alloc: Global, text: &str) -> Result<Query, ParseFault>
     Ok(Query::of(Box::into_inner(expr)))
 }
 
-/// The query that the text is (GROQ-1.revision1 "Syntax", as this project's profile has it). The text
-/// has fewer than 2^32 bytes. A text that is no query is refused with the first cause of these:
-/// `BadToken` where a place begins no token, `TooDeep` where more than 48 brackets are open at once,
-/// `Syntax` where the tokens spell no expression, and else the first fault in the order of the text,
-/// with its name. The answer is the text's one reading, `verdict`. `NoMemory` comes where the
-/// allocator has no room.
+/// The query that the text is (GROQ-1.revision1 "Syntax", as this project's profile has it). The
+/// text has fewer than 2^32 bytes. A text that is no query is refused with the first cause of
+/// these: `BadToken` where a place begins no token, `TooDeep` where more than 48 brackets are open
+/// at once, `Syntax` where the tokens spell no expression, and else the first fault in the order
+/// of the text, with its name. The answer is the text's one reading, `verdict`. `NoMemory` comes
+/// where the allocator has no room.
 pub fn parse(alloc: Global, text: &str) -> Result<Query, ParseFault>
     requires { length text.now < 2 ^ 32 }
     ensures { IfSome (reading result) (λ r. verdict text.now ≡ r) }
