@@ -16,28 +16,28 @@ abbrev pub token_then : Token → Lexing → Lexing
 token_then t (lexed ts) = lexed (t ∷ ts)
 token_then t (no_token_at at) = no_token_at at
 
--- from a place where a token of the kind ends there, or none begins
+-- the tokens from a place on, by the kind and the end of the token there: no end where none begins
 abbrev pub by_end : (ℕ → Lexing) → ℕ → Kind → Option ℕ → Lexing
 by_end rest from k None = no_token_at from
 by_end rest from k (Some to) = token_then (record { kind = k; from = from; to = to }) (rest to)
 
--- from a place past blanks, given what is read from each place behind it
+-- the tokens from a place past blanks, given those from each place behind it
 abbrev pub tokens_at : (ℕ → Lexing) → List ℕ → ℕ → Lexing
 tokens_at rest s from =
     if nat_lt from (length s)
     then by_end rest from (kind_of (slice_index s from)) (token_end s from (kind_of (slice_index s from)))
     else lexed []
 
--- from a place on, where fewer than n tokens follow
+-- the tokens from a place on, where they are fewer than n
 unfoldable pub tokens_from : ℕ → List ℕ → ℕ → Lexing
 tokens_from zero s at = lexed []
 tokens_from (suc n) s at = tokens_at (tokens_from n s) s (past_blank s at)
 
--- of the whole text: each token has a byte at least
+-- the tokens of the whole text: each has a byte at least
 abbrev pub lexing : List ℕ → Lexing
 lexing s = tokens_from (suc (length s)) s 0
 
--- the text has these tokens from `at` on, or there its first place without one
+-- from `at` on the text has these tokens, or `bad` is its first place without one
 abbrev pub IsLexing : List ℕ → ℕ → Lexing → Type 0
 IsLexing s at (lexed ts) = IsTokens s at ts
 IsLexing s at (no_token_at bad) = IsBadAt s at bad
