@@ -1,7 +1,6 @@
-pub mod Agree
-pub mod Constants
-pub mod Silent
-pub mod Simple
+pub mod Answered
+pub mod Calling
+pub mod Deciding
+pub mod Joins
+pub mod Simples
 pub mod Sorting
-pub mod Sound
-pub mod TrueKey

@@ -1,9 +1,3 @@
-pub mod Examples
-pub mod Hits
-pub mod Joining
-pub mod Laws
-pub mod Looked
-pub mod Operators
-pub mod Ordered
-pub mod Positions
-pub mod Values
+pub mod Choosing
+pub mod Starts
+pub mod Weight

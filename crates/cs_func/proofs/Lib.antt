@@ -6,4 +6,5 @@ pub mod Pushed
 pub mod Runs
 pub mod SeenTexts
 pub mod Segmented
+pub mod Targets
 pub mod Trees

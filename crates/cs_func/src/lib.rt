@@ -16,7 +16,7 @@ pub use calls::call;
 pub use function::Function;
 pub use name::named;
 pub use path::path_matches;
-pub use reference::refers;
+pub use reference::{refers, refers_to_some};
 
 #[cfg(test)]
 mod tests;

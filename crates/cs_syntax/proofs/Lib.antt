@@ -5,6 +5,7 @@ pub mod FirstBytes
 pub mod Fronts
 pub mod Locals
 pub mod Meanings
+pub mod Nulls
 pub mod NumberEnds
 pub mod Placed
 pub mod Quoted

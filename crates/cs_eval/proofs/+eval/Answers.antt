@@ -1,0 +1,360 @@
+use Rattle.std.proofs.Common.{◌≡◌, ◌+◌, List, ◌∷◌, ◌++◌, map, sym, ap, subst, ◌∙◌, IfOk, OnOk, arith, false, Some, None, option_map}
+use Rattle.cs_value.specs.Tree.{Tree}
+use Rattle.cs_value.specs.View.{tree, fields}
+use Rattle.cs_syntax.specs.Expression.{Step, more_steps, more_arguments, more_keys, call, run, operands_of, steps_of, arguments_of, keys_of}
+use Rattle.cs_syntax.specs.View.{expression, operands, step, arg, key}
+use Rattle.cs_syntax.specs.declared.tree.Arg.{Arg as CodeArg}
+use Rattle.cs_syntax.specs.declared.tree.OrderKey.{OrderKey as CodeKey}
+use Rattle.cs_syntax.specs.declared.tree.Step.{Step as CodeStep}
+use Rattle.cs_view.specs.Scopes.{scope}
+use Rattle.cs_view.specs.declared.key.Key.{Key}
+use Rattle.cs_parts.specs.declared.join.Entrance.TheVariants.{Whole, Mapped, Flat}
+use Rattle.cs_parts.specs.Joining.{form, kind, way, entrance}
+use Rattle.cs_parts.specs.Values.{value, rest_value, step_value, selected, keys_values}
+use Rattle.cs_parts.specs.Looked.{looked, run_looked, rest_looked, step_looked, entered_looked, arguments_looked, selected_looked, keys_looked}
+use Rattle.cs_parts.specs.Parts.{got, item}
+use Rattle.cs_parts.specs.Turns.{turn, is_end}
+use Rattle.cs_eval.specs.Starts.{enter_value, enter_looked, once_looked}
+use Rattle.cs_eval.specs.Weight.{weight, operands_weight, arguments_weight, step_weight, steps_weight, keys_weight}
+use Rattle.cs_parts.specs.Callees.{path_arguments}
+use Rattle.cs_parts.proofs.Shown.{expression_call}
+use Rattle.cs_parts.proofs.Trees.{tree_of_null}
+use Rattle.cs_eval.specs.Choosing.{chosen, chosen_looked}
+use Rattle.cs_eval.proofs.Calling.{none_left, selected_here, selected_looks_here, selected_on, selected_looks_on, chosen_weight, within_path, within_list, path_looked, path_weight}
+use Rattle.cs_eval.proofs.Sorting.{keys_values_more, keys_looked_more, keys_weight_more, pushed_values}
+use Rattle.cs_eval.proofs.Answered.{run_parts, run_keys, one_after_another, pipe_parts, kept_docs, kept_keys, star_value, star_looked, is_everything_then, step_on, step_looks_on, kind_behind, kinds_behind}
+use Rattle.cs_eval.proofs.+eval.Goals as goal
+
+pub expressions::eval-run-requires : goal.expressions::eval-run-requires
+expressions::eval-run-requires g t c κs within =
+    let e : expression c.args.expr.now ≡ run (expression c.deref-in-Run.result.now) (operands_of (operands c.deref-in-Run-2.result.now)) =
+    run_parts c.args.expr.now c.in-Run.first c.in-Run.rest c.deref-in-Run.result.now c.deref-in-Run-2.result.now c.in-Run.is c.deref-in-Run.ensures c.deref-in-Run-2.ensures.value in
+    let w : weight (expression c.args.expr.now) ≡ 9 + (weight (expression c.deref-in-Run.result.now) + operands_weight (operands_of (operands c.deref-in-Run-2.result.now))) = ap weight e in
+    (omega arith, within)
+
+pub expressions::eval-returns-in_ok-left-in-Run-clause-keys : goal.expressions::eval-returns-in_ok-left-in-Run-clause-keys
+expressions::eval-returns-in_ok-left-in-Run-clause-keys g t c =
+    let docs = g.S.Source.docs c.args.source.now in
+    let ps = fields c.args.params.now in
+    let sc = scope c.args.frame.now in
+    let b = expression c.deref-in-Run.result.now in
+    let xs = operands_of (operands c.deref-in-Run-2.result.now) in
+    let v = got c.in_ok-left-in-Run.left in
+    let e : expression c.args.expr.now ≡ run b xs =
+    run_parts c.args.expr.now c.in-Run.first c.in-Run.rest c.deref-in-Run.result.now c.deref-in-Run-2.result.now c.in-Run.is c.deref-in-Run.ensures c.deref-in-Run-2.ensures.value in
+    subst (λ (ks : List Key). OnOk c.run.result (c.run.new.keys ≡ ks))
+    (one_after_another c.args.keys.now c.eval-in-Run.new.keys (looked docs ps (expression c.args.expr.now) sc) (looked docs ps b sc) (run_looked docs ps xs sc v) c.in_ok-left-in-Run.ensures.keys
+    (sym (run_keys docs ps sc (expression c.args.expr.now) b xs v e c.in_ok-left-in-Run.ensures.value)))
+    c.run.ensures.keys
+
+pub chains::filtered_all-returns-clause-value : goal.chains::filtered_all-returns-clause-value
+chains::filtered_all-returns-clause-value g t c =
+    let docs = g.S.Source.docs c.args.source.now in
+    let ps = fields c.args.params.now in
+    let sc = scope c.args.frame.now in
+    subst (λ (y : Tree). IfOk c.enter.result (λ g'. got g' ≡ y))
+    (ap (enter_value docs ps (steps_of (map step c.args.steps.now)) sc)
+    (c.in_ok-list.ensures ∙ kept_docs docs ps (expression c.args.condition.now) sc c.in_ok-key.key (map (λ r. tree r.now) c.in_ok-found.found.items) (map item c.in_ok-items.items.items) (map item c.in_ok-kept.kept.items)
+    c.in_ok-key.ensures c.in_ok-found.ensures.found c.in_ok-items.ensures c.in_ok-kept.ensures.value))
+    c.enter.ensures.value
+
+pub chains::filtered_all-returns-clause-keys : goal.chains::filtered_all-returns-clause-keys
+chains::filtered_all-returns-clause-keys g t c =
+    let docs = g.S.Source.docs c.args.source.now in
+    let ps = fields c.args.params.now in
+    let sc = scope c.args.frame.now in
+    let ss = steps_of (map step c.args.steps.now) in
+    let e = expression c.args.condition.now in
+    let found = map (λ r. tree r.now) c.in_ok-found.found.items in
+    let items = map item c.in_ok-items.items.items in
+    subst (λ (ks : List Key). OnOk c.enter.result (c.enter.new.keys ≡ ks))
+    (kept_keys docs ps e sc c.in_ok-key.key found items c.args.keys.now c.add.new.self c.keep.new.keys (enter_looked docs ps ss sc (got c.in_ok-list.list)) _
+    c.in_ok-key.ensures c.in_ok-found.ensures.found c.in_ok-items.ensures c.in_ok-add.ensures.added c.in_ok-kept.ensures.keys
+    (ap (enter_looked docs ps ss sc)
+    (c.in_ok-list.ensures ∙ kept_docs docs ps e sc c.in_ok-key.key found items (map item c.in_ok-kept.kept.items) c.in_ok-key.ensures c.in_ok-found.ensures.found c.in_ok-items.ensures c.in_ok-kept.ensures.value)))
+    c.enter.ensures.keys
+
+pub steps::one_step-returns-in-Pipe-clause-value : goal.steps::one_step-returns-in-Pipe-clause-value
+steps::one_step-returns-in-Pipe-clause-value g t c =
+    let docs = g.S.Source.docs c.args.source.now in
+    let ps = fields c.args.params.now in
+    let sc = scope c.args.frame.now in
+    subst (λ (y : Tree). IfOk c.ordered.result (λ g'. got g' ≡ y))
+    (ap (λ (s : Step). step_value docs ps s sc (got c.args.value)) (pipe_parts c.args.step.now c.in-Pipe.name c.in-Pipe.order c.deref-in-Pipe.result.now c.in-Pipe.is c.deref-in-Pipe.ensures.value))
+    c.ordered.ensures.value
+
+pub chains::start-returns-in-Some-clause-value : goal.chains::start-returns-in-Some-clause-value
+chains::start-returns-in-Some-clause-value g t c =
+    let docs = g.S.Source.docs c.args.source.now in
+    let ps = fields c.args.params.now in
+    let sc = scope c.args.frame.now in
+    let b = expression c.args.base.now in
+    subst (λ (y : Tree). IfOk c.filtered_all.result (λ g'. got g' ≡ y))
+    (star_value docs ps b (expression c.in-Some.condition.now) (steps_of (map step c.args.steps.now)) (steps_of (map step c.in-Some.later.now)) sc
+    (is_everything_then b (sym c.is_all.ensures ∙ c.if-is_all.true)) c.in-Some.ensures.some c.in-Some.ensures.condition)
+    c.filtered_all.ensures.value
+
+pub chains::start-returns-in-Some-clause-keys : goal.chains::start-returns-in-Some-clause-keys
+chains::start-returns-in-Some-clause-keys g t c =
+    let docs = g.S.Source.docs c.args.source.now in
+    let ps = fields c.args.params.now in
+    let sc = scope c.args.frame.now in
+    let b = expression c.args.base.now in
+    subst (λ (ks : List Key). OnOk c.filtered_all.result (c.filtered_all.new.keys ≡ ks))
+    (ap (λ (ks : List Key). c.args.keys.now ++ ks) (star_looked docs ps b (expression c.in-Some.condition.now) (steps_of (map step c.args.steps.now)) (steps_of (map step c.in-Some.later.now)) sc
+    (is_everything_then b (sym c.is_all.ensures ∙ c.if-is_all.true)) c.in-Some.ensures.some c.in-Some.ensures.condition))
+    c.filtered_all.ensures.keys
+
+pub chains::rest-returns-in-Mapped-clause-value : goal.chains::rest-returns-in-Mapped-clause-value
+chains::rest-returns-in-Mapped-clause-value g t c =
+    let docs = g.S.Source.docs c.args.source.now in
+    let ps = fields c.args.params.now in
+    let sc = scope c.args.frame.now in
+    let l = c.loop-first in
+    let is = c.in-Some.ensures.cases.0 in
+    subst (λ (y : Tree). IfOk c.mapped.result (λ g'. got g' ≡ y))
+    (step_on docs ps sc (step c.in-Some.first.now) (steps_of (map step c.in-Some.later.now)) c.first_kind-kind.result c.way_of-way.result Mapped (got l.here) (got c.in_ok-here.here)
+    (c.first_kind-kind.ensures ∙ kind_behind l.left.now c.in-Some.first.now c.in-Some.later.now l.left_kinds.now c.behind-later_kinds.result.now is l.invariant.kinds c.behind-later_kinds.ensures)
+    (c.way_of-way.ensures ∙ ap (λ f. way f c.first_kind-kind.result) c.form_of.ensures)
+    (sym c.ends.ensures ∙ c.if-ends.false)
+    (sym c.in-Mapped.is ∙ (c.turn.ensures ∙ ap (turn c.way_of-way.result) c.entrance_of.ensures))
+    c.in_ok-here.ensures.value
+    ∙ (ap (λ (xs : List CodeStep). rest_value docs ps (steps_of (map step xs)) sc (got l.here)) (sym is) ∙ l.invariant.value))
+    c.mapped.ensures.value
+
+pub chains::rest-returns-in-Flat-clause-value : goal.chains::rest-returns-in-Flat-clause-value
+chains::rest-returns-in-Flat-clause-value g t c =
+    let docs = g.S.Source.docs c.args.source.now in
+    let ps = fields c.args.params.now in
+    let sc = scope c.args.frame.now in
+    let l = c.loop-first in
+    let is = c.in-Some.ensures.cases.0 in
+    subst (λ (y : Tree). IfOk c.flattened.result (λ g'. got g' ≡ y))
+    (step_on docs ps sc (step c.in-Some.first.now) (steps_of (map step c.in-Some.later.now)) c.first_kind-kind.result c.way_of-way.result Flat (got l.here) (got c.in_ok-here.here)
+    (c.first_kind-kind.ensures ∙ kind_behind l.left.now c.in-Some.first.now c.in-Some.later.now l.left_kinds.now c.behind-later_kinds.result.now is l.invariant.kinds c.behind-later_kinds.ensures)
+    (c.way_of-way.ensures ∙ ap (λ f. way f c.first_kind-kind.result) c.form_of.ensures)
+    (sym c.ends.ensures ∙ c.if-ends.false)
+    (sym c.in-Flat.is ∙ (c.turn.ensures ∙ ap (turn c.way_of-way.result) c.entrance_of.ensures))
+    c.in_ok-here.ensures.value
+    ∙ (ap (λ (xs : List CodeStep). rest_value docs ps (steps_of (map step xs)) sc (got l.here)) (sym is) ∙ l.invariant.value))
+    c.flattened.ensures.value
+
+pub chains::rest-returns-in-Mapped-clause-keys : goal.chains::rest-returns-in-Mapped-clause-keys
+chains::rest-returns-in-Mapped-clause-keys g t c =
+    let docs = g.S.Source.docs c.args.source.now in
+    let ps = fields c.args.params.now in
+    let sc = scope c.args.frame.now in
+    let l = c.loop-first in
+    let is = c.in-Some.ensures.cases.0 in
+    let s = step c.in-Some.first.now in
+    let later = steps_of (map step c.in-Some.later.now) in
+    subst (λ (ks : List Key). OnOk c.mapped.result (c.mapped.new.keys ≡ ks))
+    (one_after_another l.keys c.once.new.keys (rest_looked docs ps (more_steps s later) sc (got l.here)) (once_looked c.way_of-way.result (step_looked docs ps s sc) (got l.here)) (entered_looked Mapped (rest_looked docs ps later sc) (got c.in_ok-here.here)) c.in_ok-here.ensures.keys
+    (sym (step_looks_on docs ps sc s later c.first_kind-kind.result c.way_of-way.result Mapped (got l.here) (got c.in_ok-here.here)
+    (c.first_kind-kind.ensures ∙ kind_behind l.left.now c.in-Some.first.now c.in-Some.later.now l.left_kinds.now c.behind-later_kinds.result.now is l.invariant.kinds c.behind-later_kinds.ensures)
+    (c.way_of-way.ensures ∙ ap (λ f. way f c.first_kind-kind.result) c.form_of.ensures)
+    (sym c.ends.ensures ∙ c.if-ends.false)
+    (sym c.in-Mapped.is ∙ (c.turn.ensures ∙ ap (turn c.way_of-way.result) c.entrance_of.ensures))
+    c.in_ok-here.ensures.value))
+    ∙ (ap (λ (xs : List CodeStep). l.keys ++ rest_looked docs ps (steps_of (map step xs)) sc (got l.here)) (sym is) ∙ l.invariant.keys))
+    c.mapped.ensures.keys
+
+pub chains::rest-returns-in-Flat-clause-keys : goal.chains::rest-returns-in-Flat-clause-keys
+chains::rest-returns-in-Flat-clause-keys g t c =
+    let docs = g.S.Source.docs c.args.source.now in
+    let ps = fields c.args.params.now in
+    let sc = scope c.args.frame.now in
+    let l = c.loop-first in
+    let is = c.in-Some.ensures.cases.0 in
+    let s = step c.in-Some.first.now in
+    let later = steps_of (map step c.in-Some.later.now) in
+    subst (λ (ks : List Key). OnOk c.flattened.result (c.flattened.new.keys ≡ ks))
+    (one_after_another l.keys c.once.new.keys (rest_looked docs ps (more_steps s later) sc (got l.here)) (once_looked c.way_of-way.result (step_looked docs ps s sc) (got l.here)) (entered_looked Flat (rest_looked docs ps later sc) (got c.in_ok-here.here)) c.in_ok-here.ensures.keys
+    (sym (step_looks_on docs ps sc s later c.first_kind-kind.result c.way_of-way.result Flat (got l.here) (got c.in_ok-here.here)
+    (c.first_kind-kind.ensures ∙ kind_behind l.left.now c.in-Some.first.now c.in-Some.later.now l.left_kinds.now c.behind-later_kinds.result.now is l.invariant.kinds c.behind-later_kinds.ensures)
+    (c.way_of-way.ensures ∙ ap (λ f. way f c.first_kind-kind.result) c.form_of.ensures)
+    (sym c.ends.ensures ∙ c.if-ends.false)
+    (sym c.in-Flat.is ∙ (c.turn.ensures ∙ ap (turn c.way_of-way.result) c.entrance_of.ensures))
+    c.in_ok-here.ensures.value))
+    ∙ (ap (λ (xs : List CodeStep). l.keys ++ rest_looked docs ps (steps_of (map step xs)) sc (got l.here)) (sym is) ∙ l.invariant.keys))
+    c.flattened.ensures.keys
+
+pub chains::rest-loop-first-preserved : goal.chains::rest-loop-first-preserved
+chains::rest-loop-first-preserved g t c =
+    let docs = g.S.Source.docs c.args.source.now in
+    let ps = fields c.args.params.now in
+    let sc = scope c.args.frame.now in
+    let l = c.loop-first in
+    let is = c.in-Some.ensures.cases.0 in
+    let s = step c.in-Some.first.now in
+    let later = steps_of (map step c.in-Some.later.now) in
+    let k : c.first_kind-kind.result ≡ kind later = c.first_kind-kind.ensures ∙ kind_behind l.left.now c.in-Some.first.now c.in-Some.later.now l.left_kinds.now c.behind-later_kinds.result.now is l.invariant.kinds c.behind-later_kinds.ensures in
+    let w : c.way_of-way.result ≡ way (form s) c.first_kind-kind.result = c.way_of-way.ensures ∙ ap (λ f. way f c.first_kind-kind.result) c.form_of.ensures in
+    let goes : is_end c.way_of-way.result ≡ false = sym c.ends.ensures ∙ c.if-ends.false in
+    let on : Whole ≡ turn c.way_of-way.result (entrance c.first_kind-kind.result) = sym c.in-Whole.is ∙ (c.turn.ensures ∙ ap (turn c.way_of-way.result) c.entrance_of.ensures) in
+    let heavy : steps_weight (steps_of (map step l.left.now)) ≡ steps_weight (more_steps s later) = ap (λ (xs : List CodeStep). steps_weight (steps_of (map step xs))) is in
+    record {
+      value = step_on docs ps sc s later c.first_kind-kind.result c.way_of-way.result Whole (got l.here) (got c.in_ok-here.here) k w goes on c.in_ok-here.ensures.value
+          ∙ (ap (λ (xs : List CodeStep). rest_value docs ps (steps_of (map step xs)) sc (got l.here)) (sym is) ∙ l.invariant.value);
+      keys = one_after_another l.keys c.once.new.keys (rest_looked docs ps (more_steps s later) sc (got l.here)) (once_looked c.way_of-way.result (step_looked docs ps s sc) (got l.here)) (entered_looked Whole (rest_looked docs ps later sc) (got c.in_ok-here.here)) c.in_ok-here.ensures.keys
+          (sym (step_looks_on docs ps sc s later c.first_kind-kind.result c.way_of-way.result Whole (got l.here) (got c.in_ok-here.here) k w goes on c.in_ok-here.ensures.value))
+          ∙ (ap (λ (xs : List CodeStep). l.keys ++ rest_looked docs ps (steps_of (map step xs)) sc (got l.here)) (sym is) ∙ l.invariant.keys);
+      kinds = kinds_behind l.left.now c.in-Some.first.now c.in-Some.later.now l.left_kinds.now c.behind-later_kinds.result.now is l.invariant.kinds c.behind-later_kinds.ensures;
+      lighter = omega (arith, heavy, l.invariant.lighter);
+    }
+
+pub calls::select-eval-requires : goal.calls::select-eval-requires
+calls::select-eval-requires g t c κs within =
+    let docs = g.S.Source.docs c.args.source.now in
+    let ps = fields c.args.params.now in
+    let sc = scope c.args.frame.now in
+    let l = c.loop-first in
+    let is = c.in-Some.ensures.cases.0 in
+    let x = arg c.in-Some.first.now in
+    let xs = arguments_of (map arg c.in-Some.later.now) in
+    let e = expression c.in-Some-2.expr.now in
+    let h : chosen docs ps x sc ≡ Some e = sym c.in_ok-expr.ensures.value ∙ ap (λ o. option_map (λ y. expression y.now) o) c.in-Some-2.is in
+    let heavy : arguments_weight (arguments_of (map arg l.behind.now)) ≡ arguments_weight (more_arguments x xs) = ap (λ (ys : List CodeArg). arguments_weight (arguments_of (map arg ys))) is in
+    (omega (arith, chosen_weight docs ps x sc e h, heavy, l.invariant.lighter), within)
+
+pub calls::select-returns-in-Some-2-clause-value : goal.calls::select-returns-in-Some-2-clause-value
+calls::select-returns-in-Some-2-clause-value g t c =
+    let docs = g.S.Source.docs c.args.source.now in
+    let ps = fields c.args.params.now in
+    let sc = scope c.args.frame.now in
+    let l = c.loop-first in
+    let is = c.in-Some.ensures.cases.0 in
+    let x = arg c.in-Some.first.now in
+    let xs = arguments_of (map arg c.in-Some.later.now) in
+    let e = expression c.in-Some-2.expr.now in
+    let h : chosen docs ps x sc ≡ Some e = sym c.in_ok-expr.ensures.value ∙ ap (λ o. option_map (λ y. expression y.now) o) c.in-Some-2.is in
+    subst (λ (y : Tree). IfOk c.eval.result (λ g'. got g' ≡ y))
+    (selected_here docs ps x xs sc e h ∙ (ap (λ (ys : List CodeArg). selected docs ps (arguments_of (map arg ys)) sc) (sym is) ∙ l.invariant.value))
+    c.eval.ensures.value
+
+pub calls::select-returns-in-Some-2-clause-keys : goal.calls::select-returns-in-Some-2-clause-keys
+calls::select-returns-in-Some-2-clause-keys g t c =
+    let docs = g.S.Source.docs c.args.source.now in
+    let ps = fields c.args.params.now in
+    let sc = scope c.args.frame.now in
+    let l = c.loop-first in
+    let is = c.in-Some.ensures.cases.0 in
+    let x = arg c.in-Some.first.now in
+    let xs = arguments_of (map arg c.in-Some.later.now) in
+    let e = expression c.in-Some-2.expr.now in
+    let h : chosen docs ps x sc ≡ Some e = sym c.in_ok-expr.ensures.value ∙ ap (λ o. option_map (λ y. expression y.now) o) c.in-Some-2.is in
+    subst (λ (ks : List Key). OnOk c.eval.result (c.eval.new.keys ≡ ks))
+    (one_after_another l.keys c.choice.new.keys (selected_looked docs ps (more_arguments x xs) sc) (chosen_looked docs ps x sc) (looked docs ps e sc) c.in_ok-expr.ensures.keys
+    (sym (selected_looks_here docs ps x xs sc e h))
+    ∙ (ap (λ (ys : List CodeArg). l.keys ++ selected_looked docs ps (arguments_of (map arg ys)) sc) (sym is) ∙ l.invariant.keys))
+    c.eval.ensures.keys
+
+pub calls::select-loop-first-preserved : goal.calls::select-loop-first-preserved
+calls::select-loop-first-preserved g t c =
+    let docs = g.S.Source.docs c.args.source.now in
+    let ps = fields c.args.params.now in
+    let sc = scope c.args.frame.now in
+    let l = c.loop-first in
+    let is = c.in-Some.ensures.cases.0 in
+    let x = arg c.in-Some.first.now in
+    let xs = arguments_of (map arg c.in-Some.later.now) in
+    let n : chosen docs ps x sc ≡ None = sym c.in_ok-expr.ensures.value ∙ ap (λ o. option_map (λ y. expression y.now) o) c.in_default-2.is in
+    let heavy : arguments_weight (arguments_of (map arg l.behind.now)) ≡ arguments_weight (more_arguments x xs) = ap (λ (ys : List CodeArg). arguments_weight (arguments_of (map arg ys))) is in
+    record {
+      value = selected_on docs ps x xs sc n ∙ (ap (λ (ys : List CodeArg). selected docs ps (arguments_of (map arg ys)) sc) (sym is) ∙ l.invariant.value);
+      keys = one_after_another l.keys c.choice.new.keys (selected_looked docs ps (more_arguments x xs) sc) (chosen_looked docs ps x sc) (selected_looked docs ps xs sc) c.in_ok-expr.ensures.keys
+          (sym (selected_looks_on docs ps x xs sc n))
+          ∙ (ap (λ (ys : List CodeArg). l.keys ++ selected_looked docs ps (arguments_of (map arg ys)) sc) (sym is) ∙ l.invariant.keys);
+      lighter = omega (arith, heavy, l.invariant.lighter);
+    }
+
+pub calls::select-returns-clause-value : goal.calls::select-returns-clause-value
+calls::select-returns-clause-value g t c =
+    let docs = g.S.Source.docs c.args.source.now in
+    let ps = fields c.args.params.now in
+    let sc = scope c.args.frame.now in
+    let l = c.loop-first in
+    tree_of_null ∙ (ap (λ (ys : List CodeArg). selected docs ps (arguments_of (map arg ys)) sc) (sym (none_left l.behind.now c.in_default.ensures.cases)) ∙ l.invariant.value)
+
+pub expressions::eval-call-requires : goal.expressions::eval-call-requires
+expressions::eval-call-requires g t c κs within =
+    let e : expression c.args.expr.now ≡ call c.in-Call.name (arguments_of (map arg c.deref-in-Call.result.now)) =
+    ap expression c.in-Call.is ∙ (expression_call c.in-Call.name c.in-Call.args ∙ ap (λ (xs : List CodeArg). call c.in-Call.name (arguments_of (map arg xs))) (sym c.deref-in-Call.ensures.value)) in
+    let w : weight (expression c.args.expr.now) ≡ 9 + arguments_weight (arguments_of (map arg c.deref-in-Call.result.now)) = ap weight e in
+    (omega arith, within)
+
+pub expressions::within-in_path_of-requires : goal.expressions::within-in_path_of-requires
+expressions::within-in_path_of-requires g t c κs within =
+    let docs = g.S.Source.docs c.args.source.now in
+    let ps = fields c.args.params.now in
+    let sc = scope c.args.frame.now in
+    let left = expression c.args.left.now in
+    let right = expression c.args.right.now in
+    let xs = arguments_of (map arg c.in-Some.args.now) in
+    let h : path_arguments right ≡ Some xs = sym c.path_arguments.ensures ∙ ap (λ o. option_map (λ ys. arguments_of (map arg ys.now)) o) c.in-Some.is in
+    let w : weight right ≡ 9 + arguments_weight xs = path_weight right xs h in
+    (omega (arith, w), within)
+
+pub expressions::within-returns-in-Some-clause-value : goal.expressions::within-returns-in-Some-clause-value
+expressions::within-returns-in-Some-clause-value g t c =
+    let docs = g.S.Source.docs c.args.source.now in
+    let ps = fields c.args.params.now in
+    let sc = scope c.args.frame.now in
+    let left = expression c.args.left.now in
+    let right = expression c.args.right.now in
+    let xs = arguments_of (map arg c.in-Some.args.now) in
+    let h : path_arguments right ≡ Some xs = sym c.path_arguments.ensures ∙ ap (λ o. option_map (λ ys. arguments_of (map arg ys.now)) o) c.in-Some.is in
+    subst (λ (y : Tree). IfOk c.in_path_of.result (λ g'. got g' ≡ y))
+    (within_path docs ps left right sc xs (tree c.val.result.now) (c.val.ensures ∙ (c.in_ok-here.ensures ∙ c.in_ok-eval.ensures.value)) h)
+    c.in_path_of.ensures.value
+
+pub expressions::within-returns-in-Some-clause-keys : goal.expressions::within-returns-in-Some-clause-keys
+expressions::within-returns-in-Some-clause-keys g t c =
+    let docs = g.S.Source.docs c.args.source.now in
+    let ps = fields c.args.params.now in
+    let sc = scope c.args.frame.now in
+    let left = expression c.args.left.now in
+    let right = expression c.args.right.now in
+    let xs = arguments_of (map arg c.in-Some.args.now) in
+    let h : path_arguments right ≡ Some xs = sym c.path_arguments.ensures ∙ ap (λ o. option_map (λ ys. arguments_of (map arg ys.now)) o) c.in-Some.is in
+    subst (λ (ks : List Key). OnOk c.in_path_of.result (c.in_path_of.new.keys ≡ ks))
+    (one_after_another c.args.keys.now c.eval.new.keys (looked docs ps left sc ++ looked docs ps right sc) (looked docs ps left sc) (arguments_looked docs ps xs sc) c.in_ok-eval.ensures.keys
+    (ap (λ (ks : List Key). looked docs ps left sc ++ ks) (path_looked docs ps right sc xs h)))
+    c.in_path_of.ensures.keys
+
+pub expressions::within-returns-clause-value : goal.expressions::within-returns-clause-value
+expressions::within-returns-clause-value g t c =
+    let docs = g.S.Source.docs c.args.source.now in
+    let ps = fields c.args.params.now in
+    let sc = scope c.args.frame.now in
+    let left = expression c.args.left.now in
+    let right = expression c.args.right.now in
+    let h : path_arguments right ≡ None = sym c.path_arguments.ensures ∙ ap (λ o. option_map (λ ys. arguments_of (map arg ys.now)) o) c.in-None.is in
+    c.among.ensures ∙ within_list docs ps left right sc (tree c.val-in-None.result.now) (got c.in_ok-list-in-None.list) (c.val-in-None.ensures ∙ (c.in_ok-here.ensures ∙ c.in_ok-eval.ensures.value)) c.in_ok-list-in-None.ensures.value h
+
+pub steps::one_step-ordered-requires : goal.steps::one_step-ordered-requires
+steps::one_step-ordered-requires g t c κs within =
+    let w : step_weight (step c.args.step.now) ≡ 9 + keys_weight (keys_of (map key c.deref-in-Pipe.result.now)) =
+    ap step_weight (sym (pipe_parts c.args.step.now c.in-Pipe.name c.in-Pipe.order c.deref-in-Pipe.result.now c.in-Pipe.is c.deref-in-Pipe.ensures.value)) in
+    (omega arith, within)
+
+pub steps::order_keys-loop-first-preserved : goal.steps::order_keys-loop-first-preserved
+steps::order_keys-loop-first-preserved g t c =
+    let docs = g.S.Source.docs c.args.source.now in
+    let ps = fields c.args.params.now in
+    let sc = scope c.args.frame.now in
+    let l = c.loop-first in
+    let is = c.in-Some.ensures.cases.0 in
+    let k = c.in-Some.first.now in
+    let ks = keys_of (map key c.in-Some.later.now) in
+    let v : tree c.in_ok-val.val ≡ value docs ps (expression k.key) sc = c.in_ok-val.ensures ∙ c.in_ok-eval.ensures.value in
+    let heavy : keys_weight (keys_of (map key l.behind.now)) ≡ 9 + (weight (expression k.key) + keys_weight ks) = ap (λ (xs : List CodeKey). keys_weight (keys_of (map key xs))) is ∙ keys_weight_more k ks in
+    record {
+      value = pushed_values l.out.items _ c.in_ok-val.val (keys_values docs ps ks sc) c.in_ok-push.ensures
+          ∙ (ap (λ (x : Tree). map tree l.out.items ++ x ∷ keys_values docs ps ks sc) v ∙ (ap (λ (xs : List Tree). map tree l.out.items ++ xs) (sym (keys_values_more docs ps k ks sc))
+          ∙ (ap (λ (xs : List CodeKey). map tree l.out.items ++ keys_values docs ps (keys_of (map key xs)) sc) (sym is) ∙ l.invariant.value)));
+      keys = one_after_another l.keys c.eval.new.keys (keys_looked docs ps (more_keys (key k) ks) sc) (looked docs ps (expression k.key) sc) (keys_looked docs ps ks sc) c.in_ok-eval.ensures.keys
+          (keys_looked_more docs ps k ks sc)
+          ∙ (ap (λ (xs : List CodeKey). l.keys ++ keys_looked docs ps (keys_of (map key xs)) sc) (sym is) ∙ l.invariant.keys);
+      lighter = omega (arith, heavy, l.invariant.lighter);
+    }

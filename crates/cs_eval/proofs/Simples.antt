@@ -1,0 +1,85 @@
+-- A simple query by its parts.
+use Rattle.std.proofs.Common.{◌≡◌, List, [], ◌∷◌, map, length, sym, ap, ◌∙◌, rules, Vec, Box, Global, refl, true, false, Bool, ◌&&◌, IfNone}
+use Rattle.std.specs.Prelude.{filter, IfSome, OnOk}
+use Rattle.std.proofs.Common.{Option, None, Some, Result, Ok, Err}
+use Rattle.cs_value.specs.Tree.{Tree, null, Pairs}
+use Rattle.cs_view.specs.Keys.{Sel, has}
+use Rattle.cs_view.specs.declared.key.Key.{Key}
+use Rattle.cs_syntax.specs.Expression.{Expression, everything, chain, bracket, Steps, no_steps, more_steps, steps_of}
+use Rattle.cs_syntax.specs.View.{expression, step}
+use Rattle.cs_syntax.specs.declared.tree.Expr.{Expr, the_lemmas}
+use Rattle.cs_syntax.specs.declared.tree.Expr as code
+use Rattle.cs_syntax.specs.declared.tree.Step.{Step as CodeStep}
+use Rattle.cs_plan.specs.Filters.{key_in}
+use Rattle.cs_plan.specs.Simple.{is_simple, is_simple_rest, quiet_step, quiet_steps, are_tail_steps, key_of}
+use Rattle.cs_parts.specs.Hits.{is_hit, hits, tail, cost}
+use Rattle.cs_parts.specs.Joining.{list_of}
+use Rattle.cs_parts.specs.Looked.{query_looked, starts_with_filter}
+use Rattle.cs_parts.specs.Operators.{is_true}
+use Rattle.cs_parts.specs.Values.{value, pipes_value, query_value}
+use Rattle.cs_parts.proofs.Simple.{simple-looked, simple-tail}
+use Rattle.cs_parts.proofs.Sound.{filter-within}
+use Rattle.cs_parts.proofs.TrueKey.{true-has_key}
+use Rattle.cs_eval.specs.Starts.{enter_value}
+
+pub expression_chain : (base : Box Expr Global) (ss : Vec CodeStep Global) → expression (code.Chain base ss) ≡ chain (expression base.value) (steps_of (map step ss.items))
+unfolding expression step
+expression_chain base ss = search (rules, the_lemmas)
+
+expression_all : expression code.All ≡ everything
+unfolding expression
+expression_all = search (rules, the_lemmas)
+
+pub star_chain : (e : Expr) (base : Box Expr Global) (v : Vec CodeStep Global) (b : Expr) (ss : List CodeStep) → e ≡ code.Chain base v → b ≡ base.value → b ≡ code.All → ss ≡ v.items
+    → expression e ≡ chain everything (steps_of (map step ss))
+star_chain e base v b ss is there all same = ap expression is ∙ (expression_chain base v
+    ∙ (ap (λ (x : Expr). chain (expression x) (steps_of (map step v.items))) (sym there ∙ all) ∙ (ap (λ x. chain x (steps_of (map step v.items))) expression_all ∙ ap (λ (x : List CodeStep). chain everything (steps_of (map step x))) (sym same))))
+
+abbrev star : Expression → Steps → Expression
+star f later = chain everything (more_steps (bracket f) later)
+
+-- the tail of those of the documents with the key that are hits
+answer_at_root : (docs : List Tree) (params : Pairs) (f : Expression) (later : Steps) (k : Key) (found : List Tree) → is_simple (star f later) ≡ true → k ≡ key_in f (null ∷ []) params → found ≡ Sel k docs
+    → pipes_value [] params later (null ∷ []) (enter_value [] params later (null ∷ []) (list_of (filter (λ x. is_true (value [] params f (x ∷ null ∷ []))) found))) ≡ query_value docs params (star f later)
+answer_at_root docs params f later k found h is-k is-found =
+    let e = star f later in
+    ap (λ (ds : List Tree). tail e params (hits e params ds)) (is-found ∙ ap (λ (x : Key). Sel x docs) is-k)
+    ∙ (ap (tail e params) (sym (filter-within (is_hit e params) (has (key_of e params)) (λ d t. true-has_key [] params f (null ∷ []) d t) docs)) ∙ sym (simple-tail e params docs h))
+
+pub simple_answer : (docs : List Tree) (params : Pairs) (scope : List Tree) (e f : Expression) (later : Steps) (k : Key) (found : List Tree) → is_simple e ≡ true → e ≡ chain everything (more_steps (bracket f) later) → scope ≡ null ∷ []
+    → k ≡ key_in f scope params → found ≡ Sel k docs
+    → pipes_value [] params later scope (enter_value [] params later scope (list_of (filter (λ x. is_true (value [] params f (x ∷ scope))) found))) ≡ query_value docs params e
+simple_answer docs params scope e f later k found h is root is-k is-found =
+    ap (λ (s : List Tree). pipes_value [] params later s (enter_value [] params later s (list_of (filter (λ x. is_true (value [] params f (x ∷ s))) found)))) root
+    ∙ (answer_at_root docs params f later k found (sym (ap is_simple is) ∙ h) (is-k ∙ ap (λ (s : List Tree). key_in f s params) root) is-found ∙ ap (query_value docs params) (sym is))
+
+is_key : (params : Pairs) (scope : List Tree) (e f : Expression) (later : Steps) (k : Key) → e ≡ chain everything (more_steps (bracket f) later) → scope ≡ null ∷ [] → k ≡ key_in f scope params → k ≡ key_of e params
+is_key params scope e f later k is root is-k = is-k ∙ (ap (λ (s : List Tree). key_in f s params) root ∙ sym (ap (λ x. key_of x params) is))
+
+pub simple_keys : (docs : List Tree) (params : Pairs) (scope : List Tree) (e f : Expression) (later : Steps) (k : Key) → is_simple e ≡ true → e ≡ chain everything (more_steps (bracket f) later) → scope ≡ null ∷ [] → k ≡ key_in f scope params
+    → k ∷ [] ≡ query_looked docs params e
+simple_keys docs params scope e f later k h is root is-k = ap (λ (x : Key). x ∷ []) (is_key params scope e f later k is root is-k) ∙ sym (simple-looked e params docs h)
+
+pub simple_cost : (docs : List Tree) (params : Pairs) (scope : List Tree) (e f : Expression) (later : Steps) (k : Key) → e ≡ chain everything (more_steps (bracket f) later) → scope ≡ null ∷ [] → k ≡ key_in f scope params
+    → length (Sel k docs) ≡ cost e params docs
+simple_cost docs params scope e f later k is root is-k = ap (λ (x : Key). length (Sel x docs)) (is_key params scope e f later k is root is-k)
+
+pub some_then : {A : Type 0} (r : Option A) {P Q : A → Type 0} → ((x : A) → P x → Q x) → IfSome r P → IfSome r Q
+some_then None f h = tt
+some_then (Some x) f h = f x h
+
+pub on_ok : {A E : Type 0} (r : Result A E) {P : Type 0} → P → OnOk r P
+on_ok (Ok x) h = h
+on_ok (Err x) h = tt
+
+pub none_then : {A : Type 0} (r : Option A) {P Q : Type 0} → (P → Q) → IfNone r P → IfNone r Q
+none_then None f h = f h
+none_then (Some x) f h = tt
+
+rest_not_simple : (ss : Steps) → starts_with_filter ss ≡ false → is_simple_rest ss ≡ false
+rest_not_simple no_steps h = refl
+rest_not_simple (more_steps s ss) h = ap (λ (b : Bool). (b && quiet_step s) && (are_tail_steps ss && quiet_steps ss)) h
+
+pub not_simple : (e : Expr) (base : Box Expr Global) (v : Vec CodeStep Global) (b : Expr) (ss : List CodeStep) → e ≡ code.Chain base v → b ≡ base.value → b ≡ code.All → ss ≡ v.items
+    → starts_with_filter (steps_of (map step ss)) ≡ false → is_simple (expression e) ≡ false
+not_simple e base v b ss is there all same h = ap is_simple (star_chain e base v b ss is there all same) ∙ rest_not_simple (steps_of (map step ss)) h

@@ -1,0 +1,14 @@
+use Rattle.std.proofs.Common.{ap, ◌∙◌}
+use Rattle.cs_syntax.specs.Expression.{chain, everything}
+use Rattle.cs_eval.proofs.Simples.{star_chain, some_then, none_then, not_simple}
+use Rattle.cs_eval.proofs.queries.parts.Goals as goal
+
+pub returns-in-All-clause-some : goal.returns-in-All-clause-some
+returns-in-All-clause-some c = some_then c.head_filter.result
+    (λ x h. star_chain c.args.expr.now c.in-Chain.base c.in-Chain.steps c.deref.result.now c.deref-in-All.result.now c.in-Chain.is c.deref.ensures c.in-All.is c.deref-in-All.ensures.value ∙ ap (chain everything) h)
+    c.head_filter.ensures.some
+
+pub returns-in-All-clause-none : goal.returns-in-All-clause-none
+returns-in-All-clause-none c = none_then c.head_filter.result
+    (λ h. not_simple c.args.expr.now c.in-Chain.base c.in-Chain.steps c.deref.result.now c.deref-in-All.result.now c.in-Chain.is c.deref.ensures c.in-All.is c.deref-in-All.ensures.value h)
+    c.head_filter.ensures.none

@@ -1,0 +1,30 @@
+use Rattle.std.proofs.Common.{◌≡◌, ◌++◌, List, sym, ap, ◌∙◌, subst, IfOk, map}
+use Rattle.cs_value.specs.Tree.{Tree}
+use Rattle.cs_value.specs.View.{tree, fields}
+use Rattle.cs_syntax.specs.Expression.{steps_of, chain, everything, more_steps, bracket}
+use Rattle.cs_syntax.specs.Queries.{query}
+use Rattle.cs_syntax.specs.View.{expression, step}
+use Rattle.cs_view.specs.Scopes.{scope}
+use Rattle.cs_view.specs.declared.key.Key.{Key}
+use Rattle.cs_parts.specs.Parts.{got}
+use Rattle.cs_eval.proofs.Simples.{simple_answer, simple_keys, on_ok}
+use Rattle.cs_eval.proofs.queries.simple_value.Goals as goal
+
+pub returns-clause-value : goal.returns-clause-value
+returns-clause-value g c =
+    let f = expression c.in-Some.condition.now in
+    let later = steps_of (map step c.in-Some.later.now) in
+    let is : query c.args.query.now ≡ chain everything (more_steps (bracket f) later) = sym c.expr.ensures.kept ∙ c.in-Some.ensures.some in
+    subst (λ (y : Tree). IfOk c.tail_of_hits.result (λ g'. got g' ≡ y))
+    (simple_answer (g.V.View.docs c.args.view.now) (fields c.args.params.now) (scope c.args.frame.now) (query c.args.query.now) f later c.in_ok-key.key (map (λ r. tree r.now) c.in_ok-found.found.items)
+    c.requires.simple is c.requires.root c.in_ok-key.ensures c.in_ok-found.ensures.found)
+    c.tail_of_hits.ensures
+
+pub returns-clause-keys : goal.returns-clause-keys
+returns-clause-keys g c =
+    let f = expression c.in-Some.condition.now in
+    let later = steps_of (map step c.in-Some.later.now) in
+    let is : query c.args.query.now ≡ chain everything (more_steps (bracket f) later) = sym c.expr.ensures.kept ∙ c.in-Some.ensures.some in
+    on_ok c.tail_of_hits.result
+    (c.in_ok-add.ensures.added ∙ ap (λ (ks : List Key). c.args.keys.now ++ ks)
+    (simple_keys (g.V.View.docs c.args.view.now) (fields c.args.params.now) (scope c.args.frame.now) (query c.args.query.now) f later c.in_ok-key.key c.requires.simple is c.requires.root c.in_ok-key.ensures))

@@ -1,0 +1,513 @@
+//! Chains: how steps are joined, over the values that their bases give.
+ghost use Rattle.std.specs.Prelude.{◌≡◌, ◌∷◌, ◌++◌, IfOk, OnOk, map, flat_map};
+ghost use Rattle.cs_value.specs.View.{fields};
+ghost use Rattle.cs_syntax.specs.Expression.{steps_of};
+ghost use Rattle.cs_syntax.specs.View.{expression, step as step_of};
+ghost use Rattle.cs_view.specs.Keys.{Sel};
+ghost use Rattle.cs_view.specs.Scopes.{scope};
+ghost use Rattle.cs_plan.specs.Filters.{key_in};
+ghost use Rattle.cs_parts.specs.Joining.{list_of, mapped, flattened, spread as spread_of};
+ghost use Rattle.cs_parts.specs.Operators.{is_true as is_true_tree};
+ghost use Rattle.cs_parts.specs.Values.{value as value_of, rest_value, pipes_value, step_value, filtered};
+ghost use Rattle.cs_parts.specs.Looked.{looked, rest_looked, pipes_looked, step_looked, each_looked};
+ghost use Rattle.cs_parts.specs.Parts.{got, item};
+ghost use Rattle.cs_parts.specs.Kinds.{kinds_of};
+ghost use Rattle.cs_eval.specs.Starts.{start_value, start_looked, enter_value, enter_looked, once, once_looked, piped_value, piped_looked};
+
+use crate::expressions::eval;
+use crate::steps::{keep, one_step};
+use cs_parts::{
+    Entrance, Got, Item, Kind, Source, Way, append, behind, elements, ends, entrance_of,
+    first_kind, form_of, gather, gives_array, head_filter, is_all, is_over, is_pipe, kinds, lent,
+    push, settle, spread, turn, way_of,
+};
+use cs_plan::choose;
+use cs_syntax::{Expr, Step};
+use cs_value::{Fields, NoMemory, Val};
+use cs_view::{Record, Scope};
+use std::alloc::Global;
+
+// A base and its steps. The kinds of all rests are found once.
+#[cycle(eval)]
+pub(crate) fn chain<'s, S: Source<C>, C>(
+    alloc: Global,
+    base: &'s Expr,
+    steps: &'s [Step],
+    frame: &Scope<'s>,
+    params: &'s Fields,
+    source: &'s S,
+    keys: &mut Record,
+    count: &mut C,
+) -> Result<Got<'s>, NoMemory>
+    ensures value { IfOk result (λ g. got g ≡ pipes_value (S.docs source.now) (fields params.now)
+        (steps_of (map step_of steps.now)) (scope frame.now) (start_value (S.docs source.now)
+        (fields params.now) (expression base.now) (steps_of (map step_of steps.now)) (scope
+        frame.now))) }
+    ensures keys { OnOk result (keys.new ≡ keys.old ++ (start_looked (S.docs source.now) (fields
+        params.now) (expression base.now) (steps_of (map step_of steps.now)) (scope frame.now) ++
+        pipes_looked (S.docs source.now) (fields params.now) (steps_of (map step_of steps.now))
+        (scope frame.now) (start_value (S.docs source.now) (fields params.now) (expression
+        base.now) (steps_of (map step_of steps.now)) (scope frame.now)))) }
+{
+    let kinds = kinds(alloc, steps)?;
+    let first = start(
+        alloc, base, steps, &kinds, frame, params, source, keys, count,
+    )?;
+    pipes(
+        alloc, steps, &kinds, frame, params, source, first, keys, count,
+    )
+}
+
+// A chain up to its first piped call.
+#[cycle(eval)]
+fn start<'s, S: Source<C>, C>(
+    alloc: Global,
+    base: &'s Expr,
+    steps: &'s [Step],
+    kinds: &[Kind],
+    frame: &Scope<'s>,
+    params: &'s Fields,
+    source: &'s S,
+    keys: &mut Record,
+    count: &mut C,
+) -> Result<Got<'s>, NoMemory>
+    requires { kinds.now ≡ kinds_of (map step_of steps.now) }
+    ensures value { IfOk result (λ g. got g ≡ start_value (S.docs source.now) (fields params.now)
+        (expression base.now) (steps_of (map step_of steps.now)) (scope frame.now)) }
+    ensures keys { OnOk result (keys.new ≡ keys.old ++ start_looked (S.docs source.now) (fields
+        params.now) (expression base.now) (steps_of (map step_of steps.now)) (scope frame.now)) }
+{
+    if is_all(base) {
+        if let Some((condition, later)) = head_filter(steps) {
+            return filtered_all(
+                alloc,
+                condition,
+                later,
+                behind(kinds),
+                frame,
+                params,
+                source,
+                keys,
+                count,
+            );
+        }
+    }
+    let value = eval(alloc, base, frame, params, source, keys, count)?;
+    if gives_array(base) {
+        enter(
+            alloc, steps, kinds, frame, params, source, value, keys, count,
+        )
+    } else {
+        rest(
+            alloc, steps, kinds, frame, params, source, value, keys, count,
+        )
+    }
+}
+
+// `*` with a filter: the documents that have the filter's key are looked up, and no others.
+#[cycle(eval)]
+fn filtered_all<'s, S: Source<C>, C>(
+    alloc: Global,
+    condition: &'s Expr,
+    steps: &'s [Step],
+    kinds: &[Kind],
+    frame: &Scope<'s>,
+    params: &'s Fields,
+    source: &'s S,
+    keys: &mut Record,
+    count: &mut C,
+) -> Result<Got<'s>, NoMemory>
+    requires { kinds.now ≡ kinds_of (map step_of steps.now) }
+    ensures value { IfOk result (λ g. got g ≡ enter_value (S.docs source.now) (fields params.now)
+        (steps_of (map step_of steps.now)) (scope frame.now) (filtered (λ x. is_true_tree
+        (value_of (S.docs source.now) (fields params.now) (expression condition.now) (x ∷ (scope
+        frame.now)))) (list_of (S.docs source.now)))) }
+    ensures keys { OnOk result (keys.new ≡ keys.old ++ (key_in (expression condition.now) (scope
+        frame.now) (fields params.now) ∷ (flat_map (λ d. looked (S.docs source.now) (fields
+        params.now) (expression condition.now) (d ∷ (scope frame.now))) (Sel (key_in (expression
+        condition.now) (scope frame.now) (fields params.now)) (S.docs source.now)) ++ enter_looked
+        (S.docs source.now) (fields params.now) (steps_of (map step_of steps.now)) (scope
+        frame.now) (filtered (λ x. is_true_tree (value_of (S.docs source.now) (fields params.now)
+        (expression condition.now) (x ∷ (scope frame.now)))) (list_of (S.docs source.now)))))) }
+{
+    let key = choose(alloc, condition, frame, params)?;
+    let found = source.select(alloc, &key, count)?;
+    keys.add(key)?;
+    let items = lent(alloc, found)?;
+    let kept = keep(alloc, condition, frame, params, source, items, keys, count)?;
+    let list = gather(alloc, kept)?;
+    enter(
+        alloc, steps, kinds, frame, params, source, list, keys, count,
+    )
+}
+
+// An array enters a rest.
+#[cycle(eval)]
+#[tactic(auto, using(crate::proofs::Joins::first_of_kinds))]
+pub(crate) fn enter<'s, S: Source<C>, C>(
+    alloc: Global,
+    steps: &'s [Step],
+    kinds: &[Kind],
+    frame: &Scope<'s>,
+    params: &'s Fields,
+    source: &'s S,
+    value: Got<'s>,
+    keys: &mut Record,
+    count: &mut C,
+) -> Result<Got<'s>, NoMemory>
+    requires { kinds.now ≡ kinds_of (map step_of steps.now) }
+    ensures value { IfOk result (λ g. got g ≡ enter_value (S.docs source.now) (fields params.now)
+        (steps_of (map step_of steps.now)) (scope frame.now) (got value.entry)) }
+    ensures keys { OnOk result (keys.new ≡ keys.old ++ enter_looked (S.docs source.now) (fields
+        params.now) (steps_of (map step_of steps.now)) (scope frame.now) (got value.entry)) }
+{
+    match entrance_of(first_kind(kinds)) {
+        Entrance::Whole => rest(
+            alloc, steps, kinds, frame, params, source, value, keys, count,
+        ),
+        Entrance::Mapped => mapped(
+            alloc, steps, kinds, frame, params, source, value, keys, count,
+        ),
+        Entrance::Flat => flattened(
+            alloc, steps, kinds, frame, params, source, value, keys, count,
+        ),
+    }
+}
+
+// A rest, up to the first piped call: a loop, which calls itself only where a rest is mapped.
+#[cycle(eval)]
+fn rest<'s, S: Source<C>, C>(
+    alloc: Global,
+    steps: &'s [Step],
+    kinds: &[Kind],
+    frame: &Scope<'s>,
+    params: &'s Fields,
+    source: &'s S,
+    value: Got<'s>,
+    keys: &mut Record,
+    count: &mut C,
+) -> Result<Got<'s>, NoMemory>
+    requires { kinds.now ≡ kinds_of (map step_of steps.now) }
+    ensures value { IfOk result (λ g. got g ≡ rest_value (S.docs source.now) (fields params.now)
+        (steps_of (map step_of steps.now)) (scope frame.now) (got value.entry)) }
+    ensures keys { OnOk result (keys.new ≡ keys.old ++ rest_looked (S.docs source.now) (fields
+        params.now) (steps_of (map step_of steps.now)) (scope frame.now) (got value.entry)) }
+{
+    let mut here = value;
+    let mut left = steps;
+    let mut left_kinds = kinds;
+    while let Some((first, later)) = left.split_first() {
+        let later_kinds = behind(left_kinds);
+        let kind = first_kind(later_kinds);
+        let way = way_of(form_of(first), kind);
+        if ends(way) {
+            return Ok(here);
+        }
+        here = once(alloc, first, way, frame, params, source, here, keys, count)?;
+        match turn(way, entrance_of(kind)) {
+            Entrance::Whole => {}
+            Entrance::Mapped => {
+                return mapped(
+                    alloc,
+                    later,
+                    later_kinds,
+                    frame,
+                    params,
+                    source,
+                    here,
+                    keys,
+                    count,
+                );
+            }
+            Entrance::Flat => {
+                return flattened(
+                    alloc,
+                    later,
+                    later_kinds,
+                    frame,
+                    params,
+                    source,
+                    here,
+                    keys,
+                    count,
+                );
+            }
+        }
+        left = later;
+        left_kinds = later_kinds;
+    }
+    Ok(here)
+}
+
+// The rest of each element, as a list.
+#[cycle(eval)]
+#[tactic(auto, using(cs_parts::proofs::Trees::tree_of_null))]
+fn mapped<'s, S: Source<C>, C>(
+    alloc: Global,
+    steps: &'s [Step],
+    kinds: &[Kind],
+    frame: &Scope<'s>,
+    params: &'s Fields,
+    source: &'s S,
+    value: Got<'s>,
+    keys: &mut Record,
+    count: &mut C,
+) -> Result<Got<'s>, NoMemory>
+    requires { kinds.now ≡ kinds_of (map step_of steps.now) }
+    ensures value { IfOk result (λ g. got g ≡ mapped (rest_value (S.docs source.now) (fields
+        params.now) (steps_of (map step_of steps.now)) (scope frame.now)) (got value.entry)) }
+    ensures keys { OnOk result (keys.new ≡ keys.old ++ each_looked (rest_looked (S.docs
+        source.now) (fields params.now) (steps_of (map step_of steps.now)) (scope frame.now)) (got
+        value.entry)) }
+{
+    let Some(items) = elements(alloc, value)? else {
+        return Ok(Got::Whole(Val::Null));
+    };
+    let given = rest_of_each(
+        alloc, steps, kinds, frame, params, source, items, keys, count,
+    )?;
+    gather(alloc, given)
+}
+
+// What the rest makes of each element.
+#[cycle(eval)]
+fn rest_of_each<'s, S: Source<C>, C>(
+    alloc: Global,
+    steps: &'s [Step],
+    kinds: &[Kind],
+    frame: &Scope<'s>,
+    params: &'s Fields,
+    source: &'s S,
+    items: Vec<Item<'s>>,
+    keys: &mut Record,
+    count: &mut C,
+) -> Result<Vec<Item<'s>>, NoMemory>
+    requires { kinds.now ≡ kinds_of (map step_of steps.now) }
+    ensures value { IfOk result (λ v. map item v.items ≡ map (rest_value (S.docs source.now)
+        (fields params.now) (steps_of (map step_of steps.now)) (scope frame.now)) (map item
+        items.entry.items)) }
+    ensures keys { OnOk result (keys.new ≡ keys.old ++ flat_map (rest_looked (S.docs source.now)
+        (fields params.now) (steps_of (map step_of steps.now)) (scope frame.now)) (map item
+        items.entry.items)) }
+{
+    let mut out = Vec::new(alloc);
+    for i in items {
+        let given = rest(
+            alloc,
+            steps,
+            kinds,
+            frame,
+            params,
+            source,
+            i.into_got(),
+            keys,
+            count,
+        )?;
+        push(&mut out, settle(alloc, given)?)?;
+    }
+    Ok(out)
+}
+
+// The same with each list among the results replaced by its elements.
+#[cycle(eval)]
+#[tactic(auto, using(cs_parts::proofs::Trees::tree_of_null))]
+fn flattened<'s, S: Source<C>, C>(
+    alloc: Global,
+    steps: &'s [Step],
+    kinds: &[Kind],
+    frame: &Scope<'s>,
+    params: &'s Fields,
+    source: &'s S,
+    value: Got<'s>,
+    keys: &mut Record,
+    count: &mut C,
+) -> Result<Got<'s>, NoMemory>
+    requires { kinds.now ≡ kinds_of (map step_of steps.now) }
+    ensures value { IfOk result (λ g. got g ≡ flattened (rest_value (S.docs source.now) (fields
+        params.now) (steps_of (map step_of steps.now)) (scope frame.now)) (got value.entry)) }
+    ensures keys { OnOk result (keys.new ≡ keys.old ++ each_looked (rest_looked (S.docs
+        source.now) (fields params.now) (steps_of (map step_of steps.now)) (scope frame.now)) (got
+        value.entry)) }
+{
+    let Some(items) = elements(alloc, value)? else {
+        return Ok(Got::Whole(Val::Null));
+    };
+    let given = rests_joined(
+        alloc, steps, kinds, frame, params, source, items, keys, count,
+    )?;
+    gather(alloc, given)
+}
+
+// What the rest makes of each element, the elements of a list one by one.
+#[cycle(eval)]
+fn rests_joined<'s, S: Source<C>, C>(
+    alloc: Global,
+    steps: &'s [Step],
+    kinds: &[Kind],
+    frame: &Scope<'s>,
+    params: &'s Fields,
+    source: &'s S,
+    items: Vec<Item<'s>>,
+    keys: &mut Record,
+    count: &mut C,
+) -> Result<Vec<Item<'s>>, NoMemory>
+    requires { kinds.now ≡ kinds_of (map step_of steps.now) }
+    ensures value { IfOk result (λ v. map item v.items ≡ flat_map spread_of (map (rest_value
+        (S.docs source.now) (fields params.now) (steps_of (map step_of steps.now)) (scope
+        frame.now)) (map item items.entry.items))) }
+    ensures keys { OnOk result (keys.new ≡ keys.old ++ flat_map (rest_looked (S.docs source.now)
+        (fields params.now) (steps_of (map step_of steps.now)) (scope frame.now)) (map item
+        items.entry.items)) }
+{
+    let mut out = Vec::new(alloc);
+    for i in items {
+        let given = rest(
+            alloc,
+            steps,
+            kinds,
+            frame,
+            params,
+            source,
+            i.into_got(),
+            keys,
+            count,
+        )?;
+        append(&mut out, spread(alloc, given)?)?;
+    }
+    Ok(out)
+}
+
+// What stands from the first piped call on.
+#[cycle(eval)]
+pub(crate) fn pipes<'s, S: Source<C>, C>(
+    alloc: Global,
+    steps: &'s [Step],
+    kinds: &[Kind],
+    frame: &Scope<'s>,
+    params: &'s Fields,
+    source: &'s S,
+    value: Got<'s>,
+    keys: &mut Record,
+    count: &mut C,
+) -> Result<Got<'s>, NoMemory>
+    requires { kinds.now ≡ kinds_of (map step_of steps.now) }
+    ensures value { IfOk result (λ g. got g ≡ pipes_value (S.docs source.now) (fields params.now)
+        (steps_of (map step_of steps.now)) (scope frame.now) (got value.entry)) }
+    ensures keys { OnOk result (keys.new ≡ keys.old ++ pipes_looked (S.docs source.now) (fields
+        params.now) (steps_of (map step_of steps.now)) (scope frame.now) (got value.entry)) }
+{
+    let mut here = value;
+    let mut left = steps;
+    let mut left_kinds = kinds;
+    while let Some((first, later)) = left.split_first() {
+        let later_kinds = behind(left_kinds);
+        here = piped(
+            alloc,
+            first,
+            later,
+            later_kinds,
+            frame,
+            params,
+            source,
+            here,
+            keys,
+            count,
+        )?;
+        left = later;
+        left_kinds = later_kinds;
+    }
+    Ok(here)
+}
+
+// A piped call and the rest behind it; of another step nothing.
+#[cycle(eval)]
+fn piped<'s, S: Source<C>, C>(
+    alloc: Global,
+    step: &'s Step,
+    steps: &'s [Step],
+    kinds: &[Kind],
+    frame: &Scope<'s>,
+    params: &'s Fields,
+    source: &'s S,
+    value: Got<'s>,
+    keys: &mut Record,
+    count: &mut C,
+) -> Result<Got<'s>, NoMemory>
+    requires { kinds.now ≡ kinds_of (map step_of steps.now) }
+    ensures value { IfOk result (λ g. got g ≡ piped_value (S.docs source.now) (fields params.now)
+        (step_of step.now) (steps_of (map step_of steps.now)) (scope frame.now) (got value.entry)) }
+    ensures keys { OnOk result (keys.new ≡ keys.old ++ piped_looked (S.docs source.now) (fields
+        params.now) (step_of step.now) (steps_of (map step_of steps.now)) (scope frame.now) (got
+        value.entry)) }
+{
+    if !is_pipe(step) {
+        return Ok(value);
+    }
+    let list = one_step(alloc, step, frame, params, source, value, keys, count)?;
+    enter(
+        alloc, steps, kinds, frame, params, source, list, keys, count,
+    )
+}
+
+// One step, mapped where the way says so.
+#[cycle(eval)]
+#[tactic(auto, using(cs_parts::proofs::Trees::tree_of_null, crate::proofs::Joins::once_over, crate::proofs::Joins::once_other))]
+fn once<'s, S: Source<C>, C>(
+    alloc: Global,
+    step: &'s Step,
+    way: Way,
+    frame: &Scope<'s>,
+    params: &'s Fields,
+    source: &'s S,
+    value: Got<'s>,
+    keys: &mut Record,
+    count: &mut C,
+) -> Result<Got<'s>, NoMemory>
+    ensures value { IfOk result (λ g. got g ≡ once way (step_value (S.docs source.now) (fields
+        params.now) (step_of step.now) (scope frame.now)) (got value.entry)) }
+    ensures keys { OnOk result (keys.new ≡ keys.old ++ once_looked way (step_looked (S.docs
+        source.now) (fields params.now) (step_of step.now) (scope frame.now)) (got value.entry)) }
+{
+    if !is_over(way) {
+        return one_step(alloc, step, frame, params, source, value, keys, count);
+    }
+    let Some(items) = elements(alloc, value)? else {
+        return Ok(Got::Whole(Val::Null));
+    };
+    let given = step_of_each(alloc, step, frame, params, source, items, keys, count)?;
+    gather(alloc, given)
+}
+
+// What the step makes of each element.
+#[cycle(eval)]
+fn step_of_each<'s, S: Source<C>, C>(
+    alloc: Global,
+    step: &'s Step,
+    frame: &Scope<'s>,
+    params: &'s Fields,
+    source: &'s S,
+    items: Vec<Item<'s>>,
+    keys: &mut Record,
+    count: &mut C,
+) -> Result<Vec<Item<'s>>, NoMemory>
+    ensures value { IfOk result (λ v. map item v.items ≡ map (step_value (S.docs source.now)
+        (fields params.now) (step_of step.now) (scope frame.now)) (map item items.entry.items)) }
+    ensures keys { OnOk result (keys.new ≡ keys.old ++ flat_map (step_looked (S.docs source.now)
+        (fields params.now) (step_of step.now) (scope frame.now)) (map item items.entry.items)) }
+{
+    let mut out = Vec::new(alloc);
+    for i in items {
+        let given = one_step(
+            alloc,
+            step,
+            frame,
+            params,
+            source,
+            i.into_got(),
+            keys,
+            count,
+        )?;
+        push(&mut out, settle(alloc, given)?)?;
+    }
+    Ok(out)
+}

@@ -1,0 +1,242 @@
+//! Queries: any one over a view, and simple ones over the documents that have their key.
+ghost use Rattle.std.specs.Prelude.{◌≡◌, ◌≤◌, ◌+◌, ◌∷◌, ◌++◌, [], true, false, IfNone, IfOk, IfSome, OnOk, map, filter};
+ghost use Rattle.cs_value.specs.Tree.{null as null_tree};
+ghost use Rattle.cs_value.specs.View.{tree, fields};
+ghost use Rattle.cs_syntax.specs.Expression.{steps_of, chain, everything, more_steps, bracket as bracket_step};
+ghost use Rattle.cs_syntax.specs.Queries.{query as expression_of};
+ghost use Rattle.cs_syntax.specs.View.{expression, step as step_of};
+ghost use Rattle.cs_view.specs.Scopes.{scope};
+ghost use Rattle.cs_view.specs.View.{doc as document};
+ghost use Rattle.cs_plan.specs.Simple.{is_simple};
+ghost use Rattle.cs_parts.specs.Hits.{is_hit, tail, cost};
+ghost use Rattle.cs_parts.specs.Joining.{list_of};
+ghost use Rattle.cs_parts.specs.Looked.{query_looked};
+ghost use Rattle.cs_parts.specs.Operators.{is_true};
+ghost use Rattle.cs_parts.specs.Parts.{got};
+ghost use Rattle.cs_parts.specs.Values.{value as value_of, pipes_value, query_value};
+ghost use Rattle.cs_eval.specs.Starts.{enter_value};
+
+use crate::chains::{enter, pipes};
+use crate::expressions::eval as evaluate;
+use crate::steps::{holds, keep};
+use cs_parts::{Got, NoDocs, Source, gather, head_filter, kinds, lent, push};
+use cs_plan::{choose, simple};
+use cs_syntax::{Expr, Query, Step};
+use cs_value::{Fields, NoMemory, Steps, Val};
+use cs_view::{Doc, Record, Scope, View};
+use std::alloc::Global;
+use std::sync::ledger::Ledger;
+
+// The dataset of an evaluation that asks for no document.
+static NO_DOCS: NoDocs = NoDocs;
+
+/// The value of a query over the documents of a view: that of GROQ-1.revision1 as this project's
+/// profile has it, in a scope whose `@` is null and which has no parent. What is borrowed is lent
+/// on: an attribute, a document, and what filters, elements and slices leave of a list.
+///
+/// The record takes the key of each look-up, in the order of evaluation, also where nothing was
+/// found; a part that the value does not need is not looked at. A simple query visits no more
+/// documents than have its key. After `NoMemory` the record may hold further keys.
+pub fn eval<'s, V: View<L>, L: Ledger>(
+    alloc: Global,
+    query: &'s Query,
+    params: &'s Fields,
+    view: &'s V,
+    keys: &mut Record,
+    steps: &mut Steps<L>,
+) -> Result<Got<'s>, NoMemory>
+    ensures value { IfOk result (λ g. got g ≡ query_value (V.docs view.now) (fields params.now)
+        (expression_of query.now)) }
+    ensures keys { OnOk result (keys.new ≡ keys.old ++ query_looked (V.docs view.now)
+        (fields params.now) (expression_of query.now)) }
+    ensures visits { is_simple (expression_of query.now) ≡ true
+        → steps.new ≤ steps.old + cost (expression_of query.now) (fields params.now) (V.docs
+            view.now) }
+{
+    let root = Scope {
+        this: query.null(),
+        parent: None,
+    };
+    if simple(query) {
+        return simple_value(alloc, query, &root, params, view, keys, steps);
+    }
+    evaluate(alloc, query.expr(), &root, params, view, keys, steps)
+}
+
+/// Whether the filter of a simple query is true of the document. It visits nothing, and no counter
+/// is handed over.
+pub fn hit(alloc: Global, query: &Query, params: &Fields, doc: &Doc) -> Result<bool, NoMemory>
+    requires { is_simple (expression_of query.now) ≡ true }
+    ensures { IfOk result (λ b. b
+        ≡ is_hit (expression_of query.now) (fields params.now) (document doc.now)) }
+{
+    let root = Scope {
+        this: query.null(),
+        parent: None,
+    };
+    let Some((condition, _later)) = parts(query.expr()) else {
+        unreachable!()
+    };
+    let mut aside = Record::new(alloc);
+    let mut nothing = ();
+    holds(
+        alloc,
+        condition,
+        &root,
+        params,
+        &NO_DOCS,
+        doc.val(),
+        &mut aside,
+        &mut nothing,
+    )
+}
+
+/// What the steps behind the filter of a simple query make of the documents that make it true. It
+/// visits nothing, and no counter is handed over.
+pub fn tail<'s>(
+    alloc: Global,
+    query: &'s Query,
+    params: &'s Fields,
+    hits: &'s [Doc],
+) -> Result<Val, NoMemory>
+    requires { is_simple (expression_of query.now) ≡ true }
+    ensures { IfOk result (λ v. tree v
+        ≡ tail (expression_of query.now) (fields params.now) (map document hits.now)) }
+{
+    let root = Scope {
+        this: query.null(),
+        parent: None,
+    };
+    let Some((_condition, later)) = parts(query.expr()) else {
+        unreachable!()
+    };
+    let list = Got::Parts(vals_of(alloc, hits)?);
+    tail_from(alloc, later, &root, params, list)?.into_val(alloc)
+}
+
+// The documents as values.
+fn vals_of<'d>(alloc: Global, docs: &'d [Doc]) -> Result<Vec<&'d Val>, NoMemory>
+    ensures { IfOk result (λ v. map (λ r. tree r.now) v.items ≡ map document docs.now) }
+{
+    let mut vals = Vec::new(alloc);
+    for doc in docs {
+        push(&mut vals, doc.val())?;
+    }
+    Ok(vals)
+}
+
+// The filter of a simple query and the steps behind it.
+#[tactic(auto, using(cs_parts::proofs::Shown::expression_chain), unfolding(cs_syntax::specs::View::expression))]
+fn parts(expr: &Expr) -> Option<(&Expr, &[Step])>
+    ensures some { IfSome result (λ x. expression expr.now ≡ chain everything
+        (more_steps (bracket_step (expression x.0.now)) (steps_of (map step_of x.1.now)))) }
+    ensures none { IfNone result (is_simple (expression expr.now) ≡ false) }
+{
+    match expr {
+        Expr::Chain { base, steps } => match &**base {
+            Expr::All => head_filter(steps),
+            _ => None,
+        },
+        _ => None,
+    }
+}
+
+// What the steps make of a list, where no dataset is asked.
+fn tail_from<'s>(
+    alloc: Global,
+    steps: &'s [Step],
+    frame: &Scope<'s>,
+    params: &'s Fields,
+    list: Got<'s>,
+) -> Result<Got<'s>, NoMemory>
+    ensures { IfOk result (λ g. let ss = steps_of (map step_of steps.now) in
+        got g ≡ pipes_value [] (fields params.now) ss (scope frame.now)
+        (enter_value [] (fields params.now) ss (scope frame.now) (got list.entry))) }
+{
+    let kinds = kinds(alloc, steps)?;
+    let mut aside = Record::new(alloc);
+    let mut nothing = ();
+    let first = enter(
+        alloc,
+        steps,
+        &kinds,
+        frame,
+        params,
+        &NO_DOCS,
+        list,
+        &mut aside,
+        &mut nothing,
+    )?;
+    pipes(
+        alloc,
+        steps,
+        &kinds,
+        frame,
+        params,
+        &NO_DOCS,
+        first,
+        &mut aside,
+        &mut nothing,
+    )
+}
+
+// The same of those of the documents of which the condition is true.
+fn tail_of_hits<'s>(
+    alloc: Global,
+    condition: &'s Expr,
+    steps: &'s [Step],
+    frame: &Scope<'s>,
+    params: &'s Fields,
+    docs: Vec<&'s Val>,
+) -> Result<Got<'s>, NoMemory>
+    ensures { IfOk result (λ g. let ss = steps_of (map step_of steps.now) in
+        got g ≡ pipes_value [] (fields params.now) ss (scope frame.now)
+        (enter_value [] (fields params.now) ss (scope frame.now) (list_of (filter
+        (λ x. is_true (value_of [] (fields params.now) (expression condition.now)
+        (x ∷ scope frame.now)))
+        (map (λ r. tree r.now) docs.entry.items))))) }
+{
+    let mut aside = Record::new(alloc);
+    let mut nothing = ();
+    let items = lent(alloc, docs)?;
+    let kept = keep(
+        alloc,
+        condition,
+        frame,
+        params,
+        &NO_DOCS,
+        items,
+        &mut aside,
+        &mut nothing,
+    )?;
+    let list = gather(alloc, kept)?;
+    tail_from(alloc, steps, frame, params, list)
+}
+
+// A simple query: its key is looked up, and nothing else.
+fn simple_value<'s, V: View<L>, L: Ledger>(
+    alloc: Global,
+    query: &'s Query,
+    frame: &Scope<'s>,
+    params: &'s Fields,
+    view: &'s V,
+    keys: &mut Record,
+    count: &mut Steps<L>,
+) -> Result<Got<'s>, NoMemory>
+    requires simple { is_simple (expression_of query.now) ≡ true }
+    requires root { scope frame.now ≡ null_tree ∷ [] }
+    ensures value { IfOk result (λ g. got g ≡ query_value (V.docs view.now) (fields params.now)
+        (expression_of query.now)) }
+    ensures keys { OnOk result (keys.new ≡ keys.old ++ query_looked (V.docs view.now)
+        (fields params.now) (expression_of query.now)) }
+    ensures visits { count.new
+        ≤ count.old + cost (expression_of query.now) (fields params.now) (V.docs view.now) }
+{
+    let Some((condition, later)) = parts(query.expr()) else {
+        unreachable!()
+    };
+    let key = choose(alloc, condition, frame, params)?;
+    let found = Source::<Steps<L>>::select(view, alloc, &key, count)?;
+    keys.add(key)?;
+    tail_of_hits(alloc, condition, later, frame, params, found)
+}

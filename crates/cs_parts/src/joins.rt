@@ -1,0 +1,128 @@
+//! How the steps of a chain are joined.
+ghost use Rattle.std.specs.Prelude.{◌≡◌, IfOk, map, drop};
+ghost use Rattle.cs_syntax.specs.Expression.{steps_of};
+ghost use Rattle.cs_syntax.specs.View.{expression, step as step_of};
+ghost use Rattle.cs_parts.specs.Joining.{form, joined, kind, way, entrance, gives_array};
+ghost use Rattle.cs_parts.specs.Kinds.{kinds_of, first_kind};
+
+use crate::brackets::{Bracket, bracket_of};
+use crate::{Entrance, Form, Kind, Shape, Way, push};
+use cs_syntax::{Expr, Step};
+use cs_value::NoMemory;
+use std::alloc::Global;
+
+/// What a step is to joining.
+#[tactic(auto, using(crate::proofs::Shapes::form_of_bracket), unfolding(cs_syntax::specs::View::step, cs_syntax::specs::View::expression))]
+pub fn form_of(step: &Step) -> Form
+    ensures { result ≡ form (step_of step.now) }
+{
+    match step {
+        Step::Attr(_) | Step::Deref => Form::Single,
+        Step::Each | Step::Slice { .. } => Form::List,
+        Step::Bracket(inner) => match bracket_of(inner) {
+            Bracket::Position(_) => Form::Element,
+            Bracket::Named(_) => Form::Single,
+            Bracket::Condition => Form::List,
+        },
+        Step::Project(_) => Form::Projection,
+        Step::Pipe { .. } => Form::Pipe,
+    }
+}
+
+fn joined(form: Form, kind: Kind) -> Kind
+    ensures { result ≡ joined form kind }
+{
+    match form {
+        Form::Pipe => Kind::Empty,
+        Form::Single => match kind {
+            Kind::Empty => Kind::Steps(Shape::One, Shape::One),
+            Kind::Steps(_, gives) => Kind::Steps(Shape::One, gives),
+        },
+        Form::Projection => match kind {
+            Kind::Empty => Kind::Steps(Shape::One, Shape::One),
+            Kind::Steps(takes, gives) => Kind::Steps(takes, gives),
+        },
+        Form::Element => match kind {
+            Kind::Empty => Kind::Steps(Shape::Array, Shape::One),
+            Kind::Steps(_, gives) => Kind::Steps(Shape::Array, gives),
+        },
+        Form::List => match kind {
+            Kind::Steps(Shape::Array, gives) => Kind::Steps(Shape::Array, gives),
+            _ => Kind::Steps(Shape::Array, Shape::Array),
+        },
+    }
+}
+
+/// How a step of this form leads on to a rest of this kind.
+pub fn way_of(form: Form, kind: Kind) -> Way
+    ensures { result ≡ way form kind }
+{
+    match form {
+        Form::Pipe => Way::Ends,
+        Form::List => Way::After,
+        Form::Projection => match kind {
+            Kind::Steps(Shape::Array, _) => Way::Over,
+            _ => Way::Through,
+        },
+        Form::Single | Form::Element => Way::Through,
+    }
+}
+
+/// How an array enters a rest of this kind.
+pub fn entrance_of(kind: Kind) -> Entrance
+    ensures { result ≡ entrance kind }
+{
+    match kind {
+        Kind::Empty | Kind::Steps(Shape::Array, _) => Entrance::Whole,
+        Kind::Steps(Shape::One, Shape::One) => Entrance::Mapped,
+        Kind::Steps(Shape::One, Shape::Array) => Entrance::Flat,
+    }
+}
+
+/// Whether a base gives an array.
+#[tactic(auto, unfolding(cs_syntax::specs::View::expression))]
+pub fn gives_array(base: &Expr) -> bool
+    ensures { result ≡ gives_array (expression base.now) }
+{
+    match base {
+        Expr::All | Expr::Array(_) => true,
+        _ => false,
+    }
+}
+
+/// The kinds of all rests of a chain, the longest first: found once, from the right end.
+#[tactic(auto)]
+pub fn kinds(alloc: Global, steps: &[Step]) -> Result<Vec<Kind>, NoMemory>
+    ensures { IfOk result (λ ks. ks.items ≡ kinds_of (map step_of steps.now)) }
+{
+    let mut found = Vec::new(alloc);
+    let mut kind = Kind::Empty;
+    let mut at = steps.len();
+    while at > 0 {
+        at -= 1;
+        kind = joined(form_of(&steps[at]), kind);
+        push(&mut found, kind)?;
+    }
+    found.reverse();
+    Ok(found)
+}
+
+/// The kind of the rest whose kinds these are.
+pub fn first_kind(kinds: &[Kind]) -> Kind
+    ensures { result ≡ first_kind kinds.now }
+{
+    match kinds.split_first() {
+        Some((kind, _)) => *kind,
+        None => Kind::Empty,
+    }
+}
+
+/// The kinds behind the first.
+pub fn behind(kinds: &[Kind]) -> &[Kind]
+    ensures { result.now ≡ drop 1 kinds.now }
+{
+    match kinds.split_first() {
+        Some((_, later)) => later,
+        None => kinds,
+    }
+}

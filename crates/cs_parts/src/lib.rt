@@ -1,0 +1,45 @@
+//! What a query is worth and what finding it looks up, and the parts of an evaluation that evaluate
+//! no further expression.
+#![tactic(auto)]
+
+mod answer;
+mod brackets;
+mod calls;
+pub mod examples;
+mod gathering;
+mod item;
+mod join;
+mod joins;
+mod laws;
+mod listed;
+mod literals;
+mod members;
+mod membership;
+mod positions;
+mod ranks;
+mod source;
+mod take;
+mod turns;
+mod visits;
+
+pub use answer::Got;
+pub use brackets::{Bracket, Place, bracket_of, head_filter, position_of};
+pub use calls::{Callee, applied, callee_of, path_arguments, sole};
+pub use gathering::{append, elements, gather, settle, spread};
+pub use item::{Item, push};
+pub use join::{Entrance, Form, Kind, Shape, Way};
+pub use joins::{behind, entrance_of, first_kind, form_of, gives_array, kinds, way_of};
+pub use laws::{
+    hits_have_key, looked_settles_value, quiet_asks_nothing, simple_is_tail_of_hits,
+    simple_looks_up_its_key, sorted_in_one_way, true_has_key,
+};
+pub use listed::{directions, items_of};
+pub use literals::{at_level, decides, operated, param, signed};
+pub use members::{put, put_all, put_bare};
+pub use membership::{among, in_path, references};
+pub use positions::{element, sliced};
+pub use ranks::{Ranked, in_order};
+pub use source::{NoDocs, Source};
+pub use take::{each, field, is_false, is_null, is_object, is_true, reference_of};
+pub use turns::{ends, is_all, is_over, is_pipe, items_or_none, lent, one_item, prefixed, turn};
+pub use visits::{all, deref};

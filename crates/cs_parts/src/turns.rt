@@ -1,0 +1,106 @@
+//! Small questions and makings of an evaluation.
+ghost use Rattle.std.specs.Prelude.{◌≡◌, ◌∷◌, [], IfOk, OnOk, map, unwrap_or};
+ghost use Rattle.cs_value.specs.View.{tree, fields};
+ghost use Rattle.cs_syntax.specs.Brackets.{key_of};
+ghost use Rattle.cs_syntax.specs.View.{expression, step as step_of};
+ghost use Rattle.cs_parts.specs.Joining.{as_list};
+ghost use Rattle.cs_parts.specs.Looked.{is_everything};
+ghost use Rattle.cs_parts.specs.Operators.{put_under, signed};
+ghost use Rattle.cs_parts.specs.Values.{is_pipe};
+ghost use Rattle.cs_parts.specs.Turns.{turn, is_end, is_over_way};
+ghost use Rattle.cs_parts.specs.Parts.{got, item};
+
+use crate::literals::signed;
+use crate::{Entrance, Got, Item, Way, elements, push, settle};
+use cs_syntax::{Expr, PreSign, Step};
+use cs_value::{Fields, NoMemory, Val};
+use std::alloc::Global;
+
+/// How what a step gives enters the rest behind it.
+pub fn turn(way: Way, entrance: Entrance) -> Entrance
+    ensures { result ≡ turn way entrance }
+{
+    match way {
+        Way::After => entrance,
+        _ => Entrance::Whole,
+    }
+}
+
+/// The rest ends here.
+pub fn ends(way: Way) -> bool
+    ensures { result ≡ is_end way }
+{
+    match way {
+        Way::Ends => true,
+        _ => false,
+    }
+}
+
+/// The step is mapped.
+pub fn is_over(way: Way) -> bool
+    ensures { result ≡ is_over_way way }
+{
+    match way {
+        Way::Over => true,
+        _ => false,
+    }
+}
+
+/// The expression is `*`.
+#[tactic(auto, unfolding(cs_syntax::specs::View::expression))]
+pub fn is_all(expr: &Expr) -> bool
+    ensures { result ≡ is_everything (expression expr.now) }
+{
+    match expr {
+        Expr::All => true,
+        _ => false,
+    }
+}
+
+/// The step is a piped call.
+#[tactic(auto, unfolding(cs_syntax::specs::View::step))]
+pub fn is_pipe(step: &Step) -> bool
+    ensures { result ≡ is_pipe (step_of step.now) }
+{
+    match step {
+        Step::Pipe { .. } => true,
+        _ => false,
+    }
+}
+
+/// The documents as elements.
+pub fn lent<'s>(alloc: Global, parts: Vec<&'s Val>) -> Result<Vec<Item<'s>>, NoMemory>
+    ensures { IfOk result (λ v. map item v.items ≡ map (λ r. tree r.now) parts.entry.items) }
+{
+    let mut out = Vec::new(alloc);
+    for part in parts {
+        push(&mut out, Item::Lent(part))?;
+    }
+    Ok(out)
+}
+
+/// The value as one element.
+pub fn one_item<'s>(alloc: Global, whole: Got<'s>) -> Result<Vec<Item<'s>>, NoMemory>
+    ensures { IfOk result (λ v. map item v.items ≡ got whole.entry ∷ []) }
+{
+    let mut out = Vec::new(alloc);
+    push(&mut out, settle(alloc, whole)?)?;
+    Ok(out)
+}
+
+/// The elements of a list, none where the value is no list.
+pub fn items_or_none<'s>(alloc: Global, whole: Got<'s>) -> Result<Vec<Item<'s>>, NoMemory>
+    ensures { IfOk result (λ v. map item v.items ≡ unwrap_or (as_list (got whole.entry)) []) }
+{
+    match elements(alloc, whole)? {
+        Some(items) => Ok(items),
+        None => Ok(Vec::new(alloc)),
+    }
+}
+
+/// Signs in front of a value.
+pub fn prefixed<'s>(alloc: Global, signs: &[PreSign], whole: Got<'_>) -> Result<Got<'s>, NoMemory>
+    ensures { IfOk result (λ g. got g ≡ signed signs.now (got whole.entry)) }
+{
+    Ok(Got::Whole(signed(signs, whole.into_val(alloc)?)))
+}
