@@ -8,7 +8,7 @@ use cs_run::{Status, run};
 use cs_value::{NoMemory, Steps, Txt};
 use std::alloc::Global;
 use std::fs::Files;
-use std::io::{Input, Print};
+use std::io::{self, Input, Print};
 use std::marker::Brand;
 use std::process::ExitCode;
 use std::sync::ledger::{Blank, Ledger};
@@ -33,6 +33,15 @@ fn counted<L: Ledger, R: Files + Input + Print>(
     run(alloc, words, &mut library, &mut sink, &mut steps)
 }
 
+// The status where the words can't be had: the machine doesn't hand them over, or there is no memory
+// to copy them.
+fn status_without_words(error: &io::Error) -> u8 {
+    match error.kind() {
+        io::ErrorKind::OutOfMemory => Status::NoMemory as u8,
+        _ => NO_WORDS,
+    }
+}
+
 fn texts(alloc: Global, words: Vec<String>) -> Result<Vec<Txt>, NoMemory> {
     let mut texts = Vec::with_capacity(alloc, words.len())?;
     for word in words {
@@ -43,8 +52,9 @@ fn texts(alloc: Global, words: Vec<String>) -> Result<Vec<Txt>, NoMemory> {
 
 fn main(rt: HostRuntime) -> ExitCode {
     let alloc = rt.alloc();
-    let Ok(arguments) = std::env::args(&rt) else {
-        return ExitCode::from(NO_WORDS);
+    let arguments = match std::env::args(&rt) {
+        Ok(arguments) => arguments,
+        Err(error) => return ExitCode::from(status_without_words(&error)),
     };
     let Ok(words) = arguments.collect(alloc) else {
         return ExitCode::from(Status::NoMemory as u8);

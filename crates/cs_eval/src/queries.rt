@@ -51,7 +51,7 @@ pub fn eval<'s, V: View<L>, L: Ledger>(
         (fields params.now) (expression_of query.now)) }
     ensures visits { is_simple (expression_of query.now) ≡ true
         → steps.new ≤ steps.old + cost (expression_of query.now) (fields params.now) (V.docs
-            view.now) }
+        view.now) }
 {
     let root = Scope {
         this: query.null(),

@@ -116,8 +116,7 @@ fn add_texts<'v>(found: &mut Vec<&'v Txt>, vals: &'v [Val]) -> Result<(), NoMemo
 // The texts among borrowed elements.
 fn add_texts_lent<'v>(found: &mut Vec<&'v Txt>, vals: &[&'v Val]) -> Result<(), NoMemory>
     ensures { OnOk result (map (λ t. t.now) found.new.items
-        ≡ map (λ t. t.now) found.old.items ++ filter_map as_text (map (λ r. tree r.now) vals.now))
-            }
+        ≡ map (λ t. t.now) found.old.items ++ filter_map as_text (map (λ r. tree r.now) vals.now)) }
 {
     for val in vals {
         if let Val::Text(text) = *val {

@@ -1,1 +1,108 @@
 use super::*;
+use cs_json::Node;
+use std::alloc::Global;
+use std::test::Fail;
+
+fn written(alloc: Global, reply: Reply<'_>) -> Result<String, Fail> {
+    let mut out = Vec::new(alloc);
+    reply.write(alloc, 7, &mut out)?;
+    Ok(String::from_utf8(out)?)
+}
+
+fn accepted(alloc: Global) -> Result<String, Fail> {
+    let outcomes = [
+        Outcome {
+            id: "a",
+            operation: Operation::Create,
+        },
+        Outcome {
+            id: "b",
+            operation: Operation::Update,
+        },
+        Outcome {
+            id: "c",
+            operation: Operation::Delete,
+        },
+    ];
+    written(
+        alloc,
+        Reply::Committed {
+            tx: "T",
+            outcomes: &outcomes,
+        },
+    )
+}
+
+#[test]
+fn writes_replies(rt: HostRuntime) -> Result<(), Fail> {
+    let alloc = rt.alloc();
+    assert_eq!(rt;
+        accepted(alloc)?.as_str(),
+        "{\"line\":7,\"results\":[{\"id\":\"a\",\"operation\":\"create\"},{\"id\":\"b\",\"operation\":\"update\"},{\"id\":\"c\",\"operation\":\"delete\"}],\"transactionId\":\"T\"}\n"
+    );
+    assert_eq!(rt;
+        written(alloc, Reply::Found(Node::Flag(true)))?.as_str(),
+        "{\"line\":7,\"result\":true}\n"
+    );
+    let refusals = [
+        (
+            Refusal::BadToken { at: 2 },
+            "{\"at\":2,\"error\":\"bad-token\",\"line\":7}\n",
+        ),
+        (
+            Refusal::Exists {
+                mutation: 1,
+                id: "a",
+            },
+            "{\"error\":\"exists\",\"id\":\"a\",\"line\":7,\"mutation\":1}\n",
+        ),
+        (
+            Refusal::Arity { name: "count" },
+            "{\"error\":\"arity\",\"line\":7,\"name\":\"count\"}\n",
+        ),
+        (
+            Refusal::TxUsed { id: "T" },
+            "{\"error\":\"tx-used\",\"id\":\"T\",\"line\":7}\n",
+        ),
+    ];
+    for (refusal, wanted) in refusals {
+        assert_eq!(rt; written(alloc, Reply::Refused(refusal))?.as_str(), wanted);
+    }
+    Ok(())
+}
+
+#[test]
+fn states_what_stops_a_run(rt: HostRuntime) -> Result<(), Fail> {
+    let stops = [
+        (
+            Stop::TooLong {
+                source: Source::Data,
+                line: 3,
+            },
+            "{\"error\":\"too-long\",\"line\":3,\"source\":\"data\"}\n",
+        ),
+        (
+            Stop::TooMuch {
+                source: Source::Script,
+                line: 4,
+            },
+            "{\"error\":\"too-much\",\"line\":4,\"source\":\"script\"}\n",
+        ),
+        (
+            Stop::Bad {
+                line: 2,
+                cause: Cause::Repeated { id: "a" },
+            },
+            "{\"cause\":\"repeated\",\"error\":\"data\",\"id\":\"a\",\"line\":2}\n",
+        ),
+        (
+            Stop::Dangling { from: "a", to: "b" },
+            "{\"cause\":\"dangling\",\"error\":\"data\",\"from\":\"a\",\"to\":\"b\"}\n",
+        ),
+    ];
+    for (stop, wanted) in stops {
+        let line = stop.line(rt.alloc())?;
+        assert_eq!(rt; line.as_slice(), wanted.as_bytes());
+    }
+    Ok(())
+}

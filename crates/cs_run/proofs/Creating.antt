@@ -1,5 +1,5 @@
 -- What a reply that was written does, and a create from the place that its id has, or would have, among the documents.
-use Rattle.std.proofs.Common.{◌≡◌, ◌∙◌, ap, sym, refl, subst, ℕ, List, [], ◌∷◌, ◌++◌, length, is_some, Bool, true, false, ◌==◌}
+use Rattle.std.proofs.Common.{◌≡◌, ◌∙◌, ap, sym, refl, subst, ℕ, List, [], ◌∷◌, ◌++◌, length, is_some, Bool, true, false, ◌==◌, ◌≤◌, Option, None, Some, IfSome, option_and_then, arith}
 use Rattle.std.proofs.lemmas.List.{append-nil}
 use Rattle.cs_value.specs.Tree.{Tree}
 use Rattle.cs_view.specs.Document.{id_of}
@@ -7,29 +7,21 @@ use Rattle.cs_view.specs.Dataset.{stands, with_doc}
 use Rattle.cs_docs.specs.Limits.{most_documents}
 use Rattle.cs_docs.specs.Places.{HasId, IsGapFor}
 use Rattle.cs_reply.specs.Reply.{Reply, reply_tree, written_line, reply_lines, numbered, committed, create}
-use Rattle.cs_reply.specs.Refusal.{not_built, tx_used, exists}
+use Rattle.cs_reply.specs.Refusal.{Refusal, not_built, tx_used, exists, deep_query, syntax, bad_token as bad_token_at}
 use Rattle.cs_reply.specs.View.{Appended}
 use Rattle.cs_run.specs.Does.{Does, creating}
 use Rattle.cs_run.specs.Fold.{Stepped}
 use Rattle.cs_run.specs.Install.{stamped, tx_of_line}
-use Rattle.cs_run.specs.Refused.{refuse}
+use Rattle.cs_run.specs.Refused.{refuse, of_fault, why_none, by_reading, with_query}
 use Rattle.cs_run.specs.State.{State, answered, with_docs, with_used}
-use Rattle.std.proofs.Common.{codes}
-use Rattle.std.proofs.lemmas.Slice.Eq.{bytes_eq-Decides}
-use Rattle.std.specs.Str.{bytes_eq}
-use Rattle.cs_value.specs.Tree.{Pairs, list, trees}
-use Rattle.cs_syntax.specs.Expression.{everything}
+use Rattle.cs_syntax.specs.Expression.{Expression}
 use Rattle.cs_json.specs.Reading.{outcome}
-use Rattle.cs_grammar.specs.Reading.{read}
-use Rattle.cs_parse.specs.Spelling.{expression_in}
-use Rattle.cs_parse.specs.Tokens.{tokens_from}
-use Rattle.cs_parse.specs.Verdict.{Reading, query, verdict}
-use Rattle.cs_eval.specs.Values.{query_value}
-use Rattle.cs_reply.specs.Reply.{found}
+use Rattle.cs_parse.specs.Verdict.{Reading, query, bad_token, too_deep, no_syntax, faulty, verdict}
+use Rattle.cs_wire.specs.Commands.{Request}
 use Rattle.cs_wire.specs.Commands as request
+use Rattle.cs_wire.specs.Within.{IsWithin}
 use Rattle.cs_run.specs.Command.{is_blank, deepest_line}
-use Rattle.cs_run.specs.Machine.{done, heard, step}
-use Rattle.cs_run.specs.Refused.{by_reading}
+use Rattle.cs_run.specs.Machine.{heard, step}
 use Rattle.cs_run.proofs.Placing.{gap_absent}
 
 one_line : (n : ℕ) (r : Reply) → reply_lines (numbered n (r ∷ [])) ≡ written_line (reply_tree n r)
@@ -96,18 +88,27 @@ pub step_heard : (s : State) (n : ℕ) (line : List ℕ) → is_blank line ≡ f
 unfolding step
 step_heard s n line b = rw b refl
 
--- the text of the query for all documents
-star_is_everything : verdict (codes "*") ≡ query everything
-unfolding verdict tokens_from expression_in read
-star_is_everything = refl
+by_why : (s : State) (next : Expression → Stepped State) (r : Reading) (w : Refusal) → Some w ≡ why_none r → by_reading s r next ≡ refuse s w
+by_why s next (query e) w h = cc
+by_why s next (bad_token at) w h = let same : w ≡ bad_token_at at = cc in rw same refl
+by_why s next too_deep w h = let same : w ≡ deep_query = cc in rw same refl
+by_why s next no_syntax w h = let same : w ≡ syntax = cc in rw same refl
+by_why s next (faulty f) w h = let same : w ≡ of_fault f = cc in rw same refl
 
-abbrev by_star : State → Pairs → Reading → Stepped State
-by_star s params r = by_reading s r (λ e. answered s (found (query_value s.docs params e)))
+-- a text is no query, for what is told of its reading
+pub refused_text : (s : State) (text : List ℕ) (next : Expression → Stepped State) (told : Option Reading) (w : Refusal) → IfSome told (λ r. verdict text ≡ r) → Some w ≡ option_and_then why_none told → with_query s text next ≡ refuse s w
+refused_text s text next None w h e = cc
+refused_text s text next (Some r) w h e = ap (λ v. by_reading s v next) h ∙ by_why s next r w e
 
-pub star_found : (s : State) (n : ℕ) (text : List ℕ) (params : Pairs) → bytes_eq (codes "*") text ≡ true → done s n (request.query text params) ≡ answered s (found (list (trees s.docs)))
-star_found s n text params e =
-    let same : codes "*" ≡ text = (bytes_eq-Decides (codes "*") text).0 e in
-    subst (λ t. done s n (request.query t params) ≡ answered s (found (list (trees s.docs)))) same (ap (by_star s params) star_is_everything)
+-- it is one
+pub read_text : (s : State) (text : List ℕ) (next : Expression → Stepped State) (e : Expression) → verdict text ≡ query e → with_query s text next ≡ next e
+read_text s text next e h = ap (λ v. by_reading s v next) h
 
-pub other_query : (s : State) (n : ℕ) (text : List ℕ) (params : Pairs) → bytes_eq (codes "*") text ≡ false → done s n (request.query text params) ≡ refuse s not_built
-other_query s n text params e = rw e refl
+-- a bound on a request's texts, from a lower one
+pub within_more : (m n : ℕ) (r : Request) → m ≤ n → IsWithin m r → IsWithin n r
+within_more m n (request.mutate body) le h = omega (arith, le, h)
+within_more m n (request.query text params) le h = (omega (arith, le, h.0), omega (arith, le, h.1))
+within_more m n (request.live name text params) le h = (omega (arith, le, h.0), omega (arith, le, h.1), omega (arith, le, h.2))
+within_more m n (request.listen name text params result previous) le h = (omega (arith, le, h.0), omega (arith, le, h.1), omega (arith, le, h.2))
+within_more m n (request.stop name) le h = omega (arith, le, h)
+within_more m n (request.at moment) le h = omega (arith, le, h)

@@ -1,7 +1,6 @@
 -- What is built so far: every other command is answered `not-built` and changes nothing. This is the one place that says so:
 -- each case that is built takes a line away, and the file goes with the last one.
-use Rattle.std.specs.Prelude.{ℕ, List, Bool, true, false, not, ◌||◌, length, ◌==◌, Option, Some, None, codes}
-use Rattle.std.specs.Str.{bytes_eq}
+use Rattle.std.specs.Prelude.{Bool, true, false, not, ◌||◌, length, ◌==◌, Option, Some, None}
 use Rattle.cs_value.specs.Tree.{Tree}
 use Rattle.cs_view.specs.Document.{id_of}
 use Rattle.cs_view.specs.Dataset.{stands}
@@ -17,7 +16,7 @@ can_create s (Some t) = stands (id_of t) s.docs || not (length s.docs == most_do
 
 abbrev pub is_built : State → Request → Bool
 is_built s (mutate body) = can_create s (created_by body)
-is_built s (query text params) = bytes_eq (codes "*") text
+is_built s (query text params) = true
 is_built s (live name text params) = false
 is_built s (listen name text params result previous) = false
 is_built s (stop name) = false

@@ -1,5 +1,5 @@
 -- How a line is refused, and what is done with the query that a text is: this project's profile.
-use Rattle.std.specs.Prelude.{ℕ, List}
+use Rattle.std.specs.Prelude.{ℕ, List, Option, None, Some}
 use Rattle.cs_syntax.specs.Expression.{Expression}
 use Rattle.cs_syntax.specs.Faults as fault
 use Rattle.cs_parse.specs.Verdict.{Reading, query, bad_token, too_deep, no_syntax, faulty, verdict}
@@ -17,6 +17,14 @@ of_fault (fault.unsupported name) = why.unsupported name
 of_fault (fault.unknown_function name) = why.unknown_function name
 of_fault (fault.arity name) = why.arity name
 of_fault fault.no_key = why.no_key
+
+-- why a text is no query, where it is none
+abbrev pub why_none : Reading → Option why.Refusal
+why_none (query e) = None
+why_none (bad_token at) = Some (why.bad_token at)
+why_none too_deep = Some why.deep_query
+why_none no_syntax = Some why.syntax
+why_none (faulty f) = Some (of_fault f)
 
 -- what is done with the query that a text is: where it is none the line is refused
 abbrev pub by_reading : State → Reading → (Expression → Stepped State) → Stepped State

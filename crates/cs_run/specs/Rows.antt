@@ -3,7 +3,7 @@ use Rattle.std.specs.Prelude.{ℕ, List, [], ◌∷◌, ◌++◌, Bool, not, map
 use Rattle.cs_value.specs.Tree.{Tree, Pairs}
 use Rattle.cs_syntax.specs.Expression.{Expression}
 use Rattle.cs_view.specs.Changes.{Edit}
-use Rattle.cs_eval.specs.Values.{query_value}
+use Rattle.cs_parts.specs.Values.{query_value}
 use Rattle.cs_wire.specs.Commands.{Request, mutate, query, live, listen, stop, at}
 use Rattle.cs_reply.specs.Reply.{Reply, Operation, create, update, delete, committed, found, welcome, stopped, set}
 use Rattle.cs_reply.specs.Reply as reply
@@ -36,9 +36,9 @@ commit_replies s tx docs cs =
 
 abbrev pub installed : State → List ℕ → List Tree → List Edit → Stepped State
 installed s tx docs cs = record {
-    state = with_lives (all_refreshed docs s.lives) (with_used tx (with_docs docs s));
-    replies = commit_replies s tx docs cs;
-  }
+  state = with_lives (all_refreshed docs s.lives) (with_used tx (with_docs docs s));
+  replies = commit_replies s tx docs cs;
+}
 
 abbrev pub by_outcome : State → List ℕ → Outcome → Stepped State
 by_outcome s tx (refused r) = refuse s r

@@ -13,6 +13,10 @@ mod loading;
 mod machine;
 mod mutate;
 mod query;
+#[cfg(test)]
+mod query_tests;
+#[cfg(test)]
+mod record_tests;
 mod references;
 mod refs;
 mod refusal;

@@ -3,7 +3,9 @@ ghost use Rattle.std.specs.Prelude.{◌≡◌, ◌≤◌, IfOk, OnOk, OnErr, IsO
 ghost use Rattle.cs_io.specs.Lines.{longest_line};
 ghost use Rattle.cs_value.specs.View.{tree};
 ghost use Rattle.cs_json.specs.Reading.{outcome};
+ghost use Rattle.cs_value.specs.Tree.{widest};
 ghost use Rattle.cs_wire.specs.View.{request};
+ghost use Rattle.cs_wire.specs.Within.{IsWithin};
 ghost use Rattle.cs_docs.specs.Store.{docs as docs_of};
 ghost use Rattle.cs_reply.specs.View.{refusal};
 ghost use Rattle.cs_run.specs.Command.{is_blank, deepest_line};
@@ -20,7 +22,7 @@ use cs_io::Line;
 use cs_json::JsonFault;
 use cs_reply::{Refusal, Reply};
 use cs_value::{NoMemory, Steps, Val};
-use cs_wire::{BadCommand, Command};
+use cs_wire::{BadCommand, Command, commands_are_within};
 use std::alloc::Global;
 use std::collections::BTreeSet;
 use std::marker::Model;
@@ -176,10 +178,12 @@ impl Core {
         steps: &mut Steps<L>,
         out: &mut Vec<u8>,
     ) -> Result<(), NoMemory>
+        requires short { widest (tree val) ≤ longest_line }
         ensures does { OnOk result (Does out.old.items out.new.items (state self.new) line
             (by_command (state self.old) line (command (tree val)))) }
         ensures leaves { OnErr result (Leaves self.old self.new) }
     {
+        commands_are_within();
         match Command::read(self.alloc, val) {
             Ok(command) => self.run(command, line, steps, out),
             Err(BadCommand) => self.refuse(Refusal::BadCommand, line, out),
@@ -194,13 +198,16 @@ impl Core {
         steps: &mut Steps<L>,
         out: &mut Vec<u8>,
     ) -> Result<(), NoMemory>
+        requires short { IsWithin longest_line (request command) }
         ensures does { OnOk result (Does out.old.items out.new.items (state self.new) line
             (done (state self.old) line (request command))) }
         ensures leaves { OnErr result (Leaves self.old self.new) }
     {
         match command {
             Command::Mutate { body } => self.mutate(body, line, out),
-            Command::Query { text, params: _ } => self.query(text.as_str(), line, out),
+            Command::Query { text, params } => {
+                self.query(text.as_str(), &params, line, steps, out)
+            }
             Command::Live {
                 name: _,
                 text: _,

@@ -29,12 +29,7 @@ use cs_view::Doc;
 
 impl Core {
     // A transaction, as far as it is built: one create of an object that refers to nothing.
-    pub(crate) fn mutate(
-        &mut self,
-        body: Val,
-        line: u32,
-        out: &mut Vec<u8>,
-    ) -> Result<(), NoMemory>
+    pub(crate) fn mutate(&mut self, body: Val, line: u32, out: &mut Vec<u8>) -> Result<(), NoMemory>
         ensures does { OnOk result (Does out.old.items out.new.items (state self.new) line
             (done (state self.old) line (mutate (tree body)))) }
         ensures leaves { OnErr result (Leaves self.old self.new) }
@@ -67,10 +62,10 @@ impl Core {
     fn prepare<'d>(&self, document: &'d Doc, tx: &'d str) -> Result<usize, Refusal<'d>>
         ensures { MatchResult result
             (λ place. IsGapFor (id_of (doc document.entry.now)) (docs_of self.now.docs) place
-                × (length (docs_of self.now.docs) < most_documents)
-                × (contains_text self.now.used tx.entry.now ≡ false))
+            × (length (docs_of self.now.docs) < most_documents)
+            × (contains_text self.now.used tx.entry.now ≡ false))
             (λ r. (n : ℕ) (t : Tree) → tx.entry.now ≡ tx_of_line n → id_of (doc document.entry.now) ≡ id_of t
-                → creating (state self.now) n t ≡ refuse (state self.now) (refusal r)) }
+            → creating (state self.now) n t ≡ refuse (state self.now) (refusal r)) }
     {
         let id = document.id().as_str();
         let is_used = self.used.contains(tx);

@@ -51,7 +51,8 @@ fn stop_status(stop: &Stop<'_>) -> Status
     ensures { result ≡ stop_status (stop_seen stop.now) }
 {
     match stop {
-        Stop::TooLong { source: _, line: _ } | Stop::TooMuch { source: _, line: _ } => Status::Input,
+        Stop::TooLong { source: _, line: _ } | Stop::TooMuch { source: _, line: _ } =>
+            Status::Input,
         Stop::Bad { line: _, cause: _ } | Stop::Dangling { from: _, to: _ } => Status::Data,
     }
 }

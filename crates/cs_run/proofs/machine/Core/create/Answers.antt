@@ -34,8 +34,8 @@ returns-in-Ok-clause-does c =
     let written = subst (λ x. Appended c.args.out.now.items c.write_created.new.out.items (reply_tree n (committed x ((id_of d, create) ∷ [])))) (c.as_str-in-Ok.ensures ∙ c.in_ok-tx.ensures) c.in_ok-write_created-in-Ok.ensures in
     let step = free_installed s n t (id_of d) tx c.in-Ok.place refl id fits.0 refl refl room unused in
     on_ok_weaker c.commit.result (λ e.
-        let is : state c.commit.new.self ≡ with_used tx (with_docs (with_doc (stamped tx first_moment t) now) s) = e ∙ ap (λ x. with_used x (with_docs (with_doc d now) s)) (c.as_str-in-Ok-2.ensures ∙ c.in_ok-tx.ensures) ∙ ap (λ x. with_used tx (with_docs (with_doc x now) s)) made in
-        does_as c.args.out.now.items c.write_created.new.out.items (state c.commit.new.self) n _ _ step (says _ _ _ _ n (committed tx ((id_of d, create) ∷ [])) is written)) c.commit.ensures.committed
+    let is : state c.commit.new.self ≡ with_used tx (with_docs (with_doc (stamped tx first_moment t) now) s) = e ∙ ap (λ x. with_used x (with_docs (with_doc d now) s)) (c.as_str-in-Ok-2.ensures ∙ c.in_ok-tx.ensures) ∙ ap (λ x. with_used tx (with_docs (with_doc x now) s)) made in
+    does_as c.args.out.now.items c.write_created.new.out.items (state c.commit.new.self) n _ _ step (says _ _ _ _ n (committed tx ((id_of d, create) ∷ [])) is written)) c.commit.ensures.committed
 
 pub returns-clause-does : goal.returns-clause-does
 returns-clause-does c =

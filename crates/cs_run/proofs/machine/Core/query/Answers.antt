@@ -1,17 +1,27 @@
-use Rattle.std.proofs.Common.{◌∙◌, sym, refl}
+use Rattle.std.proofs.Common.{◌≡◌, sym, refl}
 use Rattle.std.proofs.lemmas.Result.{on_ok_weaker}
+use Rattle.cs_docs.specs.Store.{docs}
+use Rattle.cs_parse.specs.Verdict.{reading_of}
+use Rattle.cs_parts.specs.Values.{query_value}
 use Rattle.cs_reply.specs.Reply.{found}
-use Rattle.cs_value.specs.Tree.{list, trees}
+use Rattle.cs_syntax.specs.Expression.{Expression}
+use Rattle.cs_syntax.specs.Queries.{query as expression_of}
+use Rattle.cs_value.specs.View.{fields}
 use Rattle.cs_run.specs.Core.{state}
-use Rattle.cs_run.proofs.Creating.{says, does_as, star_found, other_query}
+use Rattle.cs_run.specs.State.{answered}
+use Rattle.cs_run.proofs.Creating.{says, does_as, read_text, refused_text}
 use Rattle.cs_run.proofs.machine.Core.query.Goals as goal
 
-pub returns-then-eq : goal.returns-then-eq
-returns-then-eq c = λ params.
+pub returns-in-Ok : goal.returns-in-Ok
+returns-in-Ok g c =
     let s = state c.args.self.now in
-    on_ok_weaker c.find_all.result (λ h. does_as c.args.out.now.items c.find_all.new.out.items s c.args.line _ _ (star_found s c.args.line c.args.text.now params (sym c.eq.ensures ∙ c.if-eq.true)) (says _ _ s s c.args.line (found (list (trees s.docs))) refl h)) c.find_all.ensures
+    let next = λ (e : Expression). answered s (found (query_value s.docs (fields c.args.params.now) e)) in
+    let is = read_text s c.args.text.now next (expression_of c.in-Ok.query) c.in-Ok.ensures in
+    on_ok_weaker c.find.result (λ h. does_as c.args.out.now.items c.find.new.out.items s c.args.line _ _ is (says _ _ s s c.args.line (found (query_value s.docs (fields c.args.params.now) (expression_of c.in-Ok.query))) refl h)) c.find.ensures
 
-pub returns : goal.returns
-returns c = λ params.
+pub returns-in-Some : goal.returns-in-Some
+returns-in-Some g c =
     let s = state c.args.self.now in
-    on_ok_weaker c.refuse.result (λ h. does_as c.args.out.now.items c.refuse.new.out.items s c.args.line _ _ (other_query s c.args.line c.args.text.now params (sym c.eq.ensures ∙ c.if-eq.false)) h) c.refuse.ensures
+    let next = λ (e : Expression). answered s (found (query_value s.docs (fields c.args.params.now) e)) in
+    let is = refused_text s c.args.text.now next (reading_of c.in-Err.fault) _ c.in-Err.ensures c.in-Some.ensures in
+    on_ok_weaker c.refuse.result (λ h. does_as c.args.out.now.items c.refuse.new.out.items s c.args.line _ _ is h) c.refuse.ensures
