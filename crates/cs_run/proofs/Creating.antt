@@ -1,5 +1,5 @@
 -- What a reply that was written does, and a create from the place that its id has, or would have, among the documents.
-use Rattle.std.proofs.Common.{◌≡◌, ◌∙◌, ap, sym, refl, subst, ℕ, List, [], ◌∷◌, ◌++◌, length, is_some, Bool, true, false, ◌==◌, ◌≤◌, Option, None, Some, IfSome, option_and_then, arith}
+use Rattle.std.proofs.Common.{◌≡◌, ◌∙◌, ap, sym, refl, subst, ℕ, List, [], ◌∷◌, ◌++◌, length, is_some, true, false, ◌==◌, ◌≤◌, Option, None, Some, IfSome, option_and_then, arith}
 use Rattle.std.proofs.lemmas.List.{append-nil}
 use Rattle.cs_value.specs.Tree.{Tree}
 use Rattle.cs_view.specs.Document.{id_of}
@@ -13,7 +13,7 @@ use Rattle.cs_run.specs.Does.{Does, creating}
 use Rattle.cs_run.specs.Fold.{Stepped}
 use Rattle.cs_run.specs.Install.{stamped, tx_of_line}
 use Rattle.cs_run.specs.Refused.{refuse, of_fault, why_none, by_reading, with_query}
-use Rattle.cs_run.specs.State.{State, answered, with_docs, with_used}
+use Rattle.cs_run.specs.State.{State, with_docs, with_used}
 use Rattle.cs_syntax.specs.Expression.{Expression}
 use Rattle.cs_json.specs.Reading.{outcome}
 use Rattle.cs_parse.specs.Verdict.{Reading, query, bad_token, too_deep, no_syntax, faulty, verdict}

@@ -1,22 +1,12 @@
 -- Documents in the order of their ids, and a document more.
-use Rattle.std.proofs.Common.{◌≡◌, ◌∙◌, ap, sym, refl, subst, ℕ, zero, suc, ◌≤◌, ◌<◌, List, [], ◌∷◌, length, map, get_or, Some, None, Result, Ok, Err, Bool, true, false, ◌&&◌, cond, Ordering, Less, Equal, Greater, T, arith}
-use Rattle.std.specs.Result.{MatchResult, is_ok}
-use Rattle.std.specs.declared.alloc.AllocFailed.{AllocFailed}
-use Rattle.std.specs.List.{insert}
-use Rattle.std.specs.List.Sorted.{IsSearchInRange, IsBinarySearchResult}
+use Rattle.std.proofs.Common.{◌≡◌, ◌∙◌, ap, sym, refl, subst, ℕ, zero, suc, List, [], ◌∷◌, None, Bool, true, false, Less, Equal, Greater, T}
 use Rattle.std.proofs.lemmas.Cmp.{nat_list_cmp_total}
-use Rattle.std.proofs.lemmas.List.Edits.{length-insert}
-use Rattle.std.specs.Cmp.{tied_itself}
-use Rattle.std.specs.Ordering.{is_eq, is_lt, ordering_reverse, ordering_index}
 use Rattle.std.specs.FinMap.{slice_cmp-IsAntisymmetric, nat_cmp-IsAntisymmetric}
-use Rattle.std.specs.FinMap.Entries.{by_order, put, below_all, is_sorted, is_sorted-put}
+use Rattle.std.specs.FinMap.Entries.{by_order, put, is_sorted, is_sorted-put}
 use Rattle.cs_value.specs.Tree.{Tree}
 use Rattle.cs_view.specs.Document.{id_of}
 use Rattle.cs_view.specs.Dataset.{id_cmp, keyed, At, ascending, with_doc}
-use Rattle.cs_view.specs.View.{doc}
-use Rattle.cs_view.specs.declared.doc.Doc.{Doc}
-use Rattle.cs_docs.specs.Limits.{most_documents}
-use Rattle.cs_docs.specs.Places.{HasId, IsGapFor}
+use Rattle.cs_docs.specs.Places.{IsGapFor}
 
 pub same : (a b : List ℕ) → id_cmp a b ≡ Equal → a ≡ b
 same a b h = slice_cmp-IsAntisymmetric nat_cmp-IsAntisymmetric a b h

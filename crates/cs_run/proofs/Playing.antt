@@ -3,7 +3,7 @@ use Rattle.std.proofs.Common.{Result, subst, ◌≡◌, ◌∙◌, ap, sym, refl
 use Rattle.std.proofs.lemmas.List.{append-nil, take_at, take_all, take-append-drop, length-drop}
 use Rattle.std.specs.Io.KnownBytes.{Appends}
 use Rattle.cs_io.specs.Bytes.{AppendsPartOf}
-use Rattle.cs_io.specs.Lines.{IsPlain, Feed, End, LineTooLong, SourceTooMuch, More, feed, feed_of, whole_lines}
+use Rattle.cs_io.specs.Lines.{Feed, LineTooLong, SourceTooMuch, More, feed, feed_of, whole_lines}
 use Rattle.cs_io.specs.Reader.{Reader, InStep, feed_at, rest_at}
 use Rattle.cs_io.specs.Next.{Gives, Texts}
 use Rattle.cs_io.specs.declared.lines.Line.{Line}

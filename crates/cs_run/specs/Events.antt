@@ -5,7 +5,7 @@ use Rattle.cs_view.specs.Changes.{Edit}
 use Rattle.cs_view.specs.Document.{rev_of}
 use Rattle.cs_parts.specs.Operators.{is_true}
 use Rattle.cs_parts.specs.Values.{value}
-use Rattle.cs_reply.specs.Reply.{Reply, event, Event, Transition, appear, changed, disappear}
+use Rattle.cs_reply.specs.Reply.{Reply, event, Transition, appear, changed, disappear}
 use Rattle.cs_run.specs.State.{Listener}
 
 -- the listener's filter is true of what stands there; of nothing it is not

@@ -1,5 +1,5 @@
 -- Live queries as the plain machine holds them: this project's profile.
-use Rattle.std.specs.Prelude.{ℕ, List, [], ◌∷◌, cond, map, filter, Bool, not, Option, Some, None}
+use Rattle.std.specs.Prelude.{ℕ, List, [], ◌∷◌, cond, map, filter, Bool, not}
 use Rattle.std.specs.List.{list_any}
 use Rattle.std.specs.Str.{bytes_eq}
 use Rattle.cs_value.specs.Tree.{Tree, Pairs}

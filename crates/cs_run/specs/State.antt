@@ -1,5 +1,5 @@
 -- The state of the plain machine: this project's profile. It holds no index, no record of keys and no cache.
-use Rattle.std.specs.Prelude.{ℕ, List, [], ◌++◌, ◌∷◌, Bool, true, false, ◌||◌, cond, codes}
+use Rattle.std.specs.Prelude.{ℕ, List, [], ◌∷◌, Bool, true, false, ◌||◌, cond, codes}
 use Rattle.std.specs.List.{list_any}
 use Rattle.std.specs.Str.{bytes_eq}
 use Rattle.cs_value.specs.Tree.{Tree, Pairs}

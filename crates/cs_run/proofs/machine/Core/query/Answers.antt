@@ -1,6 +1,5 @@
-use Rattle.std.proofs.Common.{◌≡◌, sym, refl}
+use Rattle.std.proofs.Common.{refl}
 use Rattle.std.proofs.lemmas.Result.{on_ok_weaker}
-use Rattle.cs_docs.specs.Store.{docs}
 use Rattle.cs_parse.specs.Verdict.{reading_of}
 use Rattle.cs_parts.specs.Values.{query_value}
 use Rattle.cs_reply.specs.Reply.{found}
