@@ -5,6 +5,7 @@ ghost use Rattle.std.specs.Prelude.{◌≡◌, ◌<◌};
 use cs_docs::Docs;
 use cs_eval::eval;
 use cs_parse::parse;
+use cs_syntax::Query;
 use cs_value::{Fields, NoMemory, Steps, Txt, Val};
 use cs_view::{Change, Doc, Record};
 use std::alloc::Global;
@@ -38,25 +39,29 @@ fn made(alloc: Global, id: &str, kind: &str) -> Result<Change, Fail> {
 
 // Whether the record of a query over no documents is touched by `x` of the type `t`, and by `y` of
 // the type `u`.
-fn touched<L: Ledger>(blank: Blank, alloc: Global, text: &str) -> Result<(bool, bool), Fail>
+fn touched<L: Ledger>(blank: Blank, alloc: Global, query: &Query) -> Result<(bool, bool), Fail>
     requires name { blank.name ≡ L.name }
     requires parts { blank.parts ≡ L.parts }
     requires some { 0 < blank.parts }
 {
     let mut steps = Steps::<L>::new(blank);
+    let docs = Docs::new(alloc);
+    let params = Fields::new(alloc);
+    let mut keys = Record::new(alloc);
+    drop(eval(alloc, query, &params, &docs, &mut keys, &mut steps)?);
+    let first = [made(alloc, "x", "t")?];
+    let second = [made(alloc, "y", "u")?];
+    Ok((keys.touched(&first), keys.touched(&second)))
+}
+
+fn found(alloc: Global, text: &str) -> Result<(bool, bool), Fail> {
     if text.len() > 1000 {
         return Err(Fail::new("a long query"));
     }
     let Ok(query) = parse(alloc, text) else {
         return Err(Fail::new("no query"));
     };
-    let docs = Docs::new(alloc);
-    let params = Fields::new(alloc);
-    let mut keys = Record::new(alloc);
-    drop(eval(alloc, &query, &params, &docs, &mut keys, &mut steps)?);
-    let first = [made(alloc, "x", "t")?];
-    let second = [made(alloc, "y", "u")?];
-    Ok((keys.touched(&first), keys.touched(&second)))
+    touched::<Brand>(Blank::new(1), alloc, &query)
 }
 
 #[test]
@@ -85,8 +90,7 @@ fn looks_up_what_the_value_needs(rt: HostRuntime) -> Result<(), Fail> {
         ("null->name", (false, false)),
     ];
     for (text, wanted) in cases {
-        let found = touched::<Brand>(Blank::new(1), rt.alloc(), text)?;
-        assert_eq!(rt; found, wanted, "of {text}");
+        assert_eq!(rt; found(rt.alloc(), text)?, wanted, "of {text}");
     }
     Ok(())
 }
