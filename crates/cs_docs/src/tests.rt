@@ -1,3 +1,4 @@
+//! The documents of a store as a view, on three of them.
 ghost use Rattle.std.specs.Prelude.{◌≡◌, ◌<◌};
 
 use super::*;

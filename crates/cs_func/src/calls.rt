@@ -1,3 +1,4 @@
+//! The calls of functions.
 ghost use Rattle.std.specs.Prelude.{◌≡◌, IsTrue, is_some, option_map, IfOk, IfErr};
 ghost use Rattle.cs_value.specs.View.{tree};
 ghost use Rattle.cs_func.specs.Functions.{value, has_two, makes};

@@ -1,3 +1,4 @@
+//! Functions by their names.
 ghost use Rattle.std.specs.Prelude.{◌≡◌};
 ghost use Rattle.cs_func.specs.Names.{named};
 

@@ -1,3 +1,4 @@
+//! Patterns of the function `path`.
 ghost use Rattle.std.specs.Prelude.{◌≡◌, ◌∷◌, false};
 ghost use Rattle.std.specs.List.{list_any};
 ghost use Rattle.cs_func.specs.PathPattern.{is_dot, part_matches, path_matches};

@@ -1,3 +1,4 @@
+//! The value of each function.
 use super::*;
 use cs_value::{Fields, Txt, Val};
 use std::alloc::Global;

@@ -3,8 +3,8 @@ use Rattle.std.specs.Prelude.{◌≡◌, ℕ, ◌+◌, ◌<◌, ◌≤◌, List,
 use Rattle.cs_io.specs.Lines.{IsPlain, feed, More, LineTooLong, SourceTooMuch, longest_line, largest_source}
 use Rattle.cs_io.specs.declared.pieces.Part.{Part}
 use Rattle.cs_io.specs.declared.pieces.Part.TheVariants.{Ended, All}
-use Rattle.cs_io.specs.declared.pieces.Refusal.{Refusal}
-use Rattle.cs_io.specs.declared.pieces.Refusal.TheVariants.{TooLong, TooMuch, NoMemory}
+use Rattle.cs_io.specs.declared.pieces.PieceFault.{PieceFault}
+use Rattle.cs_io.specs.declared.pieces.PieceFault.TheVariants.{TooLong, TooMuch, NoMemory}
 
 -- the line ends after the first `used` bytes of the piece
 pub record EndsLine (used : ℕ) (piece : List ℕ) (t : ℕ) (old new : List ℕ) : Type 0 where
@@ -24,7 +24,7 @@ pub record TakesAll (piece : List ℕ) (t : ℕ) (old new : List ℕ) : Type 0 w
   pub fits : t + length piece ≤ largest_source
   pub feeds : (n : ℕ) (rest : List ℕ) → feed n t old (piece ++ rest) ≡ feed n (t + length piece) new rest
 
-abbrev pub Takes : Result Part Refusal → List ℕ → ℕ → List ℕ → List ℕ → Type 0
+abbrev pub Takes : Result Part PieceFault → List ℕ → ℕ → List ℕ → List ℕ → Type 0
 Takes (Ok (Ended used)) piece t old new = EndsLine used piece t old new
 Takes (Ok All) piece t old new = TakesAll piece t old new
 Takes (Err TooLong) piece t old new = (n : ℕ) (rest : List ℕ) → feed n t old (piece ++ rest) ≡ LineTooLong n

@@ -1,3 +1,4 @@
+//! The files of the machine as sources.
 ghost use Rattle.std.specs.Prelude.{◌≡◌, ◌<◌, ◌≤◌, ℕ, [], length, true, IfSome};
 ghost use Rattle.cs_io.specs.Names.{is_open};
 

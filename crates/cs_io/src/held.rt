@@ -1,3 +1,4 @@
+//! The sources that a library in memory holds.
 ghost use Rattle.std.specs.Prelude.{◌≡◌, ◌<◌, ◌≤◌, ℕ, [], ◌++◌, length, take, drop, Option, IfSome, min, ◌+◌, ◌-◌, ◌^◌, ◌==◌};
 ghost use Rattle.std.specs.List.{list_any};
 ghost use Rattle.std.specs.Option.{option_map};

@@ -1,3 +1,4 @@
+//! Where sources are opened and read.
 ghost use Rattle.std.specs.Prelude.{◌≡◌, ◌≢◌, ℕ, ◌<◌, ◌∷◌, ◌++◌, [], List, length, true, false, IfOk, OnErr};
 ghost use Rattle.std.specs.Prelude.{Option};
 ghost use Rattle.std.specs.Io.{ReadsAtMost};

@@ -1,3 +1,4 @@
+//! The lines of a source.
 ghost use Rattle.std.specs.Prelude.{◌≡◌, ◌≢◌, ℕ, ◌+◌, ◌<◌, ◌≤◌, [], List, length, take};
 ghost use Rattle.std.specs.Prelude.{true, false, IfOk, OnErr, OnOk, IfErr, IfSome, IfNone};
 ghost use Rattle.std.specs.Io.KnownBytes.{Consumes, Keeps, IsAtEnd};
@@ -9,7 +10,7 @@ ghost use Rattle.cs_io.specs.Laws.{FollowsCut, FollowsWhole};
 ghost use Rattle.cs_io.specs.Next.{FaultHasCause, Gives, IsNext, Texts, ReadStands};
 
 use crate::library::Library;
-use crate::pieces::{Part, Refusal, take_part};
+use crate::pieces::{Part, PieceFault, take_part};
 use std::alloc::Global;
 use std::marker::Model;
 use thiserror::Error;
@@ -182,13 +183,13 @@ impl Lines {
                 self.from = self.to;
                 Ok(false)
             }
-            Err(Refusal::TooLong) => Err(LineFault::TooLong {
+            Err(PieceFault::TooLong) => Err(LineFault::TooLong {
                 line: self.given + 1,
             }),
-            Err(Refusal::TooMuch) => Err(LineFault::TooMuch {
+            Err(PieceFault::TooMuch) => Err(LineFault::TooMuch {
                 line: self.given + 1,
             }),
-            Err(Refusal::NoMemory) => Err(LineFault::NoMemory),
+            Err(PieceFault::NoMemory) => Err(LineFault::NoMemory),
         }
     }
 

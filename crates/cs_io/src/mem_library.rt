@@ -1,3 +1,4 @@
+//! A library of sources in memory.
 ghost use Rattle.std.specs.Prelude.{◌≡◌, ◌<◌, ℕ, [], Option, length, true};
 ghost use Rattle.cs_io.specs.Names.{is_open};
 

@@ -1,3 +1,4 @@
+//! Standard output as a sink.
 ghost use Rattle.std.specs.Prelude.{◌≡◌};
 
 use crate::library::Failed;

@@ -1,3 +1,4 @@
+//! Lines cut out of the pieces that a source gives.
 ghost use Rattle.std.specs.Prelude.{◌≡◌, ◌<◌, ◌≤◌, length, slice_index, take};
 ghost use Rattle.cs_io.specs.Lines.{IsPlain, longest_line, largest_source};
 ghost use Rattle.cs_io.specs.Parts.{Takes};
@@ -19,7 +20,7 @@ pub enum Part {
 
 // Why the line under way took nothing of a piece.
 #[derive(Drop)]
-pub enum Refusal {
+pub enum PieceFault {
     TooLong,
     TooMuch,
     NoMemory,
@@ -42,7 +43,7 @@ fn line_end(piece: &[u8]) -> usize
 // Adds to the line under way what the piece has of it. `taken` counts the bytes of the source
 // before the piece. Where the piece has a byte past a limit, the first such byte of the line
 // decides.
-pub fn take_part(piece: &[u8], taken: u32, line: &mut Vec<u8>) -> Result<Part, Refusal>
+pub fn take_part(piece: &[u8], taken: u32, line: &mut Vec<u8>) -> Result<Part, PieceFault>
     requires short { length line.old.items ≤ longest_line }
     requires fits { taken ≤ largest_source }
     ensures { Takes result piece.now taken line.old.items line.new.items }
@@ -52,21 +53,21 @@ pub fn take_part(piece: &[u8], taken: u32, line: &mut Vec<u8>) -> Result<Part, R
     let in_source = (LARGEST_SOURCE - taken) as usize;
     if in_line < end {
         if in_line <= in_source {
-            return Err(Refusal::TooLong);
+            return Err(PieceFault::TooLong);
         }
-        return Err(Refusal::TooMuch);
+        return Err(PieceFault::TooMuch);
     }
     if in_source < end {
-        return Err(Refusal::TooMuch);
+        return Err(PieceFault::TooMuch);
     }
     if line.extend_from_slice(&piece[..end]).is_err() {
-        return Err(Refusal::NoMemory);
+        return Err(PieceFault::NoMemory);
     }
     if end == piece.len() {
         return Ok(Part::All);
     }
     if in_source == end {
-        return Err(Refusal::TooMuch);
+        return Err(PieceFault::TooMuch);
     }
     Ok(Part::Ended(end + 1))
 }

@@ -1,3 +1,4 @@
+//! A source in memory that is open.
 ghost use Rattle.std.specs.Prelude.{◌≤◌, length};
 
 // The bytes under a number, and how many of them were read.

@@ -1,3 +1,4 @@
+//! Lines, and libraries and sinks that fail, in memory.
 ghost use Rattle.std.specs.Prelude.{◌<◌, ◌≡◌, true, [], IfOk};
 ghost use Rattle.cs_io.specs.Names.{is_open};
 

@@ -1,3 +1,4 @@
+//! Values read from JSON.
 ghost use Rattle.std.specs.Prelude.{◌≡◌, ◌≤◌, length, MatchResult, IfOk};
 ghost use Rattle.cs_value.specs.Tree.{widest, depth as nesting};
 ghost use Rattle.cs_value.specs.Value.{IsValue};

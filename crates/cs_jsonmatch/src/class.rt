@@ -1,3 +1,4 @@
+//! The characters of a path by what they may begin.
 ghost use Rattle.std.specs.Prelude.{◌≡◌};
 ghost use Rattle.cs_jsonmatch.specs.Grammar.{class};
 

@@ -1,3 +1,4 @@
+//! Where the reading of a path stands.
 ghost use Rattle.std.specs.Prelude.{ℕ, ◌≡◌, ◌≢◌, ◌<◌, ◌≤◌, ◌++◌, length, [], encode_utf8, MatchOption, MatchBool, Some};
 ghost use Rattle.cs_jsonmatch.specs.Reading.{next_class, Took, Missed, reading};
 ghost use Rattle.cs_jsonmatch.specs.Machine.{State, taken};

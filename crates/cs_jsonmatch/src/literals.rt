@@ -1,3 +1,4 @@
+//! Names, numbers and texts in a path.
 ghost use Rattle.std.specs.Prelude.{ℕ, ℤ, pos, neg_ℤ, ◌≡◌, ◌≢◌, ◌⊎◌, ◌<◌, ◌≤◌, ◌^◌, ◌++◌, ◌∷◌, [], List, Bool, cond, length, encode_utf8, MatchOption, MatchResult, IfOk};
 ghost use Rattle.cs_jsonmatch.specs.Path.{Item, Path};
 ghost use Rattle.cs_jsonmatch.specs.declared.class.Class.TheVariants.{Letter, Digit, Quote};

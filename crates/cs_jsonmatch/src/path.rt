@@ -1,3 +1,4 @@
+//! The paths of JSONMatch.
 use cs_value::{Txt, Val};
 
 /// A path into a value, after Sanity's JSONMatch: steps, each of which selects parts of the values

@@ -1,3 +1,4 @@
+//! Places in a value.
 use cs_value::Txt;
 
 /// A part of a place: one step into a value.

@@ -1,3 +1,4 @@
+//! A text read as a path.
 ghost use Rattle.std.specs.Prelude.{◌≡◌, ◌<◌, ◌^◌, length, IfSome};
 ghost use Rattle.cs_jsonmatch.specs.Verdict.{path_verdict, reading};
 

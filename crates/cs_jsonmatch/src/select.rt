@@ -1,3 +1,4 @@
+//! Which members of a value an item selects.
 ghost use Rattle.std.specs.Prelude.{◌≡◌, option_map, ℕ, map};
 ghost use Rattle.std.specs.List.{list_any};
 ghost use Rattle.cs_value.specs.Tree.{Tree};

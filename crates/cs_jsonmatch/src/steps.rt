@@ -1,3 +1,4 @@
+//! The steps of a path.
 ghost use Rattle.std.specs.Prelude.{ℕ, ◌≡◌, ◌≤◌, ◌<◌, ◌++◌, ◌∷◌, [], List, length, IfOk};
 ghost use Rattle.cs_jsonmatch.specs.Path.{Path};
 ghost use Rattle.cs_jsonmatch.specs.View.{step_of, path_of};

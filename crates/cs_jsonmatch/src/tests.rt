@@ -1,3 +1,4 @@
+//! Paths, read and followed.
 use super::*;
 use crate::path::Step;
 use cs_value::{Fields, Txt, Val};

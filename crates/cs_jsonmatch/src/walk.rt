@@ -1,3 +1,4 @@
+//! One walk over a value, to the places that a path selects.
 ghost use Rattle.std.specs.Prelude.{◌≡◌, ◌++◌, ◌∷◌, [], length, map, take, false, unwrap_or, slice_get, IfOk, OnOk, cond};
 ghost use Rattle.std.specs.List.{list_any};
 ghost use Rattle.cs_value.specs.Tree.{list, object as object_of, trees};

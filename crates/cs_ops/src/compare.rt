@@ -1,3 +1,4 @@
+//! Equality and orders of values.
 ghost use Rattle.std.specs.Prelude.{◌≡◌};
 ghost use Rattle.cs_value.specs.View.{tree};
 ghost use Rattle.cs_ops.specs.Equal.{equal};

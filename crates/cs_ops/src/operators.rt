@@ -1,3 +1,4 @@
+//! The values of operators.
 ghost use Rattle.std.specs.Prelude.{◌≡◌, IsTrue, IfOk, IfErr};
 ghost use Rattle.std.specs.List.{list_any};
 ghost use Rattle.cs_value.specs.View.{tree, list_tree};

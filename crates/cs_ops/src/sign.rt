@@ -1,3 +1,4 @@
+//! Operators by their signs.
 ghost use Rattle.std.specs.Prelude.{◌≡◌};
 ghost use Rattle.cs_ops.specs.Signs.{operator};
 

@@ -1,3 +1,4 @@
+//! The value of each operator.
 use super::*;
 use cs_value::{Fields, Txt, Val};
 use std::alloc::Global;

@@ -1,3 +1,4 @@
+//! The text of each reply and refusal.
 use super::*;
 use cs_json::Node;
 use std::alloc::Global;

@@ -19,7 +19,6 @@ pub mod References
 pub mod Refusals
 pub mod Refused
 pub mod Rows
-pub mod Same
 pub mod Script
 pub mod State
 pub mod Taking

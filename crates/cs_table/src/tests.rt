@@ -1,3 +1,4 @@
+//! Each row of a table is found, and no other.
 use super::*;
 
 #[derive(Clone, Copy)]

@@ -7,23 +7,23 @@ use Rattle.std.proofs.lemmas.Map.Lookups.{exact_bytes}
 use Rattle.std.specs.FinMap.Entries.{find, below_all, same_entries}
 use Rattle.cs_value.specs.Tree.{Tree}
 use Rattle.cs_view.specs.Dataset.{id_cmp, same_id, At, ascending, is_dataset}
-use Rattle.cs_view.specs.Changes.{Edit, ids_ascend, has_id, are_changes, is_document_or_none, are_documents, LeadFrom, LeadTo, Before, After, before_of, after_of, IsChangeAt, AreChangesBetween}
+use Rattle.cs_view.specs.Changes.{Edit, ids_ascend, is_of_id, are_changes, is_document_or_none, are_documents, LeadFrom, LeadTo, Before, After, before_of, after_of, IsChangeAt, AreChangesBetween}
 use Rattle.cs_view.proofs.Booleans.{and-left, and-right, both, to_T}
-use Rattle.cs_view.proofs.Datasets.{same_id-same, same_id-refl, same_id-sym, lower-differs, At-placed, ascending-placed, dataset-placed, same_docs, At-has_id}
+use Rattle.cs_view.proofs.Datasets.{same_id-same, same_id-refl, same_id-sym, lower-differs, At-placed, ascending-placed, dataset-placed, same_docs, At-is_of_id}
 
 abbrev pub OwnIds : List Edit → Type 0
-OwnIds cs = AllByRecursion (λ c. (has_id c.0 c.1.0 ≡ true) × (has_id c.0 c.1.1 ≡ true)) cs
+OwnIds cs = AllByRecursion (λ c. (is_of_id c.0 c.1.0 ≡ true) × (is_of_id c.0 c.1.1 ≡ true)) cs
 
-own_list : (cs : List Edit) → list_all (λ c. has_id c.0 c.1.0 && has_id c.0 c.1.1) cs ≡ true → OwnIds cs
+own_list : (cs : List Edit) → list_all (λ c. is_of_id c.0 c.1.0 && is_of_id c.0 c.1.1) cs ≡ true → OwnIds cs
 own_list [] h = tt
 own_list (c ∷ cs) h =
     let here = and-left _ _ h in
-    ((and-left _ _ here, and-right (has_id c.0 c.1.0) _ here), own_list cs (and-right (has_id c.0 c.1.0 && has_id c.0 c.1.1) _ h))
+    ((and-left _ _ here, and-right (is_of_id c.0 c.1.0) _ here), own_list cs (and-right (is_of_id c.0 c.1.0 && is_of_id c.0 c.1.1) _ h))
 
 pub own_ids : (cs : List Edit) → are_changes cs ≡ true → OwnIds cs
 own_ids cs h = own_list cs (and-right (ids_ascend cs) _ h)
 
-list_own : (cs : List Edit) → OwnIds cs → list_all (λ c. has_id c.0 c.1.0 && has_id c.0 c.1.1) cs ≡ true
+list_own : (cs : List Edit) → OwnIds cs → list_all (λ c. is_of_id c.0 c.1.0 && is_of_id c.0 c.1.1) cs ≡ true
 list_own [] h = refl
 list_own (c ∷ cs) h = both _ _ (both _ _ h.0.0 h.0.1) (list_own cs h.1)
 
@@ -103,6 +103,56 @@ leading docs all (c ∷ cs) h f = (sym (h c.0 ∙ ap (λ s. after_of s (At c.0 d
 pub After-leads : (docs : List Tree) (cs : List Edit) → are_changes cs ≡ true → LeadTo (After docs cs) cs
 After-leads docs cs h = leading docs cs cs (λ q. At-After q docs cs (own_ids cs h)) (each_found cs (and-left _ _ h))
 
+-- changes that lead back say what the dataset holds after
+after-now : (q : List ℕ) (docs : List Tree) (cs : List Edit) → LeadTo docs cs
+    → after_of (find id_cmp q cs) (At q docs) ≡ At q docs
+after-now q docs [] leads = refl
+after-now q docs (c ∷ cs) leads =
+    elim (same_id q c.0) as (λ b. same_id q c.0 ≡ b → after_of (cond b (Some c.1) (find id_cmp q cs)) (At q docs) ≡ At q docs) [
+      | true ↦ λ h. leads.0 ∙ ap (λ k. At k docs) (sym (same_id-same q c.0 h))
+      | false ↦ λ h. after-now q docs cs leads.1
+    ] refl
+
+pub After-now : (docs : List Tree) (cs : List Edit) → ascending docs ≡ true → OwnIds cs
+    → LeadTo docs cs → After docs cs ≡ docs
+After-now docs cs h own leads =
+    same_docs (After docs cs) docs (ascending-After docs cs h) h
+    (λ q. At-After q docs cs own ∙ after-now q docs cs leads)
+
+after-before : (f : Option (Option Tree × Option Tree)) (now : Option Tree)
+    → after_of f (before_of f now) ≡ after_of f now
+after-before None now = refl
+after-before (Some s) now = refl
+
+pub After-Before : (docs : List Tree) (cs : List Edit) → ascending docs ≡ true → OwnIds cs
+    → LeadTo docs cs → After (Before docs cs) cs ≡ docs
+After-Before docs cs h own leads =
+    same_docs (After (Before docs cs) cs) docs
+    (ascending-After (Before docs cs) cs (ascending-Before docs cs h)) h
+    (λ q. At-After q (Before docs cs) cs own
+    ∙ ap (after_of (find id_cmp q cs)) (At-Before q docs cs own)
+    ∙ after-before (find id_cmp q cs) (At q docs) ∙ after-now q docs cs leads)
+
+leading-from : (docs : List Tree) (all cs : List Edit)
+    → ((q : List ℕ) → At q (Before docs all) ≡ before_of (find id_cmp q all) (At q docs))
+    → AreFoundIn all cs → LeadFrom (Before docs all) cs
+leading-from docs all [] h f = tt
+leading-from docs all (c ∷ cs) h f =
+    (sym (h c.0 ∙ ap (λ s. before_of s (At c.0 docs)) f.0), leading-from docs all cs h f.1)
+
+pub Before-leads : (docs : List Tree) (cs : List Edit) → are_changes cs ≡ true
+    → LeadFrom (Before docs cs) cs
+Before-leads docs cs h =
+    leading-from docs cs cs (λ q. At-Before q docs cs (own_ids cs h))
+    (each_found cs (and-left _ _ h))
+
+pub At-in_a_row : (q : List ℕ) (docs : List Tree) (cs es : List Edit) → OwnIds cs → OwnIds es
+    → At q (After (After docs cs) es)
+    ≡ after_of (find id_cmp q es) (after_of (find id_cmp q cs) (At q docs))
+At-in_a_row q docs cs es own also =
+    At-After q (After docs cs) es also
+    ∙ ap (after_of (find id_cmp q es)) (At-After q docs cs own)
+
 -- ---- the changes between two datasets
 between_at : (b a : Option Tree) (f : Option (Option Tree × Option Tree)) (s : Option Tree × Option Tree) → IsChangeAt b a f → f ≡ Some s → s ≡ (b, a)
 between_at b a None s h is = absurd (cc)
@@ -122,7 +172,7 @@ sides_lead one other (c ∷ cs) s = (ap (λ (p : Option Tree × Option Tree). p.
 sides_own : (one other : List Tree) (cs : List Edit) → Sides one other cs → OwnIds cs
 sides_own one other [] s = tt
 sides_own one other (c ∷ cs) s =
-    ((At-has_id c.0 one c.1.0 (sym (ap (λ (p : Option Tree × Option Tree). p.0) s.0)), At-has_id c.0 other c.1.1 (sym (ap (λ (p : Option Tree × Option Tree). p.1) s.0))), sides_own one other cs s.1)
+    ((At-is_of_id c.0 one c.1.0 (sym (ap (λ (p : Option Tree × Option Tree). p.0) s.0)), At-is_of_id c.0 other c.1.1 (sym (ap (λ (p : Option Tree × Option Tree). p.1) s.0))), sides_own one other cs s.1)
 
 between_after : (b a : Option Tree) (f : Option (Option Tree × Option Tree)) → IsChangeAt b a f → after_of f b ≡ a
 between_after b a None h = h

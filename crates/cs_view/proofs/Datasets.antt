@@ -7,8 +7,8 @@ use Rattle.std.proofs.lemmas.Map.Lookups.{exact_bytes}
 use Rattle.std.specs.FinMap.Entries.{by_order, find, put, where_key, is_sorted, below_all, find-put, is_sorted-put, find-where_key, is_sorted-where_key, same_entries}
 use Rattle.cs_value.specs.Tree.{Tree}
 use Rattle.cs_view.specs.Document.{id_of, is_document}
-use Rattle.cs_view.specs.Dataset.{id_cmp, same_id, keyed, At, ascending, is_dataset, with_doc, without, placed}
-use Rattle.cs_view.specs.Changes.{has_id, is_document_or_none}
+use Rattle.cs_view.specs.Dataset.{id_cmp, same_id, keyed, At, ascending, is_dataset, with_doc, without, placed, kept_if}
+use Rattle.cs_view.specs.Changes.{is_of_id, is_document_or_none}
 use Rattle.cs_view.proofs.Booleans.{and-left, and-right, both, to_T, from_T}
 
 is_eq-Equal : (o : Ordering) → is_eq o ≡ true → o ≡ Equal
@@ -78,7 +78,7 @@ pub At-without : (q id : List ℕ) (es : List Tree) → At q (without id es) ≡
 At-without q id es = ap (find id_cmp q) (keyed-without id es) ∙ find-where_key id_cmp (λ k. not (same_id id k)) q (alike id q) (keyed es) ∙ flipped _ _ _ _ (same_id-sym id q)
 
 -- what stands under an id after a document, or none, was put in the place of one
-pub At-placed : (q id : List ℕ) (o : Option Tree) (es : List Tree) → has_id id o ≡ true → At q (placed id o es) ≡ cond (same_id q id) o (At q es)
+pub At-placed : (q id : List ℕ) (o : Option Tree) (es : List Tree) → is_of_id id o ≡ true → At q (placed id o es) ≡ cond (same_id q id) o (At q es)
 At-placed q id None es h = At-without q id es
 At-placed q id (Some d) es h =
     let e : id ≡ id_of d = same_id-same id (id_of d) h in
@@ -130,9 +130,9 @@ At-id q (e ∷ es) d h =
       | false ↦ λ t g. At-id q es d g
     ] refl h
 
-pub At-has_id : (k : List ℕ) (docs : List Tree) (o : Option Tree) → At k docs ≡ o → has_id k o ≡ true
-At-has_id k docs None h = refl
-At-has_id k docs (Some d) h = ap (same_id k) (sym (At-id k docs d h)) ∙ same_id-refl k
+pub At-is_of_id : (k : List ℕ) (docs : List Tree) (o : Option Tree) → At k docs ≡ o → is_of_id k o ≡ true
+At-is_of_id k docs None h = refl
+At-is_of_id k docs (Some d) h = ap (same_id k) (sym (At-id k docs d h)) ∙ same_id-refl k
 
 -- ---- the documents that pass a test
 below-filter : (p : Tree → Bool) (k : List ℕ) (ds : List Tree) → below_all id_cmp k (keyed ds) ≡ true → below_all id_cmp k (keyed (filter p ds)) ≡ true
@@ -146,11 +146,6 @@ ascending-filter p [] h = refl
 ascending-filter p (d ∷ ds) h =
     let rest = ascending-filter p ds (and-right (below_all id_cmp (id_of d) (keyed ds)) _ h) in
     elim (p d) as (λ b. ascending (cond b (d ∷ filter p ds) (filter p ds)) ≡ true) [ true ↦ both _ _ (below-filter p (id_of d) ds (and-left _ _ h)) rest | false ↦ rest ]
-
--- what stands there, where it passes
-abbrev pub kept_if : (Tree → Bool) → Option Tree → Option Tree
-kept_if p None = None
-kept_if p (Some d) = cond (p d) (Some d) None
 
 pub At-filter : (p : Tree → Bool) (q : List ℕ) (ds : List Tree) → ascending ds ≡ true → At q (filter p ds) ≡ kept_if p (At q ds)
 At-filter p q [] h = refl

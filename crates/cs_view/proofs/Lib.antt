@@ -1,7 +1,10 @@
+pub mod Between
 pub mod Booleans
 pub mod Changed
 pub mod Datasets
 pub mod Documents
+pub mod Kept
 pub mod Looking
+pub mod Sames
 pub mod Typed
 pub mod Untouched

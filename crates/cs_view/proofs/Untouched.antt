@@ -4,13 +4,13 @@ use Rattle.std.specs.FinMap.Entries.{find}
 use Rattle.std.specs.List.{Contains}
 use Rattle.cs_value.specs.Tree.{Tree}
 use Rattle.cs_view.specs.Document.{passes}
-use Rattle.cs_view.specs.Dataset.{id_cmp, same_id, At, ascending}
+use Rattle.cs_view.specs.Dataset.{id_cmp, same_id, At, ascending, kept_if}
 use Rattle.cs_view.specs.Changes.{Edit, are_changes, Before, After, before_of, after_of}
 use Rattle.cs_view.specs.Keys.{has, Sel}
 use Rattle.cs_view.specs.Touched.{touches, is_touched, touched}
 use Rattle.cs_view.specs.declared.key.Key.{Key}
 use Rattle.cs_view.proofs.Booleans.{or-left, or-right, passes_nowhere}
-use Rattle.cs_view.proofs.Datasets.{same_docs, ascending-filter, kept_if, At-filter}
+use Rattle.cs_view.proofs.Datasets.{same_docs, ascending-filter, At-filter}
 use Rattle.cs_view.proofs.Changed.{own_ids, At-Before, At-After, ascending-Before, ascending-After}
 
 not_kept : (p : Tree → Bool) (o : Option Tree) → passes p o ≡ false → kept_if p o ≡ None

@@ -1,10 +1,11 @@
 -- Changes of a dataset: this project's profile.
-use Rattle.std.specs.Prelude.{◌≡◌, ◌≢◌, ℕ, List, [], ◌∷◌, Bool, true, ◌&&◌, Option, Some, None}
+use Rattle.std.specs.Prelude.{◌≡◌, ◌≢◌, ℕ, List, [], ◌∷◌, map, filter, Bool, true, false, not, ◌&&◌, Option, Some, None}
 use Rattle.std.specs.List.{list_all, AllByRecursion}
 use Rattle.std.specs.FinMap.Entries.{find, is_sorted}
 use Rattle.cs_value.specs.Tree.{Tree}
+use Rattle.cs_value.specs.Same.{same_tree}
 use Rattle.cs_view.specs.Document.{id_of, is_document}
-use Rattle.cs_view.specs.Dataset.{id_cmp, same_id, At, placed}
+use Rattle.cs_view.specs.Dataset.{id_cmp, same_id, At, with_doc, placed, kept_if}
 
 -- a change: an id, what stands under it before, and what stands there after
 abbrev pub Edit : Type 0
@@ -13,14 +14,14 @@ Edit = List ℕ × (Option Tree × Option Tree)
 abbrev pub ids_ascend : List Edit → Bool
 ids_ascend cs = is_sorted id_cmp cs
 
--- the document, where there is one, has the id
-abbrev pub has_id : List ℕ → Option Tree → Bool
-has_id id None = true
-has_id id (Some d) = same_id id (id_of d)
+-- the document, where there is one, is of the id
+abbrev pub is_of_id : List ℕ → Option Tree → Bool
+is_of_id id None = true
+is_of_id id (Some d) = same_id id (id_of d)
 
 -- the ids ascend strictly, and each document in a change has the change's id
 abbrev pub are_changes : List Edit → Bool
-are_changes cs = ids_ascend cs && list_all (λ c. has_id c.0 c.1.0 && has_id c.0 c.1.1) cs
+are_changes cs = ids_ascend cs && list_all (λ c. is_of_id c.0 c.1.0 && is_of_id c.0 c.1.1) cs
 
 -- what stands there, where something does, is a document
 abbrev pub is_document_or_none : Option Tree → Bool
@@ -58,11 +59,40 @@ abbrev pub after_of : Option (Option Tree × Option Tree) → Option Tree → Op
 after_of None now = now
 after_of (Some sides) now = sides.1
 
--- what the changes say of an id, where one document, or none, stands there before and another after: nothing where the two are one
+-- what the changes say of an id, where one document, or none, stands there before and another after:
+-- nothing where the two are one
 abbrev pub IsChangeAt : Option Tree → Option Tree → Option (Option Tree × Option Tree) → Type 0
 IsChangeAt before after None = before ≡ after
 IsChangeAt before after (Some sides) = (before ≢ after) × (sides ≡ (before, after))
 
--- the changes from one dataset to another: by ascending id, each id at which the two differ, with what stands there in both
+-- the changes from one dataset to another: by ascending id, each id at which the two differ, with
+-- what stands there in both
 abbrev pub AreChangesBetween : List Tree → List Tree → List Edit → Type 0
-AreChangesBetween one other cs = (ids_ascend cs ≡ true) × ((id : List ℕ) → IsChangeAt (At id one) (At id other) (find id_cmp id cs))
+AreChangesBetween one other cs =
+    (ids_ascend cs ≡ true)
+    × ((id : List ℕ) → IsChangeAt (At id one) (At id other) (find id_cmp id cs))
+
+-- the one document stands on both sides, or none on either
+abbrev pub is_same_side : Option Tree → Option Tree → Bool
+is_same_side None None = true
+is_same_side (Some d) (Some e) = same_tree d e
+is_same_side a b = false
+
+-- the two datasets hold not the same under the id
+abbrev pub differ_at : List Tree → List Tree → List ℕ → Bool
+differ_at one other id = not (is_same_side (At id one) (At id other))
+
+-- documents with each id that one of the two datasets has, and with no other
+abbrev pub united : List Tree → List Tree → List Tree
+united [] other = other
+united (d ∷ ds) other = with_doc d (united ds other)
+
+-- the one list of the changes from one dataset to another
+abbrev pub changes_between : List Tree → List Tree → List Edit
+changes_between one other =
+    map (λ d. (id_of d, (At (id_of d) one, At (id_of d) other)))
+    (filter (λ d. differ_at one other (id_of d)) (united one other))
+
+-- the changes of those documents that pass a test
+abbrev pub changes_where : (Tree → Bool) → List Edit → List Edit
+changes_where p cs = map (λ c. (c.0, (kept_if p c.1.0, kept_if p c.1.1))) cs

@@ -1,5 +1,6 @@
--- Datasets: lists of documents with strictly ascending ids. GROQ-1.revision1, "Dataset", leaves the order open; this project's profile takes that of the ids' bytes.
-use Rattle.std.specs.Prelude.{ℕ, List, [], ◌∷◌, map, Bool, not, ◌&&◌, is_some, Option, None, Some, filter}
+-- Datasets: lists of documents with strictly ascending ids. GROQ-1.revision1, "Dataset", leaves the
+-- order open; this project's profile takes that of the ids' bytes.
+use Rattle.std.specs.Prelude.{ℕ, List, [], ◌∷◌, map, Bool, not, ◌&&◌, cond, is_some, Option, None, Some, filter}
 use Rattle.std.specs.List.{list_all}
 use Rattle.std.specs.Ordering.{nat_cmp, eq_by_cmp}
 use Rattle.std.specs.Cmp.Lexicographic.{slice_cmp}
@@ -46,3 +47,8 @@ without id docs = filter (λ d. not (same_id id (id_of d))) docs
 abbrev pub placed : List ℕ → Option Tree → List Tree → List Tree
 placed id None docs = without id docs
 placed id (Some d) docs = with_doc d docs
+
+-- what stands there, where it passes the test
+abbrev pub kept_if : (Tree → Bool) → Option Tree → Option Tree
+kept_if p None = None
+kept_if p (Some d) = cond (p d) (Some d) None

@@ -1,9 +1,9 @@
 -- The laws of datasets, changes and keys.
-use Rattle.std.specs.Prelude.{◌≡◌, ℕ, List, true, false, Contains}
+use Rattle.std.specs.Prelude.{◌≡◌, ℕ, List, Bool, true, false, filter, Contains}
 use Rattle.std.specs.FinMap.Entries.{find}
 use Rattle.cs_value.specs.Tree.{Tree}
 use Rattle.cs_view.specs.Dataset.{At, id_cmp, ascending, is_dataset}
-use Rattle.cs_view.specs.Changes.{Edit, are_changes, are_documents, LeadFrom, LeadTo, Before, After, before_of, after_of, AreChangesBetween}
+use Rattle.cs_view.specs.Changes.{Edit, are_changes, are_documents, LeadFrom, LeadTo, Before, After, before_of, after_of, AreChangesBetween, changes_between, changes_where}
 use Rattle.cs_view.specs.Keys.{Sel}
 use Rattle.cs_view.specs.Touched.{touched}
 use Rattle.cs_view.specs.View.{edits}
@@ -33,10 +33,40 @@ abbrev pub ChangesLeadOnAndBack : Type 0
 ChangesLeadOnAndBack = (docs : List Tree) (cs : List Edit) → ascending docs ≡ true → are_changes cs ≡ true → LeadFrom docs cs
     → (Before docs cs ≡ docs) × LeadTo (After docs cs) cs × (Before (After docs cs) cs ≡ docs)
 
+-- changes that lead to a dataset lead back to the one before them, and from there on again
+abbrev pub ChangesLeadBackAndOn : Type 0
+ChangesLeadBackAndOn =
+    (docs : List Tree) (cs : List Edit) → ascending docs ≡ true → are_changes cs ≡ true
+    → LeadTo docs cs
+    → (After docs cs ≡ docs) × LeadFrom (Before docs cs) cs × (After (Before docs cs) cs ≡ docs)
+
+-- after two lists of changes in a row a dataset holds under each id what the second says, or else
+-- what the first says, or else what it held
+abbrev pub ChangesInARow : Type 0
+ChangesInARow =
+    (docs : List Tree) (cs es : List Edit) → are_changes cs ≡ true → are_changes es ≡ true
+    → (id : List ℕ)
+    → At id (After (After docs cs) es)
+    ≡ after_of (find id_cmp id es) (after_of (find id_cmp id cs) (At id docs))
+
+-- the documents that pass a test after changes are those that passed before, after the changes of
+-- those that pass
+abbrev pub FilterFollowsChanges : Type 0
+FilterFollowsChanges =
+    (p : Tree → Bool) (docs : List Tree) (cs : List Edit) → ascending docs ≡ true
+    → are_changes cs ≡ true
+    → filter p (After docs cs) ≡ After (filter p docs) (changes_where p cs)
+
 -- the changes between two datasets lead on from the one to the other
 abbrev pub ChangesLeadToTheOther : Type 0
 ChangesLeadToTheOther = (one other : List Tree) (cs : List Edit) → ascending one ≡ true → ascending other ≡ true → AreChangesBetween one other cs
     → (are_changes cs ≡ true) × LeadFrom one cs × (After one cs ≡ other)
+
+-- the list `changes_between` holds the changes between two datasets
+abbrev pub ChangesAreComputed : Type 0
+ChangesAreComputed =
+    (one other : List Tree) → ascending one ≡ true → ascending other ≡ true
+    → AreChangesBetween one other (changes_between one other)
 
 -- there is one list of the changes between two datasets
 abbrev pub ChangesAreOneList : Type 0

@@ -3,6 +3,7 @@ pub mod Dataset
 pub mod Document
 pub mod Keys
 pub mod Laws
+pub mod Limits
 pub mod Scopes
 pub mod Touched
 pub mod View

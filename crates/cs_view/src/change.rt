@@ -1,3 +1,4 @@
+//! Changes of a dataset.
 use crate::doc::Doc;
 use cs_value::Txt;
 

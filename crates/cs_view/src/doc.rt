@@ -1,3 +1,4 @@
+//! Documents.
 ghost use Rattle.std.specs.Prelude.{◌≡◌, true, false, IfOk, option_map, MatchResult, codes};
 ghost use Rattle.cs_value.specs.View.{tree};
 ghost use Rattle.cs_value.specs.Words.{text_at, is_object};

@@ -1,4 +1,6 @@
+//! Keys, by which documents are looked up.
 ghost use Rattle.std.specs.Prelude.{◌≡◌, ◌<◌, ◌≤◌, length};
+ghost use Rattle.cs_view.specs.Limits.{most_names};
 
 use cs_value::Txt;
 use std::marker::Model;
@@ -19,19 +21,20 @@ pub struct Names {
 
 impl Model for Names {
     ghost use Rattle.std.specs.Prelude.{ℕ, List, length, ◌<◌, ◌≤◌};
+    ghost use Rattle.cs_view.specs.Limits.{most_names};
 
     ghost Value = { List (List ℕ) };
 
     ghost view = { λ n. n.texts.items };
 
-    ghost invariant = { λ n. (0 < length n.texts.items) × (length n.texts.items ≤ 4) };
+    ghost invariant = { λ n. (0 < length n.texts.items) × (length n.texts.items ≤ most_names) };
 }
 
 impl Names {
     /// The names, of which there are at least one and at most four.
     pub fn of(texts: Vec<Txt>) -> Names
         requires some { 0 < length texts.items }
-        requires few { length texts.items ≤ 4 }
+        requires few { length texts.items ≤ most_names }
         ensures { result ≡ texts.items }
     {
         Names { texts }
@@ -39,7 +42,9 @@ impl Names {
 
     /// The names as a slice.
     pub fn texts(&self) -> &[Txt]
-        ensures { result.now ≡ self.now }
+        ensures names { result.now ≡ self.now }
+        ensures some { 0 < length self.now }
+        ensures few { length self.now ≤ most_names }
     {
         self.texts.as_slice()
     }

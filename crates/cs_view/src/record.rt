@@ -1,3 +1,4 @@
+//! What an evaluation looked up.
 ghost use Rattle.std.specs.Prelude.{◌≡◌, ◌++◌, ◌∷◌, [], OnOk, OnErr};
 ghost use Rattle.cs_view.specs.Touched.{touched, is_touched, touches};
 ghost use Rattle.cs_view.specs.View.{edit, edits};

@@ -1,3 +1,4 @@
+//! Keys, documents and records on small values.
 use super::*;
 use cs_value::{Fields, Txt, Val};
 use std::alloc::Global;

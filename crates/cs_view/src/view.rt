@@ -1,3 +1,4 @@
+//! Views: datasets that look their documents up by keys, under a counter of visits.
 ghost use Rattle.std.specs.Prelude.{◌≡◌, ◌+◌, ℕ, List, length, true, IfOk, IsSome, Option, Some, option_map, map};
 ghost use Rattle.cs_value.specs.Tree.{Tree};
 ghost use Rattle.cs_view.specs.Dataset.{At, is_dataset};

@@ -1,3 +1,4 @@
+//! The commands of a script.
 ghost use Rattle.std.specs.Prelude.{◌≡◌, Some, None, option_map, MatchResult};
 ghost use Rattle.cs_value.specs.View.{tree, fields};
 ghost use Rattle.cs_wire.specs.Commands.{mutate_of, query_of, live_of, listen_of, stop_of, at_of};

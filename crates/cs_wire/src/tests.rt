@@ -1,3 +1,4 @@
+//! Commands, from one line each.
 use super::*;
 use cs_value::{Fields, Txt, Val};
 use std::alloc::Global;
