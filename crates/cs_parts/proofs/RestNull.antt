@@ -1,5 +1,5 @@
 -- A rest of a chain gives null of null.
-use Rattle.std.proofs.Common.{◌≡◌, ℕ, ℤ, List, Bool, Option, Some, None, refl, ap, ◌∙◌}
+use Rattle.std.proofs.Common.{◌≡◌, ℕ, ℤ, List, ◌∷◌, Bool, Option, Some, None, refl, ap, ◌∙◌}
 use Rattle.cs_value.specs.Tree.{Tree, null, Pairs}
 use Rattle.cs_syntax.specs.Expression.{Expression, Step, attr, deref, each, slice, bracket, project, pipe, Steps, no_steps, more_steps}
 use Rattle.cs_plan.specs.Steps.{Bracketed, position, named, condition, bracketed, position_of}
@@ -40,16 +40,16 @@ pub rest-null : (docs : List Tree) (params : Pairs) (scope : List Tree) (ss : St
 rest-null docs params scope no_steps = refl
 rest-null docs params scope (more_steps s ss) =
     by_step s (rest-null docs params scope ss) where
-  by_step : (t : Step) → rest_value docs params ss scope null ≡ null
-      → rest_value docs params (more_steps t ss) scope null ≡ null
-  by_step (attr w) h = onward-null (way (form (attr w)) (kind ss)) _ _ _ refl h
-  by_step deref h = onward-null (way (form deref) (kind ss)) _ _ _ refl h
-  by_step each h = onward-null (way (form each) (kind ss)) _ _ _ refl h
-  by_step (slice from to closed) h =
-      onward-null (way (form (slice from to closed)) (kind ss)) _ _ _
-      (sliced-null (position_of from) (position_of to) closed) h
-  by_step (bracket e) h =
-      onward-null (way (form (bracket e)) (kind ss)) _ _ _
-      (bracket-null (bracketed e) (λ x. is_true (value docs params e (x ∷ scope)))) h
-  by_step (project es) h = onward-null (way (form (project es)) (kind ss)) _ _ _ refl h
-  by_step (pipe name ks) h = refl
+      by_step : (t : Step) → rest_value docs params ss scope null ≡ null
+          → rest_value docs params (more_steps t ss) scope null ≡ null
+      by_step (attr w) h = onward-null (way (form (attr w)) (kind ss)) _ _ _ refl h
+      by_step deref h = onward-null (way (form deref) (kind ss)) _ _ _ refl h
+      by_step each h = onward-null (way (form each) (kind ss)) _ _ _ refl h
+      by_step (slice from to closed) h =
+          onward-null (way (form (slice from to closed)) (kind ss)) _ _ _
+          (sliced-null (position_of from) (position_of to) closed) h
+      by_step (bracket e) h =
+          onward-null (way (form (bracket e)) (kind ss)) _ _ _
+          (bracket-null (bracketed e) (λ x. is_true (value docs params e (x ∷ scope)))) h
+      by_step (project es) h = onward-null (way (form (project es)) (kind ss)) _ _ _ refl h
+      by_step (pipe name ks) h = refl

@@ -261,11 +261,11 @@ conjunct-holds docs params e scope d h = tt
 abbrev AllTrue : List Tree → Pairs → List Tree → List Expression → Type 0
 AllTrue docs params scope es = AllByRecursion (λ e. is_true (value docs params e scope) ≡ true) es
 
-both-true : (docs : List Tree) (params : Pairs) (scope : List Tree) (xs ys : List Expression)
+all-true : (docs : List Tree) (params : Pairs) (scope : List Tree) (xs ys : List Expression)
     → AllTrue docs params scope xs → AllTrue docs params scope ys
     → AllTrue docs params scope (xs ++ ys)
-both-true docs params scope [] ys h g = g
-both-true docs params scope (x ∷ xs) ys h g = (h.0, both-true docs params scope xs ys h.1 g)
+all-true docs params scope [] ys h g = g
+all-true docs params scope (x ∷ xs) ys h g = (h.0, all-true docs params scope xs ys h.1 g)
 
 -- the conjuncts of a run: those of its sides where each operator is `&&`
 run-conjuncts : (docs : List Tree) (params : Pairs) (scope : List Tree) (b : Bool)
@@ -281,7 +281,7 @@ mutual
   conjuncts-true docs params (round e) scope h = conjuncts-true docs params e scope h
   conjuncts-true docs params (run e rest) scope h =
       run-conjuncts docs params scope (all_and rest) (conjuncts e ++ operand_conjuncts rest) (run e rest)
-      (λ a. both-true docs params scope (conjuncts e) (operand_conjuncts rest)
+      (λ a. all-true docs params scope (conjuncts e) (operand_conjuncts rest)
       (conjuncts-true docs params e scope (run-true docs params rest scope (value docs params e scope) a h))
       (operands-true docs params rest scope (value docs params e scope) a h)) h
   conjuncts-true docs params e scope h = (h, tt)
@@ -292,7 +292,7 @@ mutual
   operands-true docs params no_operands scope v a h = tt
   operands-true docs params (more_operands sign.And e rest) scope v a h =
       let w = value docs params e scope in
-      both-true docs params scope (conjuncts e) (operand_conjuncts rest)
+      all-true docs params scope (conjuncts e) (operand_conjuncts rest)
       (conjuncts-true docs params e scope (and-true v w (run-true docs params rest scope (operated sign.And v w) a h)).1)
       (operands-true docs params rest scope (operated sign.And v w) a h)
   operands-true docs params (more_operands s e rest) scope v a h = cc
