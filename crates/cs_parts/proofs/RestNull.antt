@@ -35,21 +35,29 @@ bracket-null (position n) passes = refl
 bracket-null (named w) passes = refl
 bracket-null condition passes = refl
 
+step-null : (docs : List Tree) (params : Pairs) (scope : List Tree) (ss : Steps) (s : Step)
+    → step_value docs params s scope null ≡ null → rest_value docs params ss scope null ≡ null
+    → rest_value docs params (more_steps s ss) scope null ≡ null
+step-null docs params scope ss s here later =
+    onward-null (way (form s) (kind ss)) (entrance (kind ss)) (step_value docs params s scope)
+    (rest_value docs params ss scope) here later
+
 pub rest-null : (docs : List Tree) (params : Pairs) (scope : List Tree) (ss : Steps)
     → rest_value docs params ss scope null ≡ null
 rest-null docs params scope no_steps = refl
-rest-null docs params scope (more_steps s ss) =
-    by_step s (rest-null docs params scope ss) where
-      by_step : (t : Step) → rest_value docs params ss scope null ≡ null
-          → rest_value docs params (more_steps t ss) scope null ≡ null
-      by_step (attr w) h = onward-null (way (form (attr w)) (kind ss)) _ _ _ refl h
-      by_step deref h = onward-null (way (form deref) (kind ss)) _ _ _ refl h
-      by_step each h = onward-null (way (form each) (kind ss)) _ _ _ refl h
-      by_step (slice from to closed) h =
-          onward-null (way (form (slice from to closed)) (kind ss)) _ _ _
-          (sliced-null (position_of from) (position_of to) closed) h
-      by_step (bracket e) h =
-          onward-null (way (form (bracket e)) (kind ss)) _ _ _
-          (bracket-null (bracketed e) (λ x. is_true (value docs params e (x ∷ scope)))) h
-      by_step (project es) h = onward-null (way (form (project es)) (kind ss)) _ _ _ refl h
-      by_step (pipe name ks) h = refl
+rest-null docs params scope (more_steps (attr w) ss) =
+    step-null docs params scope ss (attr w) refl (rest-null docs params scope ss)
+rest-null docs params scope (more_steps deref ss) =
+    step-null docs params scope ss deref refl (rest-null docs params scope ss)
+rest-null docs params scope (more_steps each ss) =
+    step-null docs params scope ss each refl (rest-null docs params scope ss)
+rest-null docs params scope (more_steps (slice from to closed) ss) =
+    step-null docs params scope ss (slice from to closed)
+    (sliced-null (position_of from) (position_of to) closed) (rest-null docs params scope ss)
+rest-null docs params scope (more_steps (bracket e) ss) =
+    step-null docs params scope ss (bracket e)
+    (bracket-null (bracketed e) (λ x. is_true (value docs params e (x ∷ scope))))
+    (rest-null docs params scope ss)
+rest-null docs params scope (more_steps (project es) ss) =
+    step-null docs params scope ss (project es) refl (rest-null docs params scope ss)
+rest-null docs params scope (more_steps (pipe name ks) ss) = refl
