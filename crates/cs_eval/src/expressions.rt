@@ -149,7 +149,7 @@ fn operate<'s, S: Source<C>, C>(
         alloc,
         eval(alloc, expr, frame, params, source, keys, count)?,
     )?;
-    Ok(Got::Whole(operated(alloc, sign, left.val(), right.val())?))
+    Ok(Got::Whole(operated(alloc, sign, left, right.val())?))
 }
 
 // `left in from..to`.

@@ -1,7 +1,7 @@
 // The numbers of `+`, `-`, `*`, `%` and the prefixes, and the joins of `+`.
 ghost use Rattle.std.specs.Prelude.{◌≡◌, ◌++◌, ℤ, FitsSigned, SomeIff, IsTrue, IfOk, IfErr, OnOk, map};
 ghost use Rattle.std.specs.Int.{w64};
-ghost use Rattle.cs_value.specs.Tree.{Pairs, object};
+ghost use Rattle.cs_value.specs.Tree.{Pairs, text, list, trees, object};
 ghost use Rattle.cs_value.specs.View.{tree, fields, list_tree};
 ghost use Rattle.cs_ops.specs.Arithmetic.{number, remainder, merged, sum, joins};
 
@@ -40,6 +40,68 @@ pub(crate) fn sum(alloc: Global, a: &Val, b: &Val) -> Result<Val, NoMemory>
         (Val::Obj(_), Val::Obj(right)) => put_all(alloc, a.copy(alloc)?, right),
         _ => Ok(Val::Null),
     }
+}
+
+// The value of `a + b`, for which the text, list or object on the left grows.
+pub(crate) fn sum_onto(alloc: Global, a: Val, b: &Val) -> Result<Val, NoMemory>
+    ensures value { IfOk result (λ v. tree v ≡ sum (tree a) (tree b.now)) }
+    ensures memory { IfErr result (λ _. IsTrue (joins (tree a) (tree b.now))) }
+{
+    match b {
+        Val::Text(t) => text_onto(a, t),
+        Val::List(more) => list_onto(alloc, a, more),
+        Val::Obj(right) => object_onto(alloc, a, right),
+        _ => sum(alloc, &a, b),
+    }
+}
+
+fn text_onto(a: Val, right: &Txt) -> Result<Val, NoMemory>
+    ensures value { IfOk result (λ v. tree v ≡ sum (tree a) (text right.now)) }
+    ensures memory { IfErr result (λ _. IsTrue (joins (tree a) (text right.now))) }
+{
+    match a {
+        Val::Text(left) => Ok(Val::Text(longer_text(left, right)?)),
+        _ => Ok(Val::Null),
+    }
+}
+
+fn list_onto(alloc: Global, a: Val, more: &Vec<Val>) -> Result<Val, NoMemory>
+    ensures value { IfOk result (λ v. tree v
+        ≡ sum (tree a) (list (trees (list_tree more.now.items)))) }
+    ensures memory { IfErr result
+        (λ _. IsTrue (joins (tree a) (list (trees (list_tree more.now.items))))) }
+{
+    match a {
+        Val::List(items) => Ok(Val::List(longer_list(alloc, items, more)?)),
+        _ => Ok(Val::Null),
+    }
+}
+
+fn object_onto(alloc: Global, a: Val, right: &Fields) -> Result<Val, NoMemory>
+    ensures value { IfOk result (λ v. tree v ≡ sum (tree a) (object (fields right.now))) }
+    ensures memory { IfErr result (λ _. IsTrue (joins (tree a) (object (fields right.now)))) }
+{
+    match a {
+        Val::Obj(_) => put_all(alloc, a, right),
+        _ => Ok(Val::Null),
+    }
+}
+
+fn longer_text(left: Txt, right: &Txt) -> Result<Txt, NoMemory>
+    ensures { IfOk result (λ t. t ≡ left ++ right.now) }
+{
+    let mut text = left.into_string();
+    text.push_str(right.as_str())?;
+    Ok(Txt::from_string(text))
+}
+
+fn longer_list(alloc: Global, left: Vec<Val>, right: &Vec<Val>) -> Result<Vec<Val>, NoMemory>
+    ensures { IfOk result (λ v. list_tree v.items
+        ≡ list_tree left.items ++ list_tree right.now.items) }
+{
+    let mut items = left;
+    push_copies(alloc, right, &mut items)?;
+    Ok(items)
 }
 
 fn joined_texts(alloc: Global, left: &Txt, right: &Txt) -> Result<Txt, NoMemory>

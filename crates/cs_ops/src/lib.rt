@@ -14,7 +14,7 @@ pub use laws::{
     total_is_a_preorder,
 };
 pub use op::{Op, Pre};
-pub use operators::{between, binary, prefix, within};
+pub use operators::{between, binary, binary_onto, prefix, within};
 pub use sign::operator;
 
 #[cfg(test)]

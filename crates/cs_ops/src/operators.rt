@@ -7,7 +7,7 @@ ghost use Rattle.cs_ops.specs.Arithmetic.{joins};
 ghost use Rattle.cs_ops.specs.Operators.{binary, prefix, within, between};
 ghost use Rattle.cs_ops.specs.Truth.{truth, said, both, either};
 
-use crate::arithmetic::{number, remainder, sum};
+use crate::arithmetic::{number, remainder, sum, sum_onto};
 use crate::compare::{equal, partial};
 use crate::op::{Op, Pre};
 use cs_value::{NoMemory, Val};
@@ -91,6 +91,18 @@ pub fn binary(alloc: Global, op: Op, a: &Val, b: &Val) -> Result<Val, NoMemory>
         Op::Ge => Ok(compared!(a, b, is_ge)),
         Op::And => Ok(said(both(truth(a), truth(b)))),
         Op::Or => Ok(said(either(truth(a), truth(b)))),
+    }
+}
+
+/// The value of `a op b`, where `a` is given up: for `+` the text, list or object of `a` grows, so
+/// that a run of `+` costs what it makes. `NoMemory` as of [`binary`].
+pub fn binary_onto(alloc: Global, op: Op, a: Val, b: &Val) -> Result<Val, NoMemory>
+    ensures value { IfOk result (λ v. tree v ≡ binary op (tree a) (tree b.now)) }
+    ensures memory { IfErr result (λ _. (op ≡ Op.Add) × IsTrue (joins (tree a) (tree b.now))) }
+{
+    match op {
+        Op::Add => sum_onto(alloc, a, b),
+        _ => binary(alloc, op, &a, b),
     }
 }
 

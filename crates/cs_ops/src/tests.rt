@@ -520,6 +520,8 @@ fn worked_values(rt: HostRuntime) -> Result<(), Fail> {
     for (op, a, b, wanted) in &cases {
         let found = shown(alloc, &binary(alloc, *op, a, b)?)?;
         assert_eq!(rt; found.as_str(), *wanted, "at {:?}", *op);
+        let onto = shown(alloc, &binary_onto(alloc, *op, a.copy(alloc)?, b)?)?;
+        assert_eq!(rt; onto.as_str(), *wanted, "onto, at {:?}", *op);
     }
     Ok(())
 }

@@ -2,9 +2,10 @@ pub mod Agree
 pub mod Arities
 pub mod Constants
 pub mod Digits
-pub mod ListPlaces
 pub mod Keys
+pub mod ListPlaces
 pub mod Places
+pub mod RestNull
 pub mod Shapes
 pub mod Shown
 pub mod Silent

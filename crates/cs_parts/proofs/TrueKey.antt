@@ -2,7 +2,7 @@
 use Rattle.std.proofs.Common.{◌≡◌, ℕ, Bool, true, false, cond, ◌||◌, List, [], ◌∷◌, ◌++◌, refl, sym, ◌∙◌, subst, Option, Some, None}
 use Rattle.std.specs.Prelude.{⊤, filter, codes, option_map, option_and_then, option_to_list, unwrap_or, if◌then◌else◌}
 use Rattle.std.specs.Option.{option_or}
-use Rattle.std.specs.List.{list_any}
+use Rattle.std.specs.List.{list_any, AllByRecursion}
 use Rattle.std.specs.Str.{bytes_eq}
 use Rattle.std.proofs.lemmas.Cmp.{int_eq_equiv}
 use Rattle.std.proofs.lemmas.Map.Text.{is_eq-slice_cmp}
@@ -26,7 +26,7 @@ use Rattle.cs_view.specs.declared.key.Scalar.TheVariants.{Bool as Boolean, Num, 
 use Rattle.cs_view.specs.declared.key.Key.{Key}
 use Rattle.cs_view.specs.declared.key.Key.TheVariants.{Id, Path, Elem, Ref}
 use Rattle.cs_plan.specs.Constants.{fields, constant}
-use Rattle.cs_plan.specs.Filters.{path_of, is_id_path, equals_key, of_both, equality_key, element_key, scalar_text, reference_key, conjunct_key, all_and, conjunct_keys, operands_keys, is_id, is_ref, is_path, is_elem, by_kind, first_or_all, key_in}
+use Rattle.cs_plan.specs.Filters.{path_of, is_id_path, equals_key, of_both, equality_key, element_key, scalar_text, reference_key, conjunct_key, all_and, conjuncts, operand_conjuncts, keys_given, is_id_key, is_ref_key, is_path_key, is_element_key, by_kind, first_or_all, key_in}
 use Rattle.cs_parts.specs.Operators.{is_true, operated, in_list_or_path, coalescing, selecting, referring, applying, called, references}
 use Rattle.cs_parts.specs.Values.{value, run_value, path_pattern, coalesced, selected, arguments_values}
 use Rattle.cs_parts.proofs.Constants.{scalar_tree, constant-value, IsAt, path-value, fields-followed, equals-equal}
@@ -58,9 +58,9 @@ filter-holds p (k ∷ ks) d h = kept-holds (p k) k (filter p ks) d h.0 (filter-h
 
 kinds-hold : (ks : List Key) (d : Tree) → AllHold ks d → AllHold (by_kind ks) d
 kinds-hold ks d h =
-    append-holds (filter is_id ks) _ d (filter-holds is_id ks d h)
-    (append-holds (filter is_ref ks) _ d (filter-holds is_ref ks d h)
-    (append-holds (filter is_path ks) _ d (filter-holds is_path ks d h) (filter-holds is_elem ks d h)))
+    append-holds (filter is_id_key ks) _ d (filter-holds is_id_key ks d h)
+    (append-holds (filter is_ref_key ks) _ d (filter-holds is_ref_key ks d h)
+    (append-holds (filter is_path_key ks) _ d (filter-holds is_path_key ks d h) (filter-holds is_element_key ks d h)))
 
 first-holds : (ks : List Key) (d : Tree) → AllHold ks d → has (first_or_all ks) d ≡ true
 first-holds [] d h = refl
@@ -257,32 +257,59 @@ conjunct-holds docs params (within left right) scope d h = element-holds docs pa
 conjunct-holds docs params (call name args) scope d h = reference-holds docs params name args scope d h
 conjunct-holds docs params e scope d h = tt
 
--- the keys of a run: those of its conjuncts where each operator is `&&`
-run-holds : (b : Bool) (ks : List Key) (o : Option Key) (d : Tree) → (b ≡ true → AllHold ks d) → Holds o d → AllHold (cond b ks (option_to_list o)) d
-run-holds true ks o d h g = h refl
-run-holds false ks o d h g = one-holds o d g
+-- each expression is true of the document
+abbrev AllTrue : List Tree → Pairs → List Tree → List Expression → Type 0
+AllTrue docs params scope es = AllByRecursion (λ e. is_true (value docs params e scope) ≡ true) es
+
+all-true : (docs : List Tree) (params : Pairs) (scope : List Tree) (xs ys : List Expression)
+    → AllTrue docs params scope xs → AllTrue docs params scope ys
+    → AllTrue docs params scope (xs ++ ys)
+all-true docs params scope [] ys h g = g
+all-true docs params scope (x ∷ xs) ys h g = (h.0, all-true docs params scope xs ys h.1 g)
+
+-- the conjuncts of a run: those of its sides where each operator is `&&`
+run-conjuncts : (docs : List Tree) (params : Pairs) (scope : List Tree) (b : Bool)
+    (xs : List Expression) (e : Expression) → (b ≡ true → AllTrue docs params scope xs)
+    → is_true (value docs params e scope) ≡ true
+    → AllTrue docs params scope (cond b xs (e ∷ []))
+run-conjuncts docs params scope true xs e h g = h refl
+run-conjuncts docs params scope false xs e h g = (g, tt)
 
 mutual
-  conjuncts-hold : (docs : List Tree) (params : Pairs) (e : Expression) (scope : List Tree) (d : Tree) → is_true (value docs params e (d ∷ scope)) ≡ true → AllHold (conjunct_keys e scope params) d
-  conjuncts-hold docs params (round e) scope d h = conjuncts-hold docs params e scope d h
-  conjuncts-hold docs params (run e rest) scope d h =
-      run-holds (all_and rest) (conjunct_keys e scope params ++ operands_keys rest scope params) (conjunct_key (run e rest) scope params) d
-      (λ a. append-holds (conjunct_keys e scope params) (operands_keys rest scope params) d
-      (conjuncts-hold docs params e scope d (run-true docs params rest (d ∷ scope) (value docs params e (d ∷ scope)) a h))
-      (operands-hold docs params rest scope d (value docs params e (d ∷ scope)) a h))
-      (conjunct-holds docs params (run e rest) scope d h)
-  conjuncts-hold docs params e scope d h = one-holds (conjunct_key e scope params) d (conjunct-holds docs params e scope d h)
+  conjuncts-true : (docs : List Tree) (params : Pairs) (e : Expression) (scope : List Tree)
+      → is_true (value docs params e scope) ≡ true → AllTrue docs params scope (conjuncts e)
+  conjuncts-true docs params (round e) scope h = conjuncts-true docs params e scope h
+  conjuncts-true docs params (run e rest) scope h =
+      run-conjuncts docs params scope (all_and rest) (conjuncts e ++ operand_conjuncts rest) (run e rest)
+      (λ a. all-true docs params scope (conjuncts e) (operand_conjuncts rest)
+      (conjuncts-true docs params e scope (run-true docs params rest scope (value docs params e scope) a h))
+      (operands-true docs params rest scope (value docs params e scope) a h)) h
+  conjuncts-true docs params e scope h = (h, tt)
 
-  operands-hold : (docs : List Tree) (params : Pairs) (rest : Operands) (scope : List Tree) (d v : Tree) → all_and rest ≡ true → is_true (run_value docs params rest (d ∷ scope) v) ≡ true → AllHold (operands_keys rest scope params) d
-  operands-hold docs params no_operands scope d v a h = tt
-  operands-hold docs params (more_operands sign.And e rest) scope d v a h =
-      let w = value docs params e (d ∷ scope) in
-      append-holds (conjunct_keys e scope params) (operands_keys rest scope params) d
-      (conjuncts-hold docs params e scope d (and-true v w (run-true docs params rest (d ∷ scope) (operated sign.And v w) a h)).1)
-      (operands-hold docs params rest scope d (operated sign.And v w) a h)
-  operands-hold docs params (more_operands s e rest) scope d v a h = cc
+  operands-true : (docs : List Tree) (params : Pairs) (rest : Operands) (scope : List Tree) (v : Tree)
+      → all_and rest ≡ true → is_true (run_value docs params rest scope v) ≡ true
+      → AllTrue docs params scope (operand_conjuncts rest)
+  operands-true docs params no_operands scope v a h = tt
+  operands-true docs params (more_operands sign.And e rest) scope v a h =
+      let w = value docs params e scope in
+      all-true docs params scope (conjuncts e) (operand_conjuncts rest)
+      (conjuncts-true docs params e scope (and-true v w (run-true docs params rest scope (operated sign.And v w) a h)).1)
+      (operands-true docs params rest scope (operated sign.And v w) a h)
+  operands-true docs params (more_operands s e rest) scope v a h = cc
+
+-- a document of which each conjunct is true has the keys that they give
+given-hold : (docs : List Tree) (params : Pairs) (scope : List Tree) (d : Tree)
+    (es : List Expression) → AllTrue docs params (d ∷ scope) es
+    → AllHold (keys_given scope params es) d
+given-hold docs params scope d [] h = tt
+given-hold docs params scope d (e ∷ es) h =
+    append-holds (option_to_list (conjunct_key e scope params)) (keys_given scope params es) d
+    (one-holds (conjunct_key e scope params) d (conjunct-holds docs params e scope d h.0))
+    (given-hold docs params scope d es h.1)
 
 -- a document that makes a filter true has the filter's key, over every dataset
 pub true-has_key : (docs : List Tree) (params : Pairs) (e : Expression) (scope : List Tree) (d : Tree) → is_true (value docs params e (d ∷ scope)) ≡ true → has (key_in e scope params) d ≡ true
 true-has_key docs params e scope d h =
-    first-holds (by_kind (conjunct_keys e scope params)) d (kinds-hold (conjunct_keys e scope params) d (conjuncts-hold docs params e scope d h))
+    let keys = keys_given scope params (conjuncts e) in
+    first-holds (by_kind keys) d
+    (kinds-hold keys d (given-hold docs params scope d (conjuncts e) (conjuncts-true docs params e (d ∷ scope) h)))

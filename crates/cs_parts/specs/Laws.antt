@@ -1,8 +1,8 @@
 -- The laws of values and of what is looked up, for all expressions, also those that no text spells.
 use Rattle.std.specs.Prelude.{◌≡◌, IsTrue, Bool, List, [], ◌∷◌, Contains, IsPermutation, IsSorted}
 use Rattle.std.specs.List.Sorted.{IsStable}
-use Rattle.cs_value.specs.Tree.{Tree, Pairs}
-use Rattle.cs_syntax.specs.Expression.{Expression}
+use Rattle.cs_value.specs.Tree.{Tree, null, Pairs}
+use Rattle.cs_syntax.specs.Expression.{Expression, Steps}
 use Rattle.cs_view.specs.Keys.{has, Sel}
 use Rattle.cs_view.specs.declared.key.Key.{Key}
 use Rattle.cs_plan.specs.Filters.{key_in}
@@ -11,7 +11,7 @@ use Rattle.cs_parts.specs.Hits.{hits, tail}
 use Rattle.cs_parts.specs.Looked.{looked, query_looked}
 use Rattle.cs_parts.specs.Operators.{is_true}
 use Rattle.cs_parts.specs.Ordered.{Ranked, ranks, sorted}
-use Rattle.cs_parts.specs.Values.{value, query_value}
+use Rattle.cs_parts.specs.Values.{value, rest_value, query_value}
 
 -- Two lists of documents have the same documents of each of these keys, in the same order.
 abbrev pub AgreeOn : List Key → List Tree → List Tree → Type 0
@@ -50,3 +50,9 @@ QuietAsksNothing = (e : Expression) (params : Pairs) (scope d1 d2 : List Tree) �
 -- The hits of a query are found among the documents that have its key.
 abbrev pub HitsHaveKey : Type 0
 HitsHaveKey = (e : Expression) (params : Pairs) (docs : List Tree) → hits e params docs ≡ hits e params (Sel (key_of e params) docs)
+
+-- A rest of a chain gives null of null.
+abbrev pub RestKeepsNull : Type 0
+RestKeepsNull =
+    (params : Pairs) (scope docs : List Tree) (ss : Steps)
+    → rest_value docs params ss scope null ≡ null

@@ -1,6 +1,6 @@
 //! What values and look-ups have in common over all expressions, those that no text spells among
 //! them. The functions do nothing: each is there for its clause.
-ghost use Rattle.cs_parts.specs.Laws.{LookedSettlesValue, TrueHasKey, SimpleLooksUpItsKey, SimpleIsTailOfHits, QuietAsksNothing, HitsHaveKey, SortedInOrder, SortedInOneWay};
+ghost use Rattle.cs_parts.specs.Laws.{LookedSettlesValue, TrueHasKey, SimpleLooksUpItsKey, SimpleIsTailOfHits, RestKeepsNull, QuietAsksNothing, HitsHaveKey, SortedInOrder, SortedInOneWay};
 
 use cs_ops::total_is_a_preorder;
 
@@ -35,6 +35,11 @@ pub fn quiet_asks_nothing()
 /// The documents that make a simple query's filter true are among those that have its key.
 pub fn hits_have_key()
     ensures { HitsHaveKey }
+{}
+
+/// A rest of a chain gives null of null.
+pub fn rest_keeps_null()
+    ensures { RestKeepsNull }
 {}
 
 /// `order` gives the one list that has the same elements, ascends by their keys under the total

@@ -30,8 +30,8 @@ pub use item::{Item, push};
 pub use join::{Entrance, Form, Kind, Shape, Way};
 pub use joins::{behind, entrance_of, first_kind, form_of, gives_array, kinds, way_of};
 pub use laws::{
-    hits_have_key, looked_settles_value, quiet_asks_nothing, simple_is_tail_of_hits,
-    simple_looks_up_its_key, sorted_in_one_way, true_has_key,
+    hits_have_key, looked_settles_value, quiet_asks_nothing, rest_keeps_null,
+    simple_is_tail_of_hits, simple_looks_up_its_key, sorted_in_one_way, true_has_key,
 };
 pub use listed::{directions, items_of};
 pub use literals::{at_level, decides, operated, param, signed};

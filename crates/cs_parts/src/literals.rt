@@ -4,10 +4,10 @@ ghost use Rattle.cs_value.specs.View.{tree, fields};
 ghost use Rattle.cs_view.specs.Scopes.{scope};
 ghost use Rattle.cs_plan.specs.Steps.{in_scope};
 ghost use Rattle.cs_parts.specs.Operators.{parameter, operator, operated, decides, front_operator, signed, is_true};
-ghost use Rattle.cs_parts.specs.Parts.{got};
+ghost use Rattle.cs_parts.specs.Parts.{got, item};
 
-use crate::{Got, is_false};
-use cs_ops::{Op, Pre, binary, prefix};
+use crate::{Got, Item, is_false};
+use cs_ops::{Op, Pre, binary, binary_onto, prefix};
 use cs_plan::up;
 use cs_syntax::{BinSign, PreSign};
 use cs_value::{Fields, NoMemory, Val};
@@ -57,14 +57,22 @@ fn operator(sign: BinSign) -> Option<Op>
     }
 }
 
-/// The value of a sign between two values.
+/// The value of a sign between two values. What was made for the left one is used again.
 #[tactic(auto, using(crate::proofs::Trees::tree_of_null))]
-pub fn operated(alloc: Global, sign: BinSign, left: &Val, right: &Val) -> Result<Val, NoMemory>
-    ensures { IfOk result (λ v. tree v ≡ operated sign (tree left.now) (tree right.now)) }
+pub fn operated(
+    alloc: Global,
+    sign: BinSign,
+    left: Item<'_>,
+    right: &Val,
+) -> Result<Val, NoMemory>
+    ensures { IfOk result (λ v. tree v ≡ operated sign (item left.entry) (tree right.now)) }
 {
-    match operator(sign) {
-        Some(op) => binary(alloc, op, left, right),
-        None => Ok(Val::Null),
+    let Some(op) = operator(sign) else {
+        return Ok(Val::Null);
+    };
+    match left {
+        Item::Lent(val) => binary(alloc, op, val, right),
+        Item::Made(val) => binary_onto(alloc, op, val, right),
     }
 }
 

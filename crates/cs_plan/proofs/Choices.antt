@@ -1,12 +1,12 @@
 -- The best of some keys is the first by kind.
-use Rattle.std.proofs.Common.{◌≡◌, ℕ, List, [], ◌∷◌, ◌++◌, refl, sym, ap, ◌∙◌, ℕ, true≢false, nat_lt, Bool, true, false, cond, arith}
+use Rattle.std.proofs.Common.{◌≡◌, ℕ, List, [], ◌∷◌, ◌++◌, append_assoc, Option, Some, None, refl, sym, ap, ◌∙◌, true≢false, nat_lt, Bool, true, false, cond, arith}
 use Rattle.std.specs.Prelude.{fold, filter, option_to_list}
 use Rattle.std.proofs.lemmas.Grind.{common_steps}
 use Rattle.cs_value.specs.Tree.{Tree, Pairs}
 use Rattle.cs_syntax.specs.Expression.{Expression, run, Operands}
 use Rattle.cs_view.specs.declared.key.Key.{Key}
 use Rattle.cs_view.specs.declared.key.Key.TheVariants.{All, Id, Path, Elem, Ref}
-use Rattle.cs_plan.specs.Filters.{all_and, conjunct_keys, operands_keys, first_or_all, by_kind, conjunct_key, is_id, is_ref, is_path, is_elem}
+use Rattle.cs_plan.specs.Filters.{all_and, conjuncts, operand_conjuncts, keys_given, first_or_all, by_kind, conjunct_key, is_id_key, is_ref_key, is_path_key, is_element_key}
 use Rattle.cs_plan.specs.Picked.{rank, picked}
 
 associative : (a b c : Key) → picked a (picked b c) ≡ picked (picked a b) c
@@ -60,28 +60,28 @@ under k x h = ap (λ (b : Bool). cond b x k) h
 over : (k x : Key) → nat_lt (rank x) (rank k) ≡ false → picked k x ≡ k
 over k x h = ap (λ (b : Bool). cond b x k) h
 
-rank_id : (x : Key) → is_id x ≡ true → rank x ≡ 0
+rank_id : (x : Key) → is_id_key x ≡ true → rank x ≡ 0
 rank_id (Id t) h = refl
 rank_id (Ref t) h = absurd (true≢false (sym h))
 rank_id (Path ns s) h = absurd (true≢false (sym h))
 rank_id (Elem ns s) h = absurd (true≢false (sym h))
 rank_id All h = absurd (true≢false (sym h))
 
-rank_ref : (x : Key) → is_ref x ≡ true → rank x ≡ 1
+rank_ref : (x : Key) → is_ref_key x ≡ true → rank x ≡ 1
 rank_ref (Id t) h = absurd (true≢false (sym h))
 rank_ref (Ref t) h = refl
 rank_ref (Path ns s) h = absurd (true≢false (sym h))
 rank_ref (Elem ns s) h = absurd (true≢false (sym h))
 rank_ref All h = absurd (true≢false (sym h))
 
-rank_path : (x : Key) → is_path x ≡ true → rank x ≡ 2
+rank_path : (x : Key) → is_path_key x ≡ true → rank x ≡ 2
 rank_path (Id t) h = absurd (true≢false (sym h))
 rank_path (Ref t) h = absurd (true≢false (sym h))
 rank_path (Path ns s) h = refl
 rank_path (Elem ns s) h = absurd (true≢false (sym h))
 rank_path All h = absurd (true≢false (sym h))
 
-rank_elem : (x : Key) → is_elem x ≡ true → rank x ≡ 3
+rank_elem : (x : Key) → is_element_key x ≡ true → rank x ≡ 3
 rank_elem (Id t) h = absurd (true≢false (sym h))
 rank_elem (Ref t) h = absurd (true≢false (sym h))
 rank_elem (Path ns s) h = absurd (true≢false (sym h))
@@ -105,15 +105,15 @@ first_id t All = refl
 lead : (k : Key) (ks : List Key) → first_or_all (by_kind (k ∷ ks)) ≡ picked k (first_or_all (by_kind ks))
 lead All ks = sym (all_with (first_or_all (by_kind ks)))
 lead (Id t) ks = sym (first_id t (first_or_all (by_kind ks)))
-lead (Ref t) ks = through is_id (Ref t) (lower is_id 0 (Ref t) rank_id refl) ks _ (filter is_ref ks ++ (filter is_path ks ++ filter is_elem ks))
-    (stays is_ref (Ref t) (higher is_ref 1 (Ref t) rank_ref refl) ks _ (stays is_path (Ref t) (higher is_path 2 (Ref t) rank_path refl) ks _ (last is_elem (Ref t) (higher is_elem 3 (Ref t) rank_elem refl) ks)))
-lead (Path ns s) ks = through is_id (Path ns s) (lower is_id 0 (Path ns s) rank_id refl) ks _ (filter is_ref ks ++ (filter is_path ks ++ filter is_elem ks))
-    (through is_ref (Path ns s) (lower is_ref 1 (Path ns s) rank_ref refl) ks _ (filter is_path ks ++ filter is_elem ks)
-    (stays is_path (Path ns s) (higher is_path 2 (Path ns s) rank_path refl) ks _ (last is_elem (Path ns s) (higher is_elem 3 (Path ns s) rank_elem refl) ks)))
-lead (Elem ns s) ks = through is_id (Elem ns s) (lower is_id 0 (Elem ns s) rank_id refl) ks _ (filter is_ref ks ++ (filter is_path ks ++ filter is_elem ks))
-    (through is_ref (Elem ns s) (lower is_ref 1 (Elem ns s) rank_ref refl) ks _ (filter is_path ks ++ filter is_elem ks)
-    (through is_path (Elem ns s) (lower is_path 2 (Elem ns s) rank_path refl) ks _ (filter is_elem ks)
-    (last is_elem (Elem ns s) (higher is_elem 3 (Elem ns s) rank_elem refl) ks)))
+lead (Ref t) ks = through is_id_key (Ref t) (lower is_id_key 0 (Ref t) rank_id refl) ks _ (filter is_ref_key ks ++ (filter is_path_key ks ++ filter is_element_key ks))
+    (stays is_ref_key (Ref t) (higher is_ref_key 1 (Ref t) rank_ref refl) ks _ (stays is_path_key (Ref t) (higher is_path_key 2 (Ref t) rank_path refl) ks _ (last is_element_key (Ref t) (higher is_element_key 3 (Ref t) rank_elem refl) ks)))
+lead (Path ns s) ks = through is_id_key (Path ns s) (lower is_id_key 0 (Path ns s) rank_id refl) ks _ (filter is_ref_key ks ++ (filter is_path_key ks ++ filter is_element_key ks))
+    (through is_ref_key (Path ns s) (lower is_ref_key 1 (Path ns s) rank_ref refl) ks _ (filter is_path_key ks ++ filter is_element_key ks)
+    (stays is_path_key (Path ns s) (higher is_path_key 2 (Path ns s) rank_path refl) ks _ (last is_element_key (Path ns s) (higher is_element_key 3 (Path ns s) rank_elem refl) ks)))
+lead (Elem ns s) ks = through is_id_key (Elem ns s) (lower is_id_key 0 (Elem ns s) rank_id refl) ks _ (filter is_ref_key ks ++ (filter is_path_key ks ++ filter is_element_key ks))
+    (through is_ref_key (Elem ns s) (lower is_ref_key 1 (Elem ns s) rank_ref refl) ks _ (filter is_path_key ks ++ filter is_element_key ks)
+    (through is_path_key (Elem ns s) (lower is_path_key 2 (Elem ns s) rank_path refl) ks _ (filter is_element_key ks)
+    (last is_element_key (Elem ns s) (higher is_element_key 3 (Elem ns s) rank_elem refl) ks)))
 
 from : (ks : List Key) (k : Key) → fold picked k ks ≡ picked k (first_or_all (by_kind ks))
 from [] k = sym (with_all k)
@@ -126,16 +126,50 @@ taken : {A : Type 0} (b : Bool) (x y : A) → b ≡ true → cond b x y ≡ x
 taken true x y h = refl
 taken false x y h = absurd (true≢false (sym h))
 
-pub keys_of_run : (e : Expression) (rest : Operands) (scope : List Tree) (params : Pairs) → all_and rest ≡ true → conjunct_keys (run e rest) scope params ≡ conjunct_keys e scope params ++ operands_keys rest scope params
-keys_of_run e rest scope params h = taken (all_and rest) _ _ h
+-- the conjuncts of a run of `&&` are those of its sides
+pub keys_of_run : (e : Expression) (rest : Operands) (scope : List Tree) (params : Pairs)
+    → all_and rest ≡ true
+    → keys_given scope params (conjuncts (run e rest))
+    ≡ keys_given scope params (conjuncts e ++ operand_conjuncts rest)
+keys_of_run e rest scope params h = ap (keys_given scope params) (taken (all_and rest) _ _ h)
 
 untaken : {A : Type 0} (b : Bool) (x y : A) → b ≡ false → cond b x y ≡ y
 untaken true x y h = absurd (true≢false h)
 untaken false x y h = refl
 
-pub keys_of_other : (e : Expression) (rest : Operands) (scope : List Tree) (params : Pairs) → all_and rest ≡ false → conjunct_keys (run e rest) scope params ≡ option_to_list (conjunct_key (run e rest) scope params)
-keys_of_other e rest scope params h = untaken (all_and rest) _ _ h
+one_key : (o : Option Key) → option_to_list o ++ [] ≡ option_to_list o
+one_key None = refl
+one_key (Some k) = refl
 
-pub fold_both : (k : Key) (xs ys : List Key) → fold picked k (xs ++ ys) ≡ fold picked (fold picked k xs) ys
+-- any other run is one conjunct
+pub keys_of_other : (e : Expression) (rest : Operands) (scope : List Tree) (params : Pairs)
+    → all_and rest ≡ false
+    → keys_given scope params (conjuncts (run e rest))
+    ≡ option_to_list (conjunct_key (run e rest) scope params)
+keys_of_other e rest scope params h =
+    ap (keys_given scope params) (untaken (all_and rest) _ _ h)
+    ∙ one_key (conjunct_key (run e rest) scope params)
+
+fold_both : (k : Key) (xs ys : List Key) → fold picked k (xs ++ ys) ≡ fold picked (fold picked k xs) ys
 fold_both k [] ys = refl
 fold_both k (x ∷ xs) ys = fold_both (picked k x) xs ys
+
+pub given_both : (scope : List Tree) (params : Pairs) (xs ys : List Expression)
+    → keys_given scope params (xs ++ ys) ≡ keys_given scope params xs ++ keys_given scope params ys
+given_both scope params [] ys = refl
+given_both scope params (x ∷ xs) ys =
+    ap (λ ks. option_to_list (conjunct_key x scope params) ++ ks) (given_both scope params xs ys)
+    ∙ sym (append_assoc (option_to_list (conjunct_key x scope params)) (keys_given scope params xs)
+    (keys_given scope params ys))
+
+-- the best of the keys of two lists of conjuncts is found one list after the other
+pub fold_given : (k : Key) (scope : List Tree) (params : Pairs) (xs ys : List Expression)
+    → fold picked k (keys_given scope params (xs ++ ys))
+    ≡ fold picked (fold picked k (keys_given scope params xs)) (keys_given scope params ys)
+fold_given k scope params xs ys =
+    ap (fold picked k) (given_both scope params xs ys)
+    ∙ fold_both k (keys_given scope params xs) (keys_given scope params ys)
+
+pub fold_one : (k : Key) (o : Option Key)
+    → fold picked k (option_to_list o ++ []) ≡ fold picked k (option_to_list o)
+fold_one k o = ap (fold picked k) (one_key o)

@@ -1,6 +1,6 @@
 -- The key of a filter: which documents alone can make it true, as far as its form tells: this project's profile, over the
 -- operators of GROQ-1.revision1, "And operator", "Equality operators", "In operator", "references()".
-use Rattle.std.specs.Prelude.{ℕ, List, [], ◌∷◌, ◌++◌, Bool, true, false, nat_le, length, filter, Option, Some, None, option_map, option_and_then, option_to_list, codes, if◌then◌else◌}
+use Rattle.std.specs.Prelude.{ℕ, List, [], ◌∷◌, ◌++◌, Bool, true, false, nat_le, length, filter, flat_map, Option, Some, None, option_map, option_and_then, option_to_list, codes, if◌then◌else◌}
 use Rattle.std.specs.Option.{option_or}
 use Rattle.std.specs.Str.{bytes_eq}
 use Rattle.cs_value.specs.Tree.{Tree, Pairs}
@@ -74,44 +74,46 @@ all_and (more_operands sign.And e rest) = all_and rest
 all_and _ = false
 
 abbrev mutual
-  -- The keys that the conjuncts of a filter give, from the left. Conjuncts are what `&&` joins; round brackets around one
-  -- are opened.
-  pub conjunct_keys : Expression → List Tree → Pairs → List Key
-  conjunct_keys (round e) scope params = conjunct_keys e scope params
-  conjunct_keys (run e rest) scope params =
-      if all_and rest then conjunct_keys e scope params ++ operands_keys rest scope params
-      else option_to_list (conjunct_key (run e rest) scope params)
-  conjunct_keys e scope params = option_to_list (conjunct_key e scope params)
+  -- The conjuncts of a filter: what `&&` joins, from the left; round brackets around one are opened.
+  pub conjuncts : Expression → List Expression
+  conjuncts (round e) = conjuncts e
+  conjuncts (run e rest) =
+      if all_and rest then conjuncts e ++ operand_conjuncts rest else run e rest ∷ []
+  conjuncts e = e ∷ []
 
   -- The same of the right sides of a run of `&&`.
-  pub operands_keys : Operands → List Tree → Pairs → List Key
-  operands_keys no_operands scope params = []
-  operands_keys (more_operands s e rest) scope params = conjunct_keys e scope params ++ operands_keys rest scope params
+  pub operand_conjuncts : Operands → List Expression
+  operand_conjuncts no_operands = []
+  operand_conjuncts (more_operands s e rest) = conjuncts e ++ operand_conjuncts rest
+
+-- The keys that these conjuncts give, from the left.
+abbrev pub keys_given : List Tree → Pairs → List Expression → List Key
+keys_given scope params es = flat_map (λ e. option_to_list (conjunct_key e scope params)) es
 
 -- A key is one of an id.
-abbrev pub is_id : Key → Bool
-is_id (Id t) = true
-is_id k = false
+abbrev pub is_id_key : Key → Bool
+is_id_key (Id t) = true
+is_id_key k = false
 
 -- A key is one of a reference.
-abbrev pub is_ref : Key → Bool
-is_ref (Ref t) = true
-is_ref k = false
+abbrev pub is_ref_key : Key → Bool
+is_ref_key (Ref t) = true
+is_ref_key k = false
 
 -- A key is one of a value at a path.
-abbrev pub is_path : Key → Bool
-is_path (Path names s) = true
-is_path k = false
+abbrev pub is_path_key : Key → Bool
+is_path_key (Path names s) = true
+is_path_key k = false
 
 -- A key is one of an element of a list at a path.
-abbrev pub is_elem : Key → Bool
-is_elem (Elem names s) = true
-is_elem k = false
+abbrev pub is_element_key : Key → Bool
+is_element_key (Elem names s) = true
+is_element_key k = false
 
 -- The keys by their kinds: an id, then a reference, then a value at a path, then an element of a list; those of one kind
 -- from the left.
 abbrev pub by_kind : List Key → List Key
-by_kind ks = filter is_id ks ++ (filter is_ref ks ++ (filter is_path ks ++ filter is_elem ks))
+by_kind ks = filter is_id_key ks ++ (filter is_ref_key ks ++ (filter is_path_key ks ++ filter is_element_key ks))
 
 -- The first key, `All` where there is none.
 abbrev pub first_or_all : List Key → Key
@@ -121,4 +123,4 @@ first_or_all (k ∷ ks) = k
 -- The key of a filter, in the scope in which its chain stands: the leftmost of the first kind that some conjunct gives;
 -- `All` where none gives one.
 abbrev pub key_in : Expression → List Tree → Pairs → Key
-key_in e scope params = first_or_all (by_kind (conjunct_keys e scope params))
+key_in e scope params = first_or_all (by_kind (keys_given scope params (conjuncts e)))

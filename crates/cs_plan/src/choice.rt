@@ -1,6 +1,6 @@
 //! The key of a filter: the best that its conjuncts give, found in one pass.
 ghost use Rattle.std.specs.Prelude.{◌≡◌, IfOk, fold, option_map, option_to_list};
-ghost use Rattle.cs_plan.specs.Filters.{all_and, conjunct_keys, operands_keys, key_in};
+ghost use Rattle.cs_plan.specs.Filters.{all_and, conjuncts, operand_conjuncts, keys_given, key_in};
 ghost use Rattle.cs_plan.specs.Lent.{key_lent};
 ghost use Rattle.cs_plan.specs.Picked.{picked};
 ghost use Rattle.cs_syntax.specs.Expression.{operands_of};
@@ -48,7 +48,7 @@ fn all_and(rest: &[(BinSign, Expr)]) -> bool
 
 // The best of the key so far and those that the conjuncts of the filter give.
 #[cycle(best)]
-#[tactic(auto, using(crate::proofs::Choices::keys_of_run, crate::proofs::Choices::keys_of_other, crate::proofs::Choices::fold_both, crate::proofs::Views::expression_run), unfolding(cs_syntax::specs::View::expression))]
+#[tactic(auto, using(crate::proofs::Choices::keys_of_run, crate::proofs::Choices::keys_of_other, crate::proofs::Choices::fold_given, crate::proofs::Choices::fold_one, crate::proofs::Views::expression_run), unfolding(cs_syntax::specs::View::expression))]
 fn best<'f>(
     so_far: LentKey<'f>,
     expr: &'f Expr,
@@ -57,7 +57,7 @@ fn best<'f>(
 ) -> LentKey<'f>
     ensures { key_lent result
         ≡ fold picked (key_lent so_far.entry)
-        (conjunct_keys (expression expr.now) (values_of scope.now) (fields params.now)) }
+        (keys_given (values_of scope.now) (fields params.now) (conjuncts (expression expr.now))) }
 {
     match expr {
         Expr::Round(inner) => best(so_far, inner, scope, params),
@@ -73,7 +73,7 @@ fn best<'f>(
 }
 
 #[cycle(best)]
-#[tactic(auto, using(crate::proofs::Choices::fold_both), unfolding(cs_syntax::specs::View::operands))]
+#[tactic(auto, using(crate::proofs::Choices::fold_given), unfolding(cs_syntax::specs::View::operands))]
 fn best_of_operands<'f>(
     so_far: LentKey<'f>,
     rest: &'f [(BinSign, Expr)],
@@ -82,7 +82,8 @@ fn best_of_operands<'f>(
 ) -> LentKey<'f>
     ensures { key_lent result
         ≡ fold picked (key_lent so_far.entry)
-        (operands_keys (operands_of (operands rest.now)) (values_of scope.now) (fields params.now)) }
+        (keys_given (values_of scope.now) (fields params.now)
+        (operand_conjuncts (operands_of (operands rest.now)))) }
 {
     let mut key = so_far;
     for (_, operand) in rest {
