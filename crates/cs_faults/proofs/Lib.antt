@@ -1,3 +1,4 @@
 pub mod Firsts
 pub mod Views
 pub mod Digits
+pub mod NamedFunctions

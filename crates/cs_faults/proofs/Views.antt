@@ -1,75 +1,9 @@
--- The expression of a tree that holds a list, and the lists of the code's trees as those inside an expression.
-use Rattle.std.proofs.Common.{◌≡◌, ℕ, ◌<◌, List, [], ◌∷◌, map, length, refl, arith, rules, Vec, Box, Global, Bool}
-use Rattle.cs_syntax.specs.Expression.{call, chain, run, within, between, slice, bracket, project, pipe, bare, when, when_argument, order_key, arguments_of, entries_of, steps_of, operands_of, keys_of}
+-- A piped call with a key.
+use Rattle.std.proofs.Common.{◌≡◌, ℕ, ◌<◌, List, [], ◌∷◌, map, length, refl}
+use Rattle.cs_syntax.specs.Expression.{keys_of}
 use Rattle.cs_syntax.specs.Faults.{order_faults}
-use Rattle.cs_syntax.specs.Functions.{count_of}
-use Rattle.cs_syntax.specs.View.{expression, arg, entry, step, key, operands}
-use Rattle.cs_syntax.specs.declared.tree.Arg.{Arg, the_lemmas}
-use Rattle.cs_syntax.specs.declared.tree.BinSign.{BinSign}
-use Rattle.cs_syntax.specs.declared.tree.Arg as arg_code
-use Rattle.cs_syntax.specs.declared.tree.Entry.{Entry}
-use Rattle.cs_syntax.specs.declared.tree.Entry as entry_code
-use Rattle.cs_syntax.specs.declared.tree.Expr.{Expr}
-use Rattle.cs_syntax.specs.declared.tree.Expr as code
+use Rattle.cs_syntax.specs.View.{key}
 use Rattle.cs_syntax.specs.declared.tree.OrderKey.{OrderKey}
-use Rattle.cs_syntax.specs.declared.tree.Step.{Step as CodeStep}
-use Rattle.cs_syntax.specs.declared.tree.Step as step_code
-
-pub expression_call : (name : List ℕ) (args : Vec Arg Global) → expression (code.Call name args) ≡ call name (arguments_of (map arg args.items))
-unfolding expression arg
-expression_call name args = search (rules, the_lemmas)
-
-pub expression_chain : (base : Box Expr Global) (ss : Vec CodeStep Global) → expression (code.Chain base ss) ≡ chain (expression base.value) (steps_of (map step ss.items))
-unfolding expression step
-expression_chain base ss = search (rules, the_lemmas)
-
-pub expression_run : (first : Box Expr Global) (rest : Vec (BinSign × Expr) Global) → expression (code.Run first rest) ≡ run (expression first.value) (operands_of (operands rest.items))
-unfolding expression operands
-expression_run first rest = search (rules, the_lemmas)
-
-pub step_project : (es : Vec Entry Global) → step (step_code.Project es) ≡ project (entries_of (map entry es.items))
-unfolding step entry
-step_project es = search (rules, the_lemmas)
-
-pub step_pipe : (name : List ℕ) (ks : Vec OrderKey Global) → step (step_code.Pipe name ks) ≡ pipe name (keys_of (map key ks.items))
-unfolding step key
-step_pipe name ks = search (rules, the_lemmas)
-
-pub step_slice : (from to : Expr) (closed : Bool) → step (step_code.Slice from to closed) ≡ slice (expression from) (expression to) closed
-unfolding step expression
-step_slice from to closed = search (rules, the_lemmas)
-
-pub step_bracket : (e : Expr) → step (step_code.Bracket e) ≡ bracket (expression e)
-unfolding step expression
-step_bracket e = search (rules, the_lemmas)
-
-pub expression_within : (left right : Box Expr Global) → expression (code.Within left right) ≡ within (expression left.value) (expression right.value)
-unfolding expression
-expression_within left right = search (rules, the_lemmas)
-
-pub expression_between : (left from to : Box Expr Global) (closed : Bool) → expression (code.Between left from to closed) ≡ between (expression left.value) (expression from.value) (expression to.value) closed
-unfolding expression
-expression_between left from to closed = search (rules, the_lemmas)
-
-pub entry_bare : (e : Expr) → entry (entry_code.Bare e) ≡ bare (expression e)
-unfolding entry expression
-entry_bare e = search (rules, the_lemmas)
-
-pub entry_when : (c e : Expr) → entry (entry_code.When c e) ≡ when (expression c) (expression e)
-unfolding entry expression
-entry_when c e = search (rules, the_lemmas)
-
-pub arg_when : (c e : Expr) → arg (arg_code.When c e) ≡ when_argument (expression c) (expression e)
-unfolding arg expression
-arg_when c e = search (rules, the_lemmas)
-
-pub key_seen : (k : OrderKey) → key k ≡ order_key (expression k.key) k.desc
-unfolding key expression
-key_seen k = search (rules, the_lemmas)
-
-pub count_of_arguments : (xs : List Arg) → count_of (arguments_of (map arg xs)) ≡ length xs
-count_of_arguments [] = refl
-count_of_arguments (x ∷ xs) = omega (arith, count_of_arguments xs)
 
 pub order_with_key : (name : List ℕ) (ks : List OrderKey) → 0 < length ks → order_faults name (keys_of (map key ks)) ≡ []
 order_with_key name [] some = elim some [ ]

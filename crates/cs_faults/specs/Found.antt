@@ -1,7 +1,7 @@
 -- What contracts see of a fault and of an arity, and for private clauses what a check has found.
-use Rattle.std.specs.Prelude.{Option, Some, None, Result, Ok, Err}
-use Rattle.cs_syntax.specs.Faults.{Fault, unsupported, unknown_function, arity, no_key}
-use Rattle.cs_syntax.specs.Functions.{Arity, exactly, at_least, pairs_and_default}
+use Rattle.std.specs.Prelude.{ℕ, List, ◌||◌, if◌then◌else◌, Option, Some, None, Result, Ok, Err}
+use Rattle.cs_syntax.specs.Faults.{Fault, unsupported, unknown_function, arity, no_key, is_path}
+use Rattle.cs_syntax.specs.Functions.{Arity, exactly, at_least, pairs_and_default, is_left_out}
 use Rattle.cs_faults.specs.declared.fault.Fault.{Fault as CodeFault}
 use Rattle.cs_faults.specs.declared.fault.Fault.TheVariants.{Unsupported, UnknownFunction, Arity as WrongArity, NoKey}
 use Rattle.cs_faults.specs.declared.functions.Arity.{Arity as CodeArity}
@@ -24,6 +24,10 @@ arity_told PairsAndDefault = pairs_and_default
 abbrev pub found : {A : Type 0} → Result A CodeFault → Option Fault
 found (Ok x) = None
 found (Err f) = Some (told f)
+
+-- for private clauses: the fault of a call whose name no function has
+abbrev pub no_function : List ℕ → Fault
+no_function name = if is_left_out name || is_path name then unsupported name else unknown_function name
 
 -- for private clauses: the first that is there
 abbrev pub first_or : Option Fault → Option Fault → Option Fault

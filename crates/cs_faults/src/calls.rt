@@ -1,12 +1,12 @@
 // The faults that one token of an expression may have, but for numbers.
-ghost use Rattle.std.specs.Prelude.{◌≡◌, map, option_map, Some};
+ghost use Rattle.std.specs.Prelude.{◌≡◌, map, Some};
 ghost use Rattle.cs_syntax.specs.Expression.{arguments_of, keys_of};
 ghost use Rattle.cs_syntax.specs.Faults.{first_of, operator_faults, arity_faults, is_path, call_faults, right_call_faults, order_faults, pipe_faults, bracket_faults, slice_faults, key_faults};
 ghost use Rattle.cs_syntax.specs.Brackets.{key_of};
 ghost use Rattle.cs_syntax.specs.View.{arg as argument_of, expression, key as order_key_of};
-ghost use Rattle.cs_faults.specs.Found.{found, arity_told};
+ghost use Rattle.cs_faults.specs.Found.{found, told, arity_told, no_function};
 
-use crate::brackets::{is_constant, is_position, is_text, key_of};
+use crate::brackets::is_constant;
 use crate::fault::Fault;
 use crate::functions::{Arity, accepts, arity_of, is_left_out};
 use cs_syntax::{Arg, BinSign, Expr, OrderKey};
@@ -22,33 +22,47 @@ pub(crate) fn check_operator<'e>(sign: BinSign) -> Result<(), Fault<'e>>
     }
 }
 
-fn check_arity<'e>(name: &'e str, args: &[Arg], arity: Option<Arity>) -> Result<(), Fault<'e>>
+fn check_arity<'e>(name: &'e str, args: &[Arg], arity: Arity) -> Result<(), Fault<'e>>
     ensures { found result ≡ first_of
-        (arity_faults name.now (arguments_of (map argument_of args.now)) (option_map arity_told arity)) }
+        (arity_faults name.now (arguments_of (map argument_of args.now)) (Some (arity_told arity))) }
 {
-    match arity {
-        None => Err(Fault::UnknownFunction { name }),
-        Some(arity) if accepts(arity, args) => Ok(()),
-        Some(_) => Err(Fault::Arity { name }),
+    if accepts(arity, args) {
+        Ok(())
+    } else {
+        Err(Fault::Arity { name })
+    }
+}
+
+// The fault of a name that no function has.
+fn no_function<'e>(name: &'e str) -> Fault<'e>
+    ensures { told result ≡ no_function name.now }
+{
+    if is_left_out(name) || name == "path" {
+        Fault::Unsupported { name }
+    } else {
+        Fault::UnknownFunction { name }
     }
 }
 
 /// The fault of the name of a call that is not alone on the right of `in`.
+#[tactic(auto, using(crate::proofs::NamedFunctions::call_of_function))]
 pub(crate) fn check_call<'e>(name: &'e str, args: &[Arg]) -> Result<(), Fault<'e>>
-    ensures { found result ≡ first_of (call_faults name.now (arguments_of (map argument_of args.now))) }
+    ensures { found result ≡ first_of
+        (call_faults name.now (arguments_of (map argument_of args.now))) }
 {
-    if is_left_out(name) || name == "path" {
-        return Err(Fault::Unsupported { name });
+    match arity_of(name) {
+        Some(arity) => check_arity(name, args, arity),
+        None => Err(no_function(name)),
     }
-    check_arity(name, args, arity_of(name))
 }
 
 /// The fault of the name of a call that is alone on the right of `in`.
 pub(crate) fn check_right_call<'e>(name: &'e str, args: &[Arg]) -> Result<(), Fault<'e>>
-    ensures { found result ≡ first_of (right_call_faults name.now (arguments_of (map argument_of args.now))) }
+    ensures { found result ≡ first_of
+        (right_call_faults name.now (arguments_of (map argument_of args.now))) }
 {
     if name == "path" {
-        return check_arity(name, args, Some(Arity::Exactly(1)));
+        return check_arity(name, args, Arity::Exactly(1));
     }
     check_call(name, args)
 }
@@ -80,7 +94,7 @@ pub(crate) fn check_pipe<'e>(name: &'e str, keys: &[OrderKey]) -> Result<(), Fau
 pub(crate) fn check_bracket<'e>(inner: &'e Expr) -> Result<(), Fault<'e>>
     ensures { found result ≡ first_of (bracket_faults (expression inner.now)) }
 {
-    if !is_position(inner) && !is_text(inner) && is_constant(inner) {
+    if !inner.is_position() && !inner.is_text() && is_constant(inner) {
         return Err(Fault::Unsupported { name: "constant" });
     }
     Ok(())
@@ -90,7 +104,7 @@ pub(crate) fn check_bracket<'e>(inner: &'e Expr) -> Result<(), Fault<'e>>
 pub(crate) fn check_slice<'e>(from: &'e Expr, to: &'e Expr) -> Result<(), Fault<'e>>
     ensures { found result ≡ first_of (slice_faults (expression from.now) (expression to.now)) }
 {
-    if is_position(from) && is_position(to) {
+    if from.is_position() && to.is_position() {
         Ok(())
     } else {
         Err(Fault::Unsupported {
@@ -103,7 +117,7 @@ pub(crate) fn check_slice<'e>(from: &'e Expr, to: &'e Expr) -> Result<(), Fault<
 pub(crate) fn check_key<'e>(value: &'e Expr) -> Result<(), Fault<'e>>
     ensures { found result ≡ first_of (key_faults (key_of (expression value.now))) }
 {
-    match key_of(value) {
+    match value.key() {
         Some(_) => Ok(()),
         None => Err(Fault::NoKey),
     }

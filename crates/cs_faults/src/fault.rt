@@ -1,3 +1,5 @@
+// What an expression may be refused for.
+
 /// A fault of an expression: this project's profile. Names are those that the text has, borrowed.
 #[derive(Clone, Copy, Debug, Drop, PartialEq, Eq)]
 pub enum Fault<'e> {

@@ -4,11 +4,11 @@ ghost use Rattle.std.specs.List.{list_any, starts_with};
 ghost use Rattle.std.specs.Prelude.{nat_eq};
 ghost use Rattle.std.specs.Str.{bytes_eq};
 ghost use Rattle.cs_syntax.specs.Expression.{arguments_of};
-ghost use Rattle.cs_syntax.specs.Functions.{arity_of, accepts, all_plain, pairs_come_first, is_left_out, is_left_out_here, without_global};
+ghost use Rattle.cs_syntax.specs.Functions.{arity_of, accepts, all_plain, pairs_come_first, is_left_out, is_left_out_here};
 ghost use Rattle.cs_syntax.specs.View.{arg as argument_of};
 ghost use Rattle.cs_faults.specs.Found.{arity_told};
 
-use cs_syntax::Arg;
+use cs_syntax::{Arg, without_global};
 use cs_table::{Row, Table};
 
 /// The arguments that a function takes.
@@ -42,23 +42,52 @@ macro_rules! names {
     ($($name:literal => $arity:expr),*) => { [$(Name { name: $name, arity: $arity }),*] };
 }
 
+static FUNCTIONS: [Name; 22] = names!(
+    "array::compact" => Arity::Exactly(1),
+    "array::join" => Arity::Exactly(2),
+    "array::unique" => Arity::Exactly(1),
+    "coalesce" => Arity::AtLeast(0),
+    "count" => Arity::Exactly(1),
+    "defined" => Arity::Exactly(1),
+    "global::coalesce" => Arity::AtLeast(0),
+    "global::count" => Arity::Exactly(1),
+    "global::defined" => Arity::Exactly(1),
+    "global::length" => Arity::Exactly(1),
+    "global::references" => Arity::AtLeast(1),
+    "global::select" => Arity::PairsAndDefault,
+    "global::string" => Arity::Exactly(1),
+    "length" => Arity::Exactly(1),
+    "math::max" => Arity::Exactly(1),
+    "math::min" => Arity::Exactly(1),
+    "math::sum" => Arity::Exactly(1),
+    "references" => Arity::AtLeast(1),
+    "select" => Arity::PairsAndDefault,
+    "string" => Arity::Exactly(1),
+    "string::split" => Arity::Exactly(2),
+    "string::startsWith" => Arity::Exactly(2)
+);
+
+static LEFT_OUT: [&str; 11] = [
+    "round",
+    "lower",
+    "upper",
+    "dateTime",
+    "identity",
+    "now",
+    "before",
+    "after",
+    "score",
+    "boost",
+    "math::avg",
+];
+
+static NAMESPACES_LEFT_OUT: [&str; 5] = ["pt::", "geo::", "sanity::", "delta::", "diff::"];
+
+/// The arguments that the function of the name takes: `None` exactly where no function has it.
 pub(crate) fn arity_of(name: &str) -> Option<Arity>
     ensures { option_map arity_told result ≡ arity_of name.now }
 {
-    let rows = names!(
-        "array::compact" => Arity::Exactly(1), "array::join" => Arity::Exactly(2),
-        "array::unique" => Arity::Exactly(1), "coalesce" => Arity::AtLeast(0),
-        "count" => Arity::Exactly(1), "defined" => Arity::Exactly(1),
-        "global::coalesce" => Arity::AtLeast(0), "global::count" => Arity::Exactly(1),
-        "global::defined" => Arity::Exactly(1), "global::length" => Arity::Exactly(1),
-        "global::references" => Arity::AtLeast(1), "global::select" => Arity::PairsAndDefault,
-        "global::string" => Arity::Exactly(1), "length" => Arity::Exactly(1),
-        "math::max" => Arity::Exactly(1), "math::min" => Arity::Exactly(1),
-        "math::sum" => Arity::Exactly(1), "references" => Arity::AtLeast(1),
-        "select" => Arity::PairsAndDefault, "string" => Arity::Exactly(1),
-        "string::split" => Arity::Exactly(2), "string::startsWith" => Arity::Exactly(2)
-    );
-    let table = Table::over(&rows);
+    let table = Table::over(&FUNCTIONS);
     match table.find(name) {
         Some(row) => Some(row.arity),
         None => None,
@@ -94,7 +123,7 @@ fn pairs_come_first(args: &[Arg]) -> bool
 }
 
 /// Whether a call may have these arguments.
-#[tactic(auto, using(crate::proofs::Views::count_of_arguments))]
+#[tactic(auto, using(cs_syntax::proofs::Views::count_of_arguments))]
 pub(crate) fn accepts(arity: Arity, args: &[Arg]) -> bool
     ensures { result ≡ accepts (arity_told arity) (arguments_of (map argument_of args.now)) }
 {
@@ -128,35 +157,10 @@ fn begins_with_one(name: &[u8], spaces: &[&str]) -> bool
     false
 }
 
-fn without_global(name: &str) -> &[u8]
-    ensures { result.now ≡ without_global name.now }
-{
-    let bytes = name.as_bytes();
-    if bytes.starts_with("global::".as_bytes()) {
-        &bytes[8..]
-    } else {
-        bytes
-    }
-}
-
 /// Whether the profile leaves out the function of the name, or all of its namespace.
 pub(crate) fn is_left_out(name: &str) -> bool
     ensures { result ≡ is_left_out name.now }
 {
     let name = without_global(name);
-    let functions = [
-        "round",
-        "lower",
-        "upper",
-        "dateTime",
-        "identity",
-        "now",
-        "before",
-        "after",
-        "score",
-        "boost",
-        "math::avg",
-    ];
-    let spaces = ["pt::", "geo::", "sanity::", "delta::", "diff::"];
-    is_among(name, &functions) || begins_with_one(name, &spaces)
+    is_among(name, &LEFT_OUT) || begins_with_one(name, &NAMESPACES_LEFT_OUT)
 }

@@ -1,23 +1,11 @@
 // Numbers that the profile leaves out.
 ghost use Rattle.std.specs.Prelude.{◌≡◌};
 ghost use Rattle.cs_syntax.specs.Faults.{number_faults, first_of};
-ghost use Rattle.cs_syntax.specs.Numbers.{has_exponent, has_fraction, is_wide};
+ghost use Rattle.cs_syntax.specs.Numbers.{is_wide};
 ghost use Rattle.cs_faults.specs.Found.{found};
 
 use crate::fault::Fault;
-
-fn has_exponent(number: &str) -> bool
-    ensures { result ≡ has_exponent number.now }
-{
-    let bytes = number.as_bytes();
-    bytes.contains(&b'e') || bytes.contains(&b'E')
-}
-
-fn has_fraction(number: &str) -> bool
-    ensures { result ≡ has_fraction number.now }
-{
-    number.as_bytes().contains(&b'.')
-}
+use cs_syntax::{has_exponent, has_fraction};
 
 // It stops at the first digit with which the number is above 2^63-1.
 fn is_wide(number: &str) -> bool

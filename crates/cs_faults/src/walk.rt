@@ -15,7 +15,7 @@ use crate::numbers::check_number;
 use cs_syntax::{Arg, BinSign, Elem, Entry, Expr, OrderKey, Step};
 
 // At the first token of an expression.
-#[tactic(auto, using(crate::proofs::Views::expression_call), unfolding(cs_syntax::specs::View::expression))]
+#[tactic(auto, using(cs_syntax::proofs::Views::expression_call), unfolding(cs_syntax::specs::View::expression))]
 fn check_first<'e>(expr: &'e Expr) -> Result<(), Fault<'e>>
     ensures { found result ≡ first_of (at_first (expression expr.now)) }
 {
@@ -31,7 +31,7 @@ fn check_first<'e>(expr: &'e Expr) -> Result<(), Fault<'e>>
 }
 
 // At the first token of what stands on the right of `in`.
-#[tactic(auto, using(crate::proofs::Views::expression_call), unfolding(cs_syntax::specs::View::expression))]
+#[tactic(auto, using(cs_syntax::proofs::Views::expression_call), unfolding(cs_syntax::specs::View::expression))]
 fn check_right<'e>(expr: &'e Expr) -> Result<(), Fault<'e>>
     ensures { found result ≡ first_of (at_right (expression expr.now)) }
 {

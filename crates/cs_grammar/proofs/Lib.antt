@@ -6,6 +6,7 @@ pub mod First
 pub mod Ends
 pub mod Complete
 pub mod TextAlone
+pub mod TextKeys
 pub mod Taken
 pub mod SoundLevels
 pub mod SoundLists

@@ -309,11 +309,12 @@ pub fn spread_this() -> Entry
     Entry::Spread(Expr::This)
 }
 
-#[tactic(auto, unfolding(cs_syntax::specs::View::expression))]
+// Whether the expression is a text alone, and so the key of an entry before a colon.
+#[tactic(auto, using(crate::proofs::TextKeys::text_has_key))]
 pub fn is_text(e: &Box<Expr>) -> bool
     ensures { IsTrue result ↔ IsSome (key_of (expression e.now.value)) }
 {
-    matches!(**e, Expr::Text(_))
+    e.is_text()
 }
 
 // An entry with a key, where the expression before the colon is a text alone.

@@ -8,4 +8,5 @@ mod Same
 mod Stepped
 mod Told
 mod Tokens
+mod Trees
 mod Verdicts

@@ -12,3 +12,5 @@ pub mod Quoted
 pub mod Sequences
 pub mod Signed
 pub mod Unescaped
+pub mod Views
+pub mod SignBytes

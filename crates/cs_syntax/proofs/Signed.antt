@@ -22,19 +22,19 @@ rows-any (r ∷ rows) s = by_name (is_eq (slice_cmp nat_cmp r.0 s)) (is_eq-slice
     by_name true is h = ap (λ b. b || list_any (λ x. bytes_eq x s) (map (λ (x : List ℕ × Sign). x.0) rows)) is
     by_name false is h = h ∙ ap (λ b. b || list_any (λ x. bytes_eq x s) (map (λ (x : List ℕ × Sign). x.0) rows)) is
 
-and-false : (a : Bool) → (a && false) ≡ false
+pub and-false : (a : Bool) → (a && false) ≡ false
 and-false true = refl
 and-false false = refl
 
-and-true : (a : Bool) → (a && true) ≡ a
+pub and-true : (a : Bool) → (a && true) ≡ a
 and-true true = refl
 and-true false = refl
 
-or-false : (a : Bool) → (a || false) ≡ a
+pub or-false : (a : Bool) → (a || false) ≡ a
 or-false true = refl
 or-false false = refl
 
-and-assoc : (a b c : Bool) → (a && (b && c)) ≡ (a && b && c)
+pub and-assoc : (a b c : Bool) → (a && (b && c)) ≡ (a && b && c)
 and-assoc true b c = refl
 and-assoc false b c = refl
 

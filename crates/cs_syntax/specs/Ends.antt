@@ -1,11 +1,13 @@
 -- For private clauses: how far each kind of token reaches from a place of a text. Past the end of the
 -- text the byte is 0, which is in no token but a text.
-use Rattle.std.specs.Prelude.{ℕ, zero, suc, ◌+◌, ◌*◌, Bool, not, ◌&&◌, ◌||◌, ◌==◌, nat_lt, if◌then◌else◌, List, [], ◌∷◌, drop, Option, Some, None, option_map, option_and_then, slice_index}
+use Rattle.std.specs.Prelude.{ℕ, zero, suc, ◌+◌, ◌*◌, Bool, not, ◌&&◌, ◌||◌, ◌==◌, nat_lt, if◌then◌else◌, List, [], ◌∷◌, drop, Option, Some, None, option_map, option_and_then, find, slice_index}
 use Rattle.std.specs.List.{prefix_len, list_any}
 use Rattle.std.specs.Char.{is_ascii_digit, digit_value, is_digit}
 use Rattle.std.specs.Char.Utf16.{is_high_surrogate, is_low_surrogate, surrogate_pair_char}
 use Rattle.cs_syntax.specs.declared.token.Kind.{Kind}
 use Rattle.cs_syntax.specs.declared.token.Kind.TheVariants as kind
+use Rattle.cs_syntax.specs.declared.sign.Sign.{Sign}
+use Rattle.cs_syntax.specs.declared.sign.Sign.TheVariants as sign
 use Rattle.cs_syntax.specs.Escapes.{is_quote, letter, braced, piece}
 use Rattle.cs_syntax.specs.Lex.{is_letter, is_word_byte}
 
@@ -98,20 +100,36 @@ above zero = 1
 above (suc d) = 16 * above d
 
 -- the signs of one and of two bytes
-abbrev pub ones : List ℕ
-ones = 33 ∷ 37 ∷ 40 ∷ 41 ∷ 42 ∷ 43 ∷ 44 ∷ 45 ∷ 46 ∷ 47 ∷ 58 ∷ 60 ∷ 62 ∷ 64 ∷ 91 ∷ 93 ∷ 94 ∷ 123 ∷ 124 ∷ 125 ∷ []
+abbrev pub ones : List (ℕ × Sign)
+ones = (33, sign.Not) ∷ (37, sign.Percent) ∷ (40, sign.OpenParen) ∷ (41, sign.CloseParen)
+    ∷ (42, sign.Star) ∷ (43, sign.Plus) ∷ (44, sign.Comma) ∷ (45, sign.Minus) ∷ (46, sign.Dot)
+    ∷ (47, sign.Slash) ∷ (58, sign.Colon) ∷ (60, sign.Lt) ∷ (62, sign.Gt) ∷ (64, sign.At)
+    ∷ (91, sign.OpenBracket) ∷ (93, sign.CloseBracket) ∷ (94, sign.Caret) ∷ (123, sign.OpenBrace)
+    ∷ (124, sign.Pipe) ∷ (125, sign.CloseBrace) ∷ []
 
-abbrev pub twos : List (ℕ × ℕ)
-twos = (33, 61) ∷ (38, 38) ∷ (42, 42) ∷ (45, 62) ∷ (46, 46) ∷ (58, 58) ∷ (60, 61) ∷ (61, 61) ∷ (61, 62) ∷ (62, 61) ∷ (124, 124) ∷ []
+abbrev pub twos : List ((ℕ × ℕ) × Sign)
+twos = ((33, 61), sign.Ne) ∷ ((38, 38), sign.AndAnd) ∷ ((42, 42), sign.StarStar)
+    ∷ ((45, 62), sign.Arrow) ∷ ((46, 46), sign.DotDot) ∷ ((58, 58), sign.ColonColon)
+    ∷ ((60, 61), sign.Le) ∷ ((61, 61), sign.EqEq) ∷ ((61, 62), sign.FatArrow)
+    ∷ ((62, 61), sign.Ge) ∷ ((124, 124), sign.OrOr) ∷ []
+
+abbrev pub one_of : ℕ → Option Sign
+one_of a = option_map (λ row. row.1) (find (λ row. row.0 == a) ones)
+
+abbrev pub two_of : ℕ → ℕ → Option Sign
+two_of a b = option_map (λ row. row.1) (find (λ row. row.0.0 == a && row.0.1 == b) twos)
 
 abbrev pub is_one : ℕ → Bool
-is_one a = list_any (λ y. y == a) ones
+is_one a = list_any (λ row. row.0 == a) ones
 
 abbrev pub is_two : ℕ → ℕ → Bool
-is_two a b = list_any (λ y. y.0 == a && y.1 == b) twos
+is_two a b = list_any (λ row. row.0.0 == a && row.0.1 == b) twos
 
 abbrev pub is_three : ℕ → ℕ → ℕ → Bool
 is_three a b c = 46 == a && 46 == b && 46 == c
+
+abbrev pub three_of : ℕ → ℕ → ℕ → Option Sign
+three_of a b c = if is_three a b c then Some sign.DotDotDot else None
 
 -- how many bytes the sign at the front has, 0 where none stands there
 abbrev pub sign_len : ℕ → ℕ → ℕ → ℕ

@@ -1,5 +1,5 @@
 -- The expression that a tree of the code stands for: each variant as the constructor of its name.
-use Rattle.std.specs.Prelude.{ℕ, List, map}
+use Rattle.std.specs.Prelude.{List, map}
 use Rattle.cs_syntax.specs.Expression.{Expression, null_literal, bool_literal, number_literal, text_literal, param, word, this, everything, parent, round, call, array, object_literal, chain, prefix, run, within, between, Step, attr, deref, each, slice, bracket, project, pipe, Entry, keyed, bare, when, spread, Element, element, spread_element, Argument, argument, when_argument, OrderKey, order_key, operands_of, steps_of, entries_of, elements_of, arguments_of, keys_of}
 use Rattle.cs_syntax.specs.declared.tree.BinSign.{BinSign}
 use Rattle.cs_syntax.specs.declared.tree.Arg.{Arg, fold-Arg}

@@ -4,6 +4,7 @@
 mod blank;
 mod decode;
 mod escape;
+mod forms;
 mod laws;
 mod longest;
 mod number;
@@ -12,6 +13,7 @@ mod sign;
 mod text;
 mod token;
 mod tree;
+mod written;
 
 pub use decode::unescape;
 pub use laws::{a_text_is_read_in_one_way, a_token_means_its_source};
@@ -19,6 +21,7 @@ pub use query::Query;
 pub use sign::Sign;
 pub use token::{Kind, Token, TokenFault, tokens};
 pub use tree::{Arg, BinSign, Elem, Entry, Expr, OrderKey, PreSign, Step};
+pub use written::{has_exponent, has_fraction, without_global};
 
 #[cfg(test)]
 mod tests;

@@ -3,7 +3,7 @@ use Rattle.cs_syntax.specs.Expression.{arguments_of}
 use Rattle.cs_syntax.specs.Faults.{first_of, at_first, call_faults}
 use Rattle.cs_syntax.specs.View.{expression, arg}
 use Rattle.cs_syntax.specs.declared.tree.Arg.{Arg}
-use Rattle.cs_faults.proofs.Views.{expression_call}
+use Rattle.cs_syntax.proofs.Views.{expression_call}
 use Rattle.cs_faults.proofs.walk.+check_first.Goals as goal
 
 pub returns-in-Call : goal.returns-in-Call

@@ -11,7 +11,7 @@ use Rattle.cs_syntax.specs.declared.tree.OrderKey.{OrderKey as CodeKey}
 use Rattle.cs_syntax.specs.declared.tree.Step.{Step as CodeStep, the_lemmas}
 use Rattle.cs_syntax.proofs.tree.Step.TheLaws.{the_size}
 use Rattle.cs_faults.proofs.Firsts.{handed, seen, moved, stops, goes_on, loop_stops, loop_goes_on}
-use Rattle.cs_faults.proofs.Views.{expression_chain, expression_run, expression_within, expression_between, step_slice, step_bracket, step_project, step_pipe, entry_bare, entry_when, arg_when, key_seen}
+use Rattle.cs_syntax.proofs.Views.{expression_chain, expression_run, expression_within, expression_between, step_slice, step_bracket, step_project, step_pipe, entry_bare, entry_when, arg_when, key_seen}
 use Rattle.cs_faults.proofs.walk.+faults.Goals as goal
 
 check_operands-cons : (x : (BinSign × Expr)) (xs : List (BinSign × Expr)) → in_operands (operands_of (operands (x ∷ xs))) ≡ (λ (x : BinSign × Expr). operator_faults x.0 ++ faults (expression x.1)) x ++ in_operands (operands_of (operands xs))

@@ -1,15 +1,10 @@
-use Rattle.std.proofs.Common.{Some, None, map, ap}
-use Rattle.cs_table.proofs.Parts.{row-parts}
-use Rattle.cs_syntax.specs.Signs.{signs}
-use Rattle.cs_syntax.specs.declared.sign.Written.{Written}
+use Rattle.std.proofs.Common.{arith, ap, ◌∙◌}
+use Rattle.cs_syntax.specs.Signs.{sign_of}
+use Rattle.cs_syntax.proofs.SignBytes.{two_bytes, three_bytes}
 use Rattle.cs_syntax.proofs.sign.Sign.of.Goals as goal
 
-pub returns-in-Some : goal.returns-in-Some
-returns-in-Some c =
-    row-parts (λ (w : Written). w.name.now) (λ (w : Written). w.sign) c.args.source.now c.over-table.result.rows.now signs
-    (ap (map (λ (w : Written). (w.name.now, w.sign))) c.over-table.ensures) (Some c.in-Some.row.now) c.in-Some.ensures.row
+pub returns-in-len2 : goal.returns-in-len2
+returns-in-len2 c = c.of_two.ensures ∙ two_bytes c.as_bytes.result.now (omega arith) ∙ ap sign_of c.as_bytes.ensures.value
 
-pub returns-in-None : goal.returns-in-None
-returns-in-None c =
-    row-parts (λ (w : Written). w.name.now) (λ (w : Written). w.sign) c.args.source.now c.over-table.result.rows.now signs
-    (ap (map (λ (w : Written). (w.name.now, w.sign))) c.over-table.ensures) None c.in-None.ensures.row
+pub returns-in-len3 : goal.returns-in-len3
+returns-in-len3 c = c.of_three.ensures ∙ three_bytes c.as_bytes.result.now (omega arith) ∙ ap sign_of c.as_bytes.ensures.value
