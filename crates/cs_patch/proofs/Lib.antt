@@ -1,0 +1,6 @@
+mod Below
+mod Examples
+mod Fixed
+mod Kept
+mod Stamped
+mod Worked
