@@ -1,6 +1,6 @@
 mod Below
 mod Examples
-mod Fixed
+pub mod Fixed
 mod Kept
-mod Stamped
+pub mod Stamped
 mod Worked
