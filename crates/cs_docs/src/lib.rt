@@ -2,6 +2,7 @@
 #![tactic(auto)]
 
 mod docs;
+pub mod laws;
 #[cfg(test)]
 mod tests;
 mod view;

@@ -1,0 +1,12 @@
+//! The laws of references, for proofs: each function does nothing, and its contract is the law.
+ghost use Rattle.cs_docs.specs.Laws.{NoneDanglesWhereClean, FitsWithinAndClean};
+
+/// No reference dangles exactly where the dataset is clean.
+pub fn none_dangles_where_clean()
+    ensures { NoneDanglesWhereClean }
+{}
+
+/// A dataset fits exactly where it is within the limit and clean.
+pub fn fits_within_and_clean()
+    ensures { FitsWithinAndClean }
+{}

@@ -1,0 +1,6 @@
+pub mod Inserted
+pub mod Laws
+pub mod Operations
+pub mod Patched
+pub mod Targets
+pub mod Within

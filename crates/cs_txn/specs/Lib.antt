@@ -1,0 +1,6 @@
+pub mod Body
+pub mod Commit
+pub mod Install
+pub mod Laws
+pub mod Mutated
+pub mod Transaction
