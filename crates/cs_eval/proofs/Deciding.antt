@@ -3,7 +3,7 @@ use Rattle.std.proofs.Common.{◌≡◌, true, false, true≢false, refl, sym}
 use Rattle.cs_value.specs.Tree.{Tree, boolean}
 use Rattle.cs_syntax.specs.declared.tree.BinSign.{BinSign}
 use Rattle.cs_syntax.specs.declared.tree.BinSign.TheVariants as sign
-use Rattle.cs_parts.specs.Operators.{operator, operated, decides}
+use Rattle.cs_meaning.specs.Operators.{operator, operated, decides}
 
 pub decided_value : (s : BinSign) (v w : Tree) → decides (operator s) v ≡ true → v ≡ operated s v w
 decided_value sign.And (boolean false) w h = refl

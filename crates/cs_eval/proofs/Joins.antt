@@ -5,15 +5,15 @@ use Rattle.cs_value.specs.Tree.{Tree, null, boolean, integer, text, list, object
 use Rattle.cs_value.specs.Words.{is_object}
 use Rattle.cs_view.specs.declared.key.Key.{Key}
 use Rattle.cs_syntax.specs.Expression.{Step, steps_of}
-use Rattle.cs_parts.specs.declared.join.Way.{Way}
-use Rattle.cs_parts.specs.declared.join.Way.TheVariants.{Through, Over, After, Ends}
-use Rattle.cs_parts.specs.declared.join.Entrance.{Entrance}
+use Rattle.cs_meaning.specs.declared.join.Way.{Way}
+use Rattle.cs_meaning.specs.declared.join.Way.TheVariants.{Through, Over, After, Ends}
+use Rattle.cs_meaning.specs.declared.join.Entrance.{Entrance}
 use Rattle.std.proofs.Common.{Option, Some, None}
 use Rattle.std.specs.Option.{option_map_or}
-use Rattle.cs_parts.specs.Values.{filtered}
-use Rattle.cs_parts.specs.Joining.{as_list, list_of, spread, flattened, mapped, entered, onward, kind}
-use Rattle.cs_parts.specs.Looked.{onward_looked, entered_looked, each_looked}
-use Rattle.cs_parts.specs.Values.{projected}
+use Rattle.cs_meaning.specs.Values.{filtered}
+use Rattle.cs_meaning.specs.Joining.{as_list, list_of, spread, flattened, mapped, entered, onward, kind}
+use Rattle.cs_meaning.specs.Looked.{onward_looked, entered_looked, each_looked}
+use Rattle.cs_meaning.specs.Values.{projected}
 use Rattle.cs_parts.specs.Kinds.{kinds_of, first_kind}
 use Rattle.cs_parts.specs.Turns.{turn, is_end, is_over_way}
 use Rattle.cs_eval.specs.Starts.{once, once_looked}

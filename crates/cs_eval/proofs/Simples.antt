@@ -12,14 +12,14 @@ use Rattle.cs_syntax.specs.declared.tree.Expr as code
 use Rattle.cs_syntax.specs.declared.tree.Step.{Step as CodeStep}
 use Rattle.cs_plan.specs.Filters.{key_in}
 use Rattle.cs_plan.specs.Simple.{is_simple, is_simple_rest, quiet_step, quiet_steps, are_tail_steps, key_of}
-use Rattle.cs_parts.specs.Hits.{is_hit, hits, tail, cost}
-use Rattle.cs_parts.specs.Joining.{list_of}
-use Rattle.cs_parts.specs.Looked.{query_looked, starts_with_filter}
-use Rattle.cs_parts.specs.Operators.{is_true}
-use Rattle.cs_parts.specs.Values.{value, pipes_value, query_value}
-use Rattle.cs_parts.proofs.Simple.{simple-looked, simple-tail}
-use Rattle.cs_parts.proofs.Sound.{filter-within}
-use Rattle.cs_parts.proofs.TrueKey.{true-has_key}
+use Rattle.cs_meaning.specs.Hits.{is_hit, hits, tail, cost}
+use Rattle.cs_meaning.specs.Joining.{list_of}
+use Rattle.cs_meaning.specs.Looked.{query_looked, starts_with_filter}
+use Rattle.cs_meaning.specs.Operators.{is_true}
+use Rattle.cs_meaning.specs.Values.{value, pipes_value, query_value}
+use Rattle.cs_meaning.proofs.Simple.{simple-looked, simple-tail}
+use Rattle.cs_meaning.proofs.Sound.{filter-within}
+use Rattle.cs_meaning.proofs.TrueKey.{true-has_key}
 use Rattle.cs_eval.specs.Starts.{enter_value}
 
 pub expression_chain : (base : Box Expr Global) (ss : Vec CodeStep Global) → expression (code.Chain base ss) ≡ chain (expression base.value) (steps_of (map step ss.items))

@@ -3,11 +3,11 @@ use Rattle.std.specs.Prelude.{◌&&◌, ◌++◌, List, [], if◌then◌else◌}
 use Rattle.cs_value.specs.Tree.{Tree, Pairs}
 use Rattle.cs_syntax.specs.Expression.{Expression, Step, Steps}
 use Rattle.cs_view.specs.declared.key.Key.{Key}
-use Rattle.cs_parts.specs.declared.join.Way.{Way}
-use Rattle.cs_parts.specs.declared.join.Way.TheVariants.{Over}
-use Rattle.cs_parts.specs.Joining.{mapped, kind, entrance, entered, base_entrance}
-use Rattle.cs_parts.specs.Values.{value, rest_value, step_value, is_pipe}
-use Rattle.cs_parts.specs.Looked.{looked, rest_looked, step_looked, filter_looked, entered_looked, each_looked, is_everything, starts_with_filter}
+use Rattle.cs_meaning.specs.declared.join.Way.{Way}
+use Rattle.cs_meaning.specs.declared.join.Way.TheVariants.{Over}
+use Rattle.cs_meaning.specs.Joining.{mapped, kind, entrance, entered, base_entrance}
+use Rattle.cs_meaning.specs.Values.{value, rest_value, step_value, is_pipe}
+use Rattle.cs_meaning.specs.Looked.{looked, rest_looked, step_looked, filter_looked, entered_looked, each_looked, is_everything, starts_with_filter}
 
 -- a chain up to its first piped call
 abbrev pub start_value : List Tree → Pairs → Expression → Steps → List Tree → Tree

@@ -8,8 +8,8 @@ use Rattle.cs_value.specs.declared.val.Val.{Val}
 use Rattle.cs_value.specs.declared.val.Val as val
 use Rattle.cs_value.specs.declared.val.Fields.{Fields}
 use Rattle.cs_value.proofs.Views.{tree-List, tree-Obj, members-trees}
-use Rattle.cs_parts.specs.Joining.{list_of}
-use Rattle.cs_parts.specs.Positions.{clamped, counted, behind, between, place_in, element, element_at, sliced}
+use Rattle.cs_meaning.specs.Joining.{list_of}
+use Rattle.cs_meaning.specs.Positions.{clamped, counted, behind, between, place_in, element, element_at, sliced}
 use Rattle.cs_parts.proofs.ListPlaces.{element_there, element_gone, placed_inside, between_places, range_of, clamped_inside}
 
 as_many : {A : Type 0} (f : A → Tree) (xs : List A) → length (map f xs) ≡ length xs

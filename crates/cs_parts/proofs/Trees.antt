@@ -12,8 +12,8 @@ use Rattle.cs_value.specs.declared.val.Val.{Val, the_lemmas}
 use Rattle.cs_value.specs.declared.val.Val as val
 use Rattle.cs_value.specs.declared.val.Fields.{Fields}
 use Rattle.cs_value.proofs.Views.{tree-List, tree-Obj, members-trees}
-use Rattle.cs_parts.specs.Joining.{as_list, list_of, of_list, spread}
-use Rattle.cs_parts.specs.Operators.{reference_of, reference_in, targets}
+use Rattle.cs_meaning.specs.Joining.{as_list, list_of, of_list, spread}
+use Rattle.cs_meaning.specs.Operators.{reference_of, reference_in, targets}
 use Rattle.cs_plan.specs.Steps.{field}
 
 pub tree_of_null : tree val.Null ≡ null

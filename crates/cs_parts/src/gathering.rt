@@ -1,7 +1,7 @@
 //! Answers and their elements.
 ghost use Rattle.std.specs.Prelude.{◌≡◌, IfOk, map, option_map, IsTrue, OnOk, ◌++◌, ◌∷◌, []};
 ghost use Rattle.std.specs.List.{list_all};
-ghost use Rattle.cs_parts.specs.Joining.{as_list, list_of, spread as spread_of};
+ghost use Rattle.cs_meaning.specs.Joining.{as_list, list_of, spread as spread_of};
 ghost use Rattle.cs_value.specs.View.{tree};
 ghost use Rattle.cs_parts.specs.Parts.{got, item, is_lent};
 

@@ -2,7 +2,7 @@
 ghost use Rattle.std.specs.Prelude.{◌≡◌, IfOk, map, drop};
 ghost use Rattle.cs_syntax.specs.Expression.{steps_of};
 ghost use Rattle.cs_syntax.specs.View.{expression, step as step_of};
-ghost use Rattle.cs_parts.specs.Joining.{form, joined, kind, way, entrance, gives_array};
+ghost use Rattle.cs_meaning.specs.Joining.{form, joined, kind, way, entrance, gives_array};
 ghost use Rattle.cs_parts.specs.Kinds.{kinds_of, first_kind};
 
 use crate::brackets::{Bracket, bracket_of};

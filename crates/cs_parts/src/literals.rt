@@ -3,7 +3,7 @@ ghost use Rattle.std.specs.Prelude.{◌≡◌, IfOk, option_map};
 ghost use Rattle.cs_value.specs.View.{tree, fields};
 ghost use Rattle.cs_view.specs.Scopes.{scope};
 ghost use Rattle.cs_plan.specs.Steps.{in_scope};
-ghost use Rattle.cs_parts.specs.Operators.{parameter, operator, operated, decides, front_operator, signed, is_true};
+ghost use Rattle.cs_meaning.specs.Operators.{parameter, operator, operated, decides, front_operator, signed, is_true};
 ghost use Rattle.cs_parts.specs.Parts.{got, item};
 
 use crate::{Got, Item, is_false};

@@ -6,7 +6,7 @@ ghost use Rattle.cs_syntax.specs.View.{expression};
 ghost use Rattle.cs_plan.specs.Steps.{position_of as position_in};
 ghost use Rattle.cs_parts.specs.Brackets.{is_back, place_of};
 ghost use Rattle.cs_parts.specs.Parts.{got};
-ghost use Rattle.cs_parts.specs.Positions.{behind, between, clamped, counted, element, element_at, place_in, sliced};
+ghost use Rattle.cs_meaning.specs.Positions.{behind, between, clamped, counted, element, element_at, place_in, sliced};
 
 use crate::answer::Got;
 use crate::brackets::{Place, position_of};

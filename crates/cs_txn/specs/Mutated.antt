@@ -7,7 +7,7 @@ use Rattle.cs_value.specs.Words.{text_at}
 use Rattle.cs_view.specs.Document.{id_of, is_body, is_shallow, passes}
 use Rattle.cs_view.specs.Dataset.{At, stands, with_doc, without}
 use Rattle.cs_parse.specs.Verdict.{Reading, query, verdict}
-use Rattle.cs_parts.specs.Values.{query_value}
+use Rattle.cs_meaning.specs.Values.{query_value}
 use Rattle.cs_patch.specs.Operations as patch
 use Rattle.cs_patch.specs.Patched.{Patch, paths, first_fault, patched}
 use Rattle.cs_txn.specs.Transaction.{Aim, one, asked, Action, create, replace, if_none, remove, change, Cause, bad_document, deep_document, exists, diff, bad_path, no_query, not_documents, missing, revision, immutable, not_number, overflow, not_array, Outcome}

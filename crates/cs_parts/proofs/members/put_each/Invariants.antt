@@ -8,5 +8,5 @@ use Rattle.cs_parts.proofs.members.put_each.Given as goal
 abbrev pub invariant-loop-key : goal.invariant-loop-key
 invariant-loop-key l =
     (done : List Entry)
-    × ((out-Fields l.more).pairs.entries ≡ done ++ l.key-iterator)
+    × ((out-Fields l.more).pairs ≡ done ++ l.key-iterator)
     × (fields l.pairs ≡ merged (fields l.initial.pairs) (entries_tree done))
