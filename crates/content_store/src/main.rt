@@ -33,7 +33,8 @@ fn counted<L: Ledger, R: Files + Input + Print>(
     run(alloc, words, &mut library, &mut sink, &mut steps)
 }
 
-// The status where the words can't be had: the machine doesn't hand them over, or there is no memory
+// The status where the words can't be had: the machine doesn't hand them over, or there is no
+// memory
 // to copy them.
 fn status_without_words(error: &io::Error) -> u8 {
     match error.kind() {

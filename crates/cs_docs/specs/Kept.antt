@@ -11,8 +11,10 @@ use Rattle.cs_docs.specs.declared.docs.Docs.{Docs}
 
 are_documents : (ds : List Doc) → list_all is_document (map doc ds) ≡ true
 are_documents [] = refl
-are_documents (d ∷ ds) = ap (λ b. b && list_all is_document (map doc ds)) d.is_document ∙ are_documents ds
+are_documents (d ∷ ds) =
+    ap (λ b. b && list_all is_document (map doc ds)) d.is_document ∙ are_documents ds
 
 -- they are a dataset
 pub is_dataset_of : (d : Docs) → is_dataset (docs d) ≡ true
-is_dataset_of d = ap (λ b. b && list_all is_document (docs d)) d.ascends ∙ are_documents d.docs.items
+is_dataset_of d =
+    ap (λ b. b && list_all is_document (docs d)) d.ascends ∙ are_documents d.docs.items

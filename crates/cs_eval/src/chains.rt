@@ -6,7 +6,7 @@ ghost use Rattle.cs_syntax.specs.View.{expression, step as step_of};
 ghost use Rattle.cs_view.specs.Keys.{Sel};
 ghost use Rattle.cs_view.specs.Scopes.{scope};
 ghost use Rattle.cs_plan.specs.Filters.{key_in};
-ghost use Rattle.cs_meaning.specs.Joining.{list_of, mapped, flattened, spread as spread_of};
+ghost use Rattle.cs_meaning.specs.Joining.{list_of, mapped, flattened, flat_elements as spread_of};
 ghost use Rattle.cs_meaning.specs.Operators.{is_true as is_true_tree};
 ghost use Rattle.cs_meaning.specs.Values.{value as value_of, rest_value, pipes_value, step_value, filtered};
 ghost use Rattle.cs_meaning.specs.Looked.{looked, rest_looked, pipes_looked, step_looked, each_looked};
@@ -19,7 +19,7 @@ use crate::steps::{keep, one_step};
 use cs_parts::{
     Entrance, Got, Item, Kind, Source, Way, append, behind, elements, ends, entrance_of,
     first_kind, form_of, gather, gives_array, head_filter, is_all, is_over, is_pipe, kinds, lent,
-    push, settle, spread, turn, way_of,
+    flat_elements, push, settle, turn, way_of,
 };
 use cs_plan::choose;
 use cs_syntax::{Expr, Step};
@@ -372,7 +372,7 @@ fn rests_joined<'s, S: Source<C>, C>(
             keys,
             count,
         )?;
-        append(&mut out, spread(alloc, given)?)?;
+        append(&mut out, flat_elements(alloc, given)?)?;
     }
     Ok(out)
 }

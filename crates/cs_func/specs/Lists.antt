@@ -33,7 +33,8 @@ compact x = of_list (λ ts. list (trees (filter (λ t. not (is_null t)) ts))) x
 -- the elements that are equal to none before them
 abbrev pub distinct : List Tree → List Tree → List Tree
 distinct before [] = []
-distinct before (t ∷ ts) = if list_any (equal t) before then distinct (before ++ t ∷ []) ts else t ∷ distinct (before ++ t ∷ []) ts
+distinct before (t ∷ ts) = if list_any (equal t) before then distinct (before ++ t ∷ []) ts
+    else t ∷ distinct (before ++ t ∷ []) ts
 
 abbrev pub unique : Tree → Tree
 unique x = of_list (λ ts. list (trees (distinct [] ts))) x

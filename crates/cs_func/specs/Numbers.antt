@@ -1,4 +1,5 @@
--- The functions of a list of numbers and nulls: GROQ-1.revision1, its "Math" namespace. A sum out of 64 bits is null, not
+-- The functions of a list of numbers and nulls: GROQ-1.revision1, its "Math" namespace. A sum out
+-- of 64 bits is null, not
 -- one whose partial sums are: this project's profile.
 use Rattle.std.specs.Prelude.{List, [], ◌∷◌, ℤ, pos, ◌+ℤ◌, Option, Some, None, option_map, fold}
 use Rattle.std.specs.Int.{int_min, int_max}

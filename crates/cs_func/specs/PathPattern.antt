@@ -1,4 +1,5 @@
--- Which texts a pattern of `path()` matches: GROQ-1.revision1, "path()". A pattern is cut at its dots into parts, and what a
+-- Which texts a pattern of `path()` matches: GROQ-1.revision1, "path()". A pattern is cut at its
+-- dots into parts, and what a
 -- part matches is this project's profile.
 use Rattle.std.specs.Prelude.{ℕ, List, [], ◌∷◌, ◌++◌, length, Bool, true, false, not, ◌&&◌, ◌||◌, ◌==◌, nat_lt, if◌then◌else◌, codes}
 use Rattle.std.specs.List.{list_all, slice_split}
@@ -10,14 +11,17 @@ is_dot b = b == 46
 -- `**` matches any text, `*` one that is not empty and has no dot, any other part itself
 abbrev pub part_matches : List ℕ → List ℕ → Bool
 part_matches part text =
-    if bytes_eq part (codes "**") then true else if bytes_eq part (codes "*") then nat_lt 0 (length text) && list_all (λ b. not (is_dot b)) text else bytes_eq part text
+    if bytes_eq part (codes "**") then true else if bytes_eq part (codes "*")
+    then nat_lt 0 (length text) && list_all (λ b. not (is_dot b)) text else bytes_eq part text
 
 -- whether the text is u, a dot and v for some u and v that pass; `before` is what stands before it
 abbrev pub some_cut : (List ℕ → List ℕ → Bool) → List ℕ → List ℕ → Bool
 some_cut passes before [] = false
-some_cut passes before (b ∷ bs) = (is_dot b && passes before bs) || some_cut passes (before ++ b ∷ []) bs
+some_cut passes before (b ∷ bs) =
+    (is_dot b && passes before bs) || some_cut passes (before ++ b ∷ []) bs
 
--- several parts match u, a dot and v where the first matches u and the others match v, for some such cut
+-- several parts match u, a dot and v where the first matches u and the others match v, for some
+-- such cut
 abbrev pub parts_match : List (List ℕ) → List ℕ → Bool
 parts_match [] text = false
 parts_match (p ∷ []) text = part_matches p text

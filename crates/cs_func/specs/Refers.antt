@@ -1,4 +1,5 @@
--- Whether a value refers to a document: GROQ-1.revision1, "references()". Nothing inside an object that has a text
+-- Whether a value refers to a document: GROQ-1.revision1, "references()". Nothing inside an object
+-- that has a text
 -- `_ref` is looked at: this project's profile.
 use Rattle.std.specs.Prelude.{ℕ, List, Bool, false, ◌||◌, Option, Some, None, codes}
 use Rattle.std.specs.List.{list_any}
@@ -8,7 +9,8 @@ use Rattle.cs_value.specs.Pairs.{find}
 use Rattle.cs_value.specs.Words.{as_text}
 use Rattle.std.specs.Prelude.{option_and_then}
 
--- whether an object's reference is the target; without a reference, whether something inside refers to it
+-- whether an object's reference is the target; without a reference, whether something inside refers
+-- to it
 abbrev pub reference_or : Bool → List ℕ → Option (List ℕ) → Bool
 reference_or inside target None = inside
 reference_or inside target (Some s) = bytes_eq s target
@@ -20,7 +22,9 @@ abbrev mutual
   refers target (integer n) = false
   refers target (text s) = false
   refers target (list ts) = some_refers target ts
-  refers target (object ps) = reference_or (some_pair_refers target ps) target (option_and_then as_text (find (codes "_ref") ps))
+  refers target (object ps) =
+      reference_or (some_pair_refers target ps) target
+      (option_and_then as_text (find (codes "_ref") ps))
 
   pub some_refers : List ℕ → Trees → Bool
   some_refers target no_trees = false
@@ -42,12 +46,16 @@ abbrev mutual
   refers_to_one targets (integer n) = false
   refers_to_one targets (text s) = false
   refers_to_one targets (list ts) = some_refers_to_one targets ts
-  refers_to_one targets (object ps) = reference_among_or (some_pair_refers_to_one targets ps) targets (option_and_then as_text (find (codes "_ref") ps))
+  refers_to_one targets (object ps) =
+      reference_among_or (some_pair_refers_to_one targets ps) targets
+      (option_and_then as_text (find (codes "_ref") ps))
 
   pub some_refers_to_one : List (List ℕ) → Trees → Bool
   some_refers_to_one targets no_trees = false
-  some_refers_to_one targets (more_trees t ts) = refers_to_one targets t || some_refers_to_one targets ts
+  some_refers_to_one targets (more_trees t ts) =
+      refers_to_one targets t || some_refers_to_one targets ts
 
   pub some_pair_refers_to_one : List (List ℕ) → Pairs → Bool
   some_pair_refers_to_one targets no_pairs = false
-  some_pair_refers_to_one targets (more_pairs k t ps) = refers_to_one targets t || some_pair_refers_to_one targets ps
+  some_pair_refers_to_one targets (more_pairs k t ps) =
+      refers_to_one targets t || some_pair_refers_to_one targets ps

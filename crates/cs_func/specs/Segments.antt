@@ -1,4 +1,5 @@
--- The same over the segments of a text, which are what stands between its dots: `**` matches one segment or more, and any
+-- The same over the segments of a text, which are what stands between its dots: `**` matches one
+-- segment or more, and any
 -- other part matches one. For private clauses.
 use Rattle.std.specs.Prelude.{ℕ, List, [], ◌∷◌, Bool, true, false, ◌&&◌, ◌||◌, if◌then◌else◌, codes}
 use Rattle.std.specs.List.{slice_split}
@@ -24,4 +25,5 @@ after_one part passes (s ∷ ss) = part_matches part s && passes ss
 abbrev pub segments_match : List (List ℕ) → List (List ℕ) → Bool
 segments_match [] [] = true
 segments_match [] (s ∷ ss) = false
-segments_match (p ∷ ps) ss = if is_any p then after_some (segments_match ps) ss else after_one p (segments_match ps) ss
+segments_match (p ∷ ps) ss = if is_any p then after_some (segments_match ps) ss
+    else after_one p (segments_match ps) ss

@@ -1,4 +1,5 @@
--- The functions of texts: GROQ-1.revision1, "length()", "string()", "array::join()" and its "String" namespace.
+-- The functions of texts: GROQ-1.revision1, "length()", "string()", "array::join()" and its
+-- "String" namespace.
 use Rattle.std.specs.Prelude.{ℕ, zero, suc, ◌-◌, List, [], ◌∷◌, length, map, pos, true, false, nat_eq, Option, Some, None, option_map, option_and_then, if◌then◌else◌, codes, encode_utf8}
 use Rattle.std.specs.Fmt.{signed_decimal}
 use Rattle.std.specs.List.{starts_with, onto_first, join_by}
@@ -49,12 +50,14 @@ abbrev pub join : Tree → Tree → Tree
 join (list ts) (text s) = joined s (members ts)
 join a b = null
 
--- a text cut at each place, from the left, where the separator begins; `passed` bytes of a separator are still to be passed over
+-- a text cut at each place, from the left, where the separator begins; `passed` bytes of a
+-- separator are still to be passed over
 abbrev pub cut : List ℕ → ℕ → List ℕ → List (List ℕ)
 cut separator passed [] = [] ∷ []
 cut separator (suc passed) (b ∷ bs) = cut separator passed bs
 cut separator zero (b ∷ bs) =
-    if starts_with nat_eq (b ∷ bs) separator then [] ∷ cut separator (length separator - 1) bs else onto_first b (cut separator zero bs)
+    if starts_with nat_eq (b ∷ bs) separator then [] ∷ cut separator (length separator - 1) bs
+    else onto_first b (cut separator zero bs)
 
 -- no part where the text is empty; its characters where the separator is
 abbrev pub parts : List ℕ → List ℕ → List (List ℕ)

@@ -32,7 +32,8 @@ pub(crate) fn compact(alloc: Global, x: &Val) -> Result<Val, NoMemory>
 }
 
 fn without_nulls(alloc: Global, items: &Vec<Val>) -> Result<Vec<Val>, NoMemory>
-    ensures { IfOk result (λ v. list_tree v.items ≡ filter (λ t. not (is_null t)) (list_tree items.now.items)) }
+    ensures { IfOk result
+        (λ v. list_tree v.items ≡ filter (λ t. not (is_null t)) (list_tree items.now.items)) }
 {
     let mut kept = Vec::new(alloc);
     for item in items {

@@ -18,7 +18,8 @@ pub(crate) fn sum(x: &Val) -> Val
 
 // The sum of 2^63 numbers of 64 bits is one of 128 bits, so no partial sum leaves these.
 fn sum_of(items: &Vec<Val>) -> Val
-    ensures { tree result ≡ of_numbers (λ ns. number (fold ◌+ℤ◌ (pos 0) ns)) (numbers (list_tree items.now.items)) }
+    ensures { tree result
+        ≡ of_numbers (λ ns. number (fold ◌+ℤ◌ (pos 0) ns)) (numbers (list_tree items.now.items)) }
 {
     let mut total: i128 = 0;
     for item in items {
@@ -61,7 +62,9 @@ pub(crate) fn greatest(x: &Val) -> Val
 
 // The greatest or the least of the numbers.
 fn picked(items: &Vec<Val>, greatest: bool) -> Val
-    ensures { tree result ≡ of_numbers (picked (if greatest then int_max else int_min)) (numbers (list_tree items.now.items)) }
+    ensures { tree result
+        ≡ of_numbers (picked (if greatest then int_max else int_min))
+        (numbers (list_tree items.now.items)) }
 {
     let mut best = None;
     for item in items {

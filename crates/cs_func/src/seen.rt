@@ -35,7 +35,9 @@ impl<'v> Seen<'v> {
     // Adds a value, and says whether it is equal to none that was added before.
     pub(crate) fn add(&mut self, val: &'v Val) -> Result<bool, NoMemory>
         ensures new { IfOk result (λ new. new ≡ not (has_seen self.old (tree val.now))) }
-        ensures added { IfOk result (λ _. (t : Tree) → has_seen self.new t ≡ (equal t (tree val.now) || has_seen self.old t)) }
+        ensures added { IfOk result
+            (λ _. (t : Tree)
+            → has_seen self.new t ≡ (equal t (tree val.now) || has_seen self.old t)) }
     {
         match val {
             Val::Null => Ok(mark(&mut self.null)),

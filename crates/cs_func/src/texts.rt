@@ -93,7 +93,8 @@ fn joined(alloc: Global, items: &Vec<Val>, separator: &str) -> Result<Val, NoMem
 // Appends the string of a value, and says whether it has one.
 fn push_string(alloc: Global, x: &Val, to: &mut String) -> Result<bool, NoMemory>
     ensures { IfOk result (λ has. MatchBool has
-        ((s : List ℕ) × (string_of (tree x.now) ≡ Some s) × (string_bytes to.new ≡ string_bytes to.old ++ s))
+        ((s : List ℕ) × (string_of (tree x.now) ≡ Some s)
+        × (string_bytes to.new ≡ string_bytes to.old ++ s))
         (string_of (tree x.now) ≡ None)) }
 {
     match x {

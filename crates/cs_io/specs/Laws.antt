@@ -19,7 +19,9 @@ fault_line (More n line rest) = fault_line rest
 
 -- all lines of the bytes are given, or those before the line that passes a limit
 abbrev pub FollowsCut : List ℕ → Type 0
-FollowsCut bytes = MatchOption (fault_line (feed_of bytes)) (given_lines (feed_of bytes) ≡ cut bytes) (λ n. given_lines (feed_of bytes) ≡ take (n - 1) (cut bytes))
+FollowsCut bytes =
+    MatchOption (fault_line (feed_of bytes)) (given_lines (feed_of bytes) ≡ cut bytes)
+    (λ n. given_lines (feed_of bytes) ≡ take (n - 1) (cut bytes))
 
 -- the lines are the whole lines and a last one, which has bytes and no newline
 pub record EndsIn (lines whole : List (List ℕ)) (last : List ℕ) : Type 0 where
@@ -29,4 +31,6 @@ pub record EndsIn (lines whole : List (List ℕ)) (last : List ℕ) : Type 0 whe
 
 -- the lines that a newline ends are all lines of the bytes, or all but a last one
 abbrev pub FollowsWhole : List ℕ → Type 0
-FollowsWhole bytes = (cut bytes ≡ whole_lines bytes) ⊎ ((last : List ℕ) × EndsIn (cut bytes) (whole_lines bytes) last)
+FollowsWhole bytes =
+    (cut bytes ≡ whole_lines bytes)
+    ⊎ ((last : List ℕ) × EndsIn (cut bytes) (whole_lines bytes) last)

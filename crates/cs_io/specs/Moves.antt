@@ -32,7 +32,9 @@ pub record Ended (old new : Reader) (line line' : List ℕ) : Type 0 where
   pub short : length line' ≤ longest_line
   pub within : new.given ≤ largest_source
   pub text : line ++ old.ahead ≡ line' ++ 10 ∷ new.ahead
-  pub feeds : (rest : List ℕ) → feed (old.given + 1) old.taken line (old.ahead ++ rest) ≡ More (old.given + 1) line' (feed (new.given + 1) new.taken [] (new.ahead ++ rest))
+  pub feeds : (rest : List ℕ)
+      → feed (old.given + 1) old.taken line (old.ahead ++ rest)
+      ≡ More (old.given + 1) line' (feed (new.given + 1) new.taken [] (new.ahead ++ rest))
 
 -- a line under way has taken what was read ahead, which was some
 pub record GoesOn (old new : Reader) (line line' : List ℕ) : Type 0 where
@@ -46,14 +48,18 @@ pub record GoesOn (old new : Reader) (line line' : List ℕ) : Type 0 where
   pub short : length line' ≤ longest_line
   pub plain : IsPlain line → IsPlain line'
   pub text : line' ≡ line ++ old.ahead
-  pub feeds : (rest : List ℕ) → feed (old.given + 1) old.taken line (old.ahead ++ rest) ≡ feed (new.given + 1) new.taken line' (new.ahead ++ rest)
+  pub feeds : (rest : List ℕ)
+      → feed (old.given + 1) old.taken line (old.ahead ++ rest)
+      ≡ feed (new.given + 1) new.taken line' (new.ahead ++ rest)
 
 -- what a line under way takes of the bytes read ahead: true where it has ended
 abbrev pub Advances : Result Bool LineFault → Reader → Reader → List ℕ → List ℕ → Type 0
 Advances (Ok true) old new line line' = Ended old new line line'
 Advances (Ok false) old new line line' = GoesOn old new line line'
-Advances (Err (TooLong n)) old new line line' = (n ≡ old.given + 1) × ((rest : List ℕ) → feed (old.given + 1) old.taken line (old.ahead ++ rest) ≡ LineTooLong n)
-Advances (Err (TooMuch n)) old new line line' = (n ≡ old.given + 1) × ((rest : List ℕ) → feed (old.given + 1) old.taken line (old.ahead ++ rest) ≡ SourceTooMuch n)
+Advances (Err (TooLong n)) old new line line' = (n ≡ old.given + 1)
+    × ((rest : List ℕ) → feed (old.given + 1) old.taken line (old.ahead ++ rest) ≡ LineTooLong n)
+Advances (Err (TooMuch n)) old new line line' = (n ≡ old.given + 1)
+    × ((rest : List ℕ) → feed (old.given + 1) old.taken line (old.ahead ++ rest) ≡ SourceTooMuch n)
 Advances (Err NoMemory) old new line line' = ⊤
 Advances (Err Read) old new line line' = ⊥
 

@@ -20,12 +20,15 @@ Gives (Err NoMemory) (Some f) (Some g) = ⊤
 
 -- of the bytes x that were not yet given, y are left: a line and its newline were taken, or the
 -- last line; before a failed read no newline was
-abbrev pub Texts : Result (Option Line) LineFault → Option (List ℕ) → Option (List ℕ) → Bool → Type 0
+abbrev pub Texts : Result (Option Line) LineFault → Option (List ℕ) → Option (List ℕ) → Bool
+    → Type 0
 Texts r None y ended = ⊤
 Texts r (Some x) None ended = ⊥
 Texts (Ok None) (Some x) (Some y) ended = (x ≡ []) × (y ≡ [])
-Texts (Ok (Some line)) (Some x) (Some y) false = IsPlain line.bytes.items × (x ≡ line.bytes.items ++ 10 ∷ y)
-Texts (Ok (Some line)) (Some x) (Some y) true = IsPlain line.bytes.items × (x ≡ line.bytes.items) × (y ≡ [])
+Texts (Ok (Some line)) (Some x) (Some y) false = IsPlain line.bytes.items
+    × (x ≡ line.bytes.items ++ 10 ∷ y)
+Texts (Ok (Some line)) (Some x) (Some y) true = IsPlain line.bytes.items × (x ≡ line.bytes.items)
+    × (y ≡ [])
 Texts (Err Read) (Some x) (Some y) ended = (part : List ℕ) × IsPlain part × (x ≡ part ++ y)
 Texts (Err (TooLong n)) (Some x) (Some y) ended = ⊤
 Texts (Err (TooMuch n)) (Some x) (Some y) ended = ⊤

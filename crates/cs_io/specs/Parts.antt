@@ -14,7 +14,9 @@ pub record EndsLine (used : ℕ) (piece : List ℕ) (t : ℕ) (old new : List �
   pub text : old ++ piece ≡ new ++ 10 ∷ drop used piece
   pub plain : IsPlain old → IsPlain new
   pub short : length new ≤ longest_line
-  pub feeds : (n : ℕ) (rest : List ℕ) → feed n t old (piece ++ rest) ≡ More n new (feed (n + 1) (t + used) [] (drop used piece ++ rest))
+  pub feeds : (n : ℕ) (rest : List ℕ)
+      → feed n t old (piece ++ rest)
+      ≡ More n new (feed (n + 1) (t + used) [] (drop used piece ++ rest))
 
 -- the line takes the whole piece
 pub record TakesAll (piece : List ℕ) (t : ℕ) (old new : List ℕ) : Type 0 where
@@ -22,11 +24,14 @@ pub record TakesAll (piece : List ℕ) (t : ℕ) (old new : List ℕ) : Type 0 w
   pub plain : IsPlain old → IsPlain new
   pub short : length new ≤ longest_line
   pub fits : t + length piece ≤ largest_source
-  pub feeds : (n : ℕ) (rest : List ℕ) → feed n t old (piece ++ rest) ≡ feed n (t + length piece) new rest
+  pub feeds : (n : ℕ) (rest : List ℕ)
+      → feed n t old (piece ++ rest) ≡ feed n (t + length piece) new rest
 
 abbrev pub Takes : Result Part PieceFault → List ℕ → ℕ → List ℕ → List ℕ → Type 0
 Takes (Ok (Ended used)) piece t old new = EndsLine used piece t old new
 Takes (Ok All) piece t old new = TakesAll piece t old new
-Takes (Err TooLong) piece t old new = (n : ℕ) (rest : List ℕ) → feed n t old (piece ++ rest) ≡ LineTooLong n
-Takes (Err TooMuch) piece t old new = (n : ℕ) (rest : List ℕ) → feed n t old (piece ++ rest) ≡ SourceTooMuch n
+Takes (Err TooLong) piece t old new = (n : ℕ) (rest : List ℕ)
+    → feed n t old (piece ++ rest) ≡ LineTooLong n
+Takes (Err TooMuch) piece t old new = (n : ℕ) (rest : List ℕ)
+    → feed n t old (piece ++ rest) ≡ SourceTooMuch n
 Takes (Err NoMemory) piece t old new = Unit {0}

@@ -29,7 +29,8 @@ InStep r left = r.ended ≡ true → (r.ahead ≡ []) × IsAtEnd left
 
 -- of what is seen of a library, a call changed nothing but the bytes left and the count of failed
 -- reads
-pub record OnlyReads {L : Type 0} (files : L → Option Files) (asked : L → List Asked) (opens reads : L → ℕ) (old new : L) : Type 0 where
+pub record OnlyReads {L : Type 0} (files : L → Option Files) (asked : L → List Asked)
+    (opens reads : L → ℕ) (old new : L) : Type 0 where
   pub same_files : files new ≡ files old
   pub same_asked : asked new ≡ asked old
   pub same_opens : opens new ≡ opens old

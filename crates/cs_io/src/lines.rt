@@ -117,7 +117,8 @@ impl Model for Lines {
 impl Lines {
     /// The lines of what is left under the number, from its first byte on. Nothing is read yet.
     pub fn new(alloc: Global, which: u32) -> Lines
-        ensures { result ≡ record { which = which; given = 0; taken = 0; ahead = []; ended = false } }
+        ensures { result
+            ≡ record { which = which; given = 0; taken = 0; ahead = []; ended = false } }
     {
         Lines {
             alloc,
@@ -147,10 +148,12 @@ impl Lines {
             (self.new.ended ≡ true)
             × (self.new.ahead ≡ [])
             × IsAtEnd (Lb.left library.new self.old.which)) }
-        ensures kept { OnErr result (Keeps (Lb.left library.old self.old.which) (Lb.left library.new self.old.which)) }
+        ensures kept { OnErr result
+            (Keeps (Lb.left library.old self.old.which) (Lb.left library.new self.old.which)) }
         ensures stands { OnErr result ((self.old.ended ≡ false) × (self.new.ahead ≡ [])) }
         ensures calls { OnlyReads Lb.files Lb.asked Lb.open_faults Lb.read_faults library.old library.new }
-        ensures others { (other : ℕ) → other ≢ self.old.which → Lb.left library.new other ≡ Lb.left library.old other }
+        ensures others { (other : ℕ) → other ≢ self.old.which
+            → Lb.left library.new other ≡ Lb.left library.old other }
         ensures fault { IfErr result (FillFails (Lb.read_faults library.old) (Lb.read_faults library.new)) }
     {
         if self.ended {
@@ -209,7 +212,8 @@ impl Lines {
             × IsAtEnd (Lb.left library.new self.old.which)) }
         ensures stands { OnErr result ((self.old.ended ≡ false) × (self.new.ahead ≡ [])) }
         ensures calls { OnlyReads Lb.files Lb.asked Lb.open_faults Lb.read_faults library.old library.new }
-        ensures others { (other : ℕ) → other ≢ self.old.which → Lb.left library.new other ≡ Lb.left library.old other }
+        ensures others { (other : ℕ) → other ≢ self.old.which
+            → Lb.left library.new other ≡ Lb.left library.old other }
         ensures fault { IfErr result (FillFails (Lb.read_faults library.old) (Lb.read_faults library.new)) }
     {
         if self.from < self.to {
@@ -262,8 +266,10 @@ impl Lines {
         ensures which { self.new.which ≡ self.old.which }
         ensures count { IfOk result (λ o. IfSome o (λ line. IsNext self.old self.new line)) }
         ensures calls { OnlyReads Lb.files Lb.asked Lb.open_faults Lb.read_faults library.old library.new }
-        ensures others { (other : ℕ) → other ≢ self.old.which → Lb.left library.new other ≡ Lb.left library.old other }
-        ensures fault { IfErr result (FaultHasCause (Lb.read_faults library.old) (Lb.read_faults library.new)) }
+        ensures others { (other : ℕ) → other ≢ self.old.which
+            → Lb.left library.new other ≡ Lb.left library.old other }
+        ensures fault { IfErr result
+            (FaultHasCause (Lb.read_faults library.old) (Lb.read_faults library.new)) }
         ensures stands { IfErr result (λ e. ReadStands e self.old self.new) }
     {
         let mut bytes = Vec::new(self.alloc);

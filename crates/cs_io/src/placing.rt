@@ -22,7 +22,8 @@ pub fn place<T: Drop>(
     ensures item { IfSome result (λ _. opened.new.items ≡ opened.old.items ++ item ∷ []) }
     ensures added { IfSome result (λ n. names.new.items
         ≡ names.old.items ++ record { name = name.now; number = Option.Some n } ∷ []) }
-    ensures kept { IfNone result ((names.new.items ≡ names.old.items) × (opened.new.items ≡ opened.old.items)) }
+    ensures kept { IfNone result
+        ((names.new.items ≡ names.old.items) × (opened.new.items ≡ opened.old.items)) }
     ensures placed { IsPlaced names.new.items opened.new.items }
 {
     let number = u32::try_from(opened.len()).ok()?;

@@ -1,7 +1,9 @@
--- How a path is written: this project's profile of the paths of Sanity's patches ("JSONMatch"). Texts are lists of bytes; a
--- relation between a text and what it spells has one case for each alternative, and grows at its right end.
+-- How a path is written: this project's profile of the paths of Sanity's patches ("JSONMatch").
+-- Texts are lists of bytes; a
+-- relation between a text and what it spells has one case for each alternative, and grows at its
+-- right end.
 use Rattle.std.specs.Prelude.{Option, Some, None, ◌≡◌, ◌⊎◌, ℕ, ◌<◌, ◌≤◌, ◌+◌, ◌*◌, ◌-◌, ℤ, pos, neg_ℤ, List, [], ◌∷◌, ◌++◌, length, take, Bool, true, false, cond, nat_eq, ◌||◌}
-use Rattle.cs_value.specs.Id.{between}
+use Rattle.cs_value.specs.Id.{is_between}
 use Rattle.cs_value.specs.Tree.{Tree, null, boolean, integer, text}
 use Rattle.cs_jsonmatch.specs.Path.{Item, position, range, every, named, meets, step, Path}
 use Rattle.cs_jsonmatch.specs.declared.class.Class.{Class}
@@ -31,11 +33,12 @@ sign_class b =
     (cond (nat_eq b 92) Backslash
     (cond (nat_eq b 58) Colon (operator_class b)))))))))
 
--- The class of a byte: a letter of ASCII or `_`, a digit, either quote, or a sign; the others have none of these.
+-- The class of a byte: a letter of ASCII or `_`, a digit, either quote, or a sign; the others have
+-- none of these.
 abbrev pub class : ℕ → Class
 class b =
-    cond (between 97 122 b || between 65 90 b || nat_eq b 95) Letter
-    (cond (between 48 57 b) Digit
+    cond (is_between 97 122 b || is_between 65 90 b || nat_eq b 95) Letter
+    (cond (is_between 48 57 b) Digit
     (cond (nat_eq b 34 || nat_eq b 39) Quote (sign_class b)))
 
 -- Name = (letter | "_") (letter | digit | "_")*
@@ -47,7 +50,8 @@ pub data IsName : List ℕ → Type 0 where
 -- One to eighteen digits.
 pub data AreDigits : List ℕ → Type 0 where
   first_digit : (b : ℕ) → class b ≡ Digit → AreDigits (b ∷ [])
-  next_digit : (w : List ℕ) (b : ℕ) → AreDigits w → class b ≡ Digit → length w < 18 → AreDigits (w ++ b ∷ [])
+  next_digit : (w : List ℕ) (b : ℕ) → AreDigits w → class b ≡ Digit → length w < 18
+      → AreDigits (w ++ b ∷ [])
 
 -- The number that digits spell, in base ten.
 abbrev pub number_from : ℕ → List ℕ → ℕ
@@ -58,12 +62,16 @@ number_from n (b ∷ w) = number_from (10 * n + (b - 48)) w
 abbrev pub whole : Bool → List ℕ → ℤ
 whole negative w = cond negative (neg_ℤ (pos (number_from 0 w))) (pos (number_from 0 w))
 
--- What stands between two quotes q, and the text that it spells: each byte itself, but no bare q, and a backslash only
+-- What stands between two quotes q, and the text that it spells: each byte itself, but no bare q,
+-- and a backslash only
 -- before a quote or a backslash, which then stands for itself.
 pub data IsInside : ℕ → List ℕ → List ℕ → Type 0 where
   nothing : (q : ℕ) → IsInside q [] []
-  byte : (q : ℕ) (w s : List ℕ) (b : ℕ) → IsInside q w s → nat_eq b q ≡ false → (class b ≡ Backslash → ⊥) → IsInside q (w ++ b ∷ []) (s ++ b ∷ [])
-  escaped : (q : ℕ) (w s : List ℕ) (b : ℕ) → IsInside q w s → (class b ≡ Quote) ⊎ (class b ≡ Backslash) → IsInside q ((w ++ 92 ∷ []) ++ b ∷ []) (s ++ b ∷ [])
+  byte : (q : ℕ) (w s : List ℕ) (b : ℕ) → IsInside q w s → nat_eq b q ≡ false
+      → (class b ≡ Backslash → ⊥) → IsInside q (w ++ b ∷ []) (s ++ b ∷ [])
+  escaped : (q : ℕ) (w s : List ℕ) (b : ℕ) → IsInside q w s
+      → (class b ≡ Quote) ⊎ (class b ≡ Backslash)
+      → IsInside q ((w ++ 92 ∷ []) ++ b ∷ []) (s ++ b ∷ [])
 
 -- Digits as they are written, behind a minus or not.
 abbrev pub written : Bool → List ℕ → List ℕ
@@ -80,12 +88,14 @@ pub data IsEnd : List ℕ → Option ℤ → Type 0 where
 
 -- Quoted = text between two quotes of one kind
 pub data IsQuoted : List ℕ → List ℕ → Type 0 where
-  quotes : (q : ℕ) (w s : List ℕ) → class q ≡ Quote → IsInside q w s → IsQuoted ((q ∷ w) ++ q ∷ []) s
+  quotes : (q : ℕ) (w s : List ℕ) → class q ≡ Quote → IsInside q w s
+      → IsQuoted ((q ∷ w) ++ q ∷ []) s
 
 -- Name ("." Name)*
 pub data AreNames : List ℕ → List (List ℕ) → Type 0 where
   one_name : (w : List ℕ) → IsName w → AreNames w (w ∷ [])
-  more_names : (u w : List ℕ) (ns : List (List ℕ)) → AreNames u ns → IsName w → AreNames ((u ++ 46 ∷ []) ++ w) (ns ++ w ∷ [])
+  more_names : (u w : List ℕ) (ns : List (List ℕ)) → AreNames u ns → IsName w
+      → AreNames ((u ++ 46 ∷ []) ++ w) (ns ++ w ∷ [])
 
 -- Left = "@" | Name ("." Name)*, and any number of spaces behind it; `@` is no name
 pub data IsSubject : List ℕ → List (List ℕ) → Type 0 where
@@ -104,8 +114,10 @@ pub data IsOp : List ℕ → Comparison → Type 0 where
 
 -- Left Op, and any number of spaces behind it
 pub data IsCompared : List ℕ → List (List ℕ) → Comparison → Type 0 where
-  compared : (x o : List ℕ) (ns : List (List ℕ)) (c : Comparison) → IsSubject x ns → IsOp o c → IsCompared (x ++ o) ns c
-  space_on : (x : List ℕ) (ns : List (List ℕ)) (c : Comparison) → IsCompared x ns c → IsCompared (x ++ 32 ∷ []) ns c
+  compared : (x o : List ℕ) (ns : List (List ℕ)) (c : Comparison) → IsSubject x ns → IsOp o c
+      → IsCompared (x ++ o) ns c
+  space_on : (x : List ℕ) (ns : List (List ℕ)) (c : Comparison) → IsCompared x ns c
+      → IsCompared (x ++ 32 ∷ []) ns c
 
 -- The words of Lit: "true" | "false" | "null"
 pub data IsWord : List ℕ → Tree → Type 0 where
@@ -116,12 +128,16 @@ pub data IsWord : List ℕ → Tree → Type 0 where
 -- Item = Int | Int? ":" Int? | "*" | Quoted | Left Op Lit, where Lit = Quoted | Int | a word
 pub data IsItem : List ℕ → Item → Type 0 where
   single : (w : List ℕ) (n : ℤ) → IsInt w n → IsItem w (position n)
-  span : (u w : List ℕ) (a b : Option ℤ) → IsEnd u a → IsEnd w b → IsItem ((u ++ 58 ∷ []) ++ w) (range a b)
+  span : (u w : List ℕ) (a b : Option ℤ) → IsEnd u a → IsEnd w b
+      → IsItem ((u ++ 58 ∷ []) ++ w) (range a b)
   all : IsItem (42 ∷ []) every
   texts : (w s : List ℕ) → IsQuoted w s → IsItem w (named s)
-  test_int : (x w : List ℕ) (ns : List (List ℕ)) (c : Comparison) (n : ℤ) → IsCompared x ns c → IsInt w n → IsItem (x ++ w) (meets ns c (integer n))
-  test_text : (x w s : List ℕ) (ns : List (List ℕ)) (c : Comparison) → IsCompared x ns c → IsQuoted w s → IsItem (x ++ w) (meets ns c (text s))
-  test_word : (x w : List ℕ) (ns : List (List ℕ)) (c : Comparison) (t : Tree) → IsCompared x ns c → IsWord w t → IsItem (x ++ w) (meets ns c t)
+  test_int : (x w : List ℕ) (ns : List (List ℕ)) (c : Comparison) (n : ℤ) → IsCompared x ns c
+      → IsInt w n → IsItem (x ++ w) (meets ns c (integer n))
+  test_text : (x w s : List ℕ) (ns : List (List ℕ)) (c : Comparison) → IsCompared x ns c
+      → IsQuoted w s → IsItem (x ++ w) (meets ns c (text s))
+  test_word : (x w : List ℕ) (ns : List (List ℕ)) (c : Comparison) (t : Tree) → IsCompared x ns c
+      → IsWord w t → IsItem (x ++ w) (meets ns c t)
 
 -- Items = Item ("," Item)*, with any number of spaces around each item
 mutual
@@ -132,24 +148,31 @@ mutual
     after_comma : (x : List ℕ) (is : List Item) → AreItems x is → Awaits (x ++ 44 ∷ []) is
 
   pub data AreItems : List ℕ → List Item → Type 0 where
-    item : (x w : List ℕ) (is : List Item) (i : Item) → Awaits x is → IsItem w i → AreItems (x ++ w) (is ++ i ∷ [])
+    item : (x w : List ℕ) (is : List Item) (i : Item) → Awaits x is → IsItem w i
+        → AreItems (x ++ w) (is ++ i ∷ [])
     space_after : (x : List ℕ) (is : List Item) → AreItems x is → AreItems (x ++ 32 ∷ []) is
 
 -- Bracket = "[" Items "]"
 pub data IsBracket : List ℕ → List Item → Type 0 where
   bracket : (w : List ℕ) (is : List Item) → AreItems w is → IsBracket ((91 ∷ w) ++ 93 ∷ []) is
 
--- Path = First Next*, where First = Name | Bracket | ".." Name | ".." Bracket, and Next = "." Name | Bracket | ".." Name
+-- Path = First Next*, where First = Name | Bracket | ".." Name | ".." Bracket, and Next = "." Name
+-- | Bracket | ".." Name
 -- | ".." Bracket
 pub data IsPath : List ℕ → Path → Type 0 where
   first_name : (w : List ℕ) → IsName w → IsPath w (step false (named w ∷ []) ∷ [])
   first_bracket : (w : List ℕ) (is : List Item) → IsBracket w is → IsPath w (step false is ∷ [])
   first_deep_name : (w : List ℕ) → IsName w → IsPath (46 ∷ 46 ∷ w) (step true (named w ∷ []) ∷ [])
-  first_deep_bracket : (w : List ℕ) (is : List Item) → IsBracket w is → IsPath (46 ∷ 46 ∷ w) (step true is ∷ [])
-  next_name : (u w : List ℕ) (p : Path) → IsPath u p → IsName w → IsPath (u ++ 46 ∷ w) (p ++ step false (named w ∷ []) ∷ [])
-  next_bracket : (u w : List ℕ) (p : Path) (is : List Item) → IsPath u p → IsBracket w is → IsPath (u ++ w) (p ++ step false is ∷ [])
-  next_deep_name : (u w : List ℕ) (p : Path) → IsPath u p → IsName w → IsPath (u ++ 46 ∷ 46 ∷ w) (p ++ step true (named w ∷ []) ∷ [])
-  next_deep_bracket : (u w : List ℕ) (p : Path) (is : List Item) → IsPath u p → IsBracket w is → IsPath (u ++ 46 ∷ 46 ∷ w) (p ++ step true is ∷ [])
+  first_deep_bracket : (w : List ℕ) (is : List Item) → IsBracket w is
+      → IsPath (46 ∷ 46 ∷ w) (step true is ∷ [])
+  next_name : (u w : List ℕ) (p : Path) → IsPath u p → IsName w
+      → IsPath (u ++ 46 ∷ w) (p ++ step false (named w ∷ []) ∷ [])
+  next_bracket : (u w : List ℕ) (p : Path) (is : List Item) → IsPath u p → IsBracket w is
+      → IsPath (u ++ w) (p ++ step false is ∷ [])
+  next_deep_name : (u w : List ℕ) (p : Path) → IsPath u p → IsName w
+      → IsPath (u ++ 46 ∷ 46 ∷ w) (p ++ step true (named w ∷ []) ∷ [])
+  next_deep_bracket : (u w : List ℕ) (p : Path) (is : List Item) → IsPath u p → IsBracket w is
+      → IsPath (u ++ 46 ∷ 46 ∷ w) (p ++ step true is ∷ [])
 
 -- A prefix of a text that spells some path.
 abbrev pub IsBegun : List ℕ → Type 0
@@ -161,6 +184,7 @@ pub record IsLongest (t : List ℕ) (n : ℕ) : Type 0 where
   pub begun : IsBegun (take n t)
   pub longest : (k : ℕ) → k ≤ length t → IsBegun (take k t) → k ≤ n
 
--- The text spells no path, and its fault is behind the longest prefix that is also a prefix of some path.
+-- The text spells no path, and its fault is behind the longest prefix that is also a prefix of some
+-- path.
 abbrev pub IsFault : List ℕ → ℕ → Type 0
 IsFault t n = ((p : Path) → IsPath t p → ⊥) × IsLongest t n

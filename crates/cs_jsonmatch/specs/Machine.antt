@@ -8,7 +8,8 @@ use Rattle.cs_jsonmatch.specs.declared.class.Class.TheVariants.{Letter, Digit, D
 use Rattle.cs_jsonmatch.specs.Grammar.{class, whole}
 use Rattle.cs_value.specs.Tree.{Tree, null, boolean, integer, text}
 
--- where an integer or a text stands in its item: at the front, as the second end of a range, or as the constant of a comparison
+-- where an integer or a text stands in its item: at the front, as the second end of a range, or as
+-- the constant of a comparison
 pub data Slot : Type 0 where
   front : Slot
   second : Option ℤ → Slot
@@ -24,7 +25,8 @@ text_item front s = named s
 text_item (second a) s = named s
 text_item (constant ns c) s = meets ns c (text s)
 
--- Where the reading stands. A state has the path so far, and inside a step whether `..` stands before it, its items so far,
+-- Where the reading stands. A state has the path so far, and inside a step whether `..` stands
+-- before it, its items so far,
 -- and what has been read of the next item.
 pub data State : Type 0 where
   start : State
@@ -64,16 +66,21 @@ colon_behind p d is front n = Some (to p d is (Some n))
 colon_behind p d is (second a) n = None
 colon_behind p d is (constant ns c) n = None
 
-abbrev pub close_or_digit : Path → Bool → List Item → Slot → Bool → List ℕ → ℕ → Class → Option State
-close_or_digit p d is g neg w b Digit = cond (nat_lt (length w) 18) (Some (digits p d is g neg (w ++ b ∷ []))) None
+abbrev pub close_or_digit : Path → Bool → List Item → Slot → Bool → List ℕ → ℕ → Class
+    → Option State
+close_or_digit p d is g neg w b Digit =
+    cond (nat_lt (length w) 18) (Some (digits p d is g neg (w ++ b ∷ []))) None
 close_or_digit p d is g neg w b Colon = colon_behind p d is g (whole neg w)
 close_or_digit p d is g neg w b Space = Some (after p d (is ++ int_item g (whole neg w) ∷ []))
 close_or_digit p d is g neg w b Comma = Some (before p d (is ++ int_item g (whole neg w) ∷ []))
-close_or_digit p d is g neg w b Closing = Some (done (more p d (is ++ int_item g (whole neg w) ∷ [])))
+close_or_digit p d is g neg w b Closing =
+    Some (done (more p d (is ++ int_item g (whole neg w) ∷ [])))
 close_or_digit p d is g neg w b _ = None
 
 abbrev pub end_or_byte : Path → Bool → List Item → Slot → ℕ → List ℕ → ℕ → Option State
-end_or_byte p d is g q s b = cond (nat_eq b q) (Some (after p d (is ++ text_item g s ∷ []))) (Some (quoted p d is g q (s ++ b ∷ [])))
+end_or_byte p d is g q s b =
+    cond (nat_eq b q) (Some (after p d (is ++ text_item g s ∷ [])))
+    (Some (quoted p d is g q (s ++ b ∷ [])))
 
 abbrev pub by_operator : Path → Bool → List Item → List (List ℕ) → Class → Option State
 by_operator p d is ns Space = Some (left_done p d is ns)
@@ -89,7 +96,8 @@ by_letter p d is ns c b =
     (cond (nat_eq b 102) (Some (letters p d is ns c (boolean false) (97 ∷ 108 ∷ 115 ∷ 101 ∷ [])))
     (cond (nat_eq b 110) (Some (letters p d is ns c null (117 ∷ 108 ∷ 108 ∷ []))) None))
 
-abbrev pub by_literal : Path → Bool → List Item → List (List ℕ) → Comparison → ℕ → Class → Option State
+abbrev pub by_literal : Path → Bool → List Item → List (List ℕ) → Comparison → ℕ → Class
+    → Option State
 by_literal p d is ns c b Space = Some (literal p d is ns c)
 by_literal p d is ns c b Minus = Some (sign p d is (constant ns c))
 by_literal p d is ns c b Digit = Some (digits p d is (constant ns c) false (b ∷ []))
@@ -97,13 +105,16 @@ by_literal p d is ns c b Quote = Some (quoted p d is (constant ns c) b [])
 by_literal p d is ns c b Letter = by_letter p d is ns c b
 by_literal p d is ns c b _ = None
 
-abbrev pub next_letter : Path → Bool → List Item → List (List ℕ) → Comparison → Tree → List ℕ → State
+abbrev pub next_letter : Path → Bool → List Item → List (List ℕ) → Comparison → Tree → List ℕ
+    → State
 next_letter p d is ns c t [] = after p d (is ++ meets ns c t ∷ [])
 next_letter p d is ns c t (r ∷ rest) = letters p d is ns c t (r ∷ rest)
 
-abbrev pub by_letters : Path → Bool → List Item → List (List ℕ) → Comparison → Tree → List ℕ → ℕ → Option State
+abbrev pub by_letters : Path → Bool → List Item → List (List ℕ) → Comparison → Tree → List ℕ → ℕ
+    → Option State
 by_letters p d is ns c t [] b = None
-by_letters p d is ns c t (r ∷ rest) b = cond (nat_eq b r) (Some (next_letter p d is ns c t rest)) None
+by_letters p d is ns c t (r ∷ rest) b =
+    cond (nat_eq b r) (Some (next_letter p d is ns c t rest)) None
 
 abbrev pub by_class : State → ℕ → Class → Option State
 by_class start b Letter = Some (word [] false (b ∷ []))

@@ -3,7 +3,8 @@ use Rattle.std.specs.Prelude.{ℕ, ℤ, List, Bool, Option}
 use Rattle.cs_value.specs.Tree.{Tree}
 use Rattle.cs_jsonmatch.specs.declared.path.Comparison.{Comparison}
 
--- What one item between brackets selects. A name by itself is the one item `named`; a comparison has the names that lead
+-- What one item between brackets selects. A name by itself is the one item `named`; a comparison
+-- has the names that lead
 -- to its left side, and `@` is no name.
 pub data Item : Type 0 where
   position : ℤ → Item

@@ -1,4 +1,5 @@
--- Which places of a value a path selects: this project's profile of the paths of Sanity's patches ("JSONMatch").
+-- Which places of a value a path selects: this project's profile of the paths of Sanity's patches
+-- ("JSONMatch").
 use Rattle.std.specs.Prelude.{ℕ, suc, ◌-◌, min, ℤ, pos, negsuc, List, [], ◌∷◌, ◌++◌, map, filter, Bool, true, false, not, ◌&&◌, ◌||◌, Option, Some, None, option_and_then, bytes_eq, nat_le, nat_lt, nat_eq, ◌+◌}
 use Rattle.std.specs.List.{list_any}
 use Rattle.std.specs.declared.cmp.Ordering.{Ordering}
@@ -24,7 +25,8 @@ Trail = List (Part × Tree)
 abbrev pub parts : Trail → Location
 parts l = map (λ e. e.0) l
 
--- All trails of a value in document order: that of the value itself, then those through its first member, and so on.
+-- All trails of a value in document order: that of the value itself, then those through its first
+-- member, and so on.
 abbrev mutual
   pub trails : Tree → List Trail
   trails null = [] ∷ []
@@ -51,12 +53,14 @@ size (text s) = 0
 size (list ts) = trees_len ts
 size (object ps) = 0
 
--- Whether an integer means the position k of a list of so many: k itself, or from the end, where -1 is the last.
+-- Whether an integer means the position k of a list of so many: k itself, or from the end, where -1
+-- is the last.
 abbrev pub is_position : ℤ → ℕ → ℕ → Bool
 is_position (pos n) count k = nat_eq n k
 is_position (negsuc n) count k = nat_eq (k + suc n) count
 
--- An end of a range in a list of so many: a negative one has the length added, and then it is clamped to 0 and the length.
+-- An end of a range in a list of so many: a negative one has the length added, and then it is
+-- clamped to 0 and the length.
 abbrev pub clamped : ℤ → ℕ → ℕ
 clamped (pos n) count = min n count
 clamped (negsuc n) count = count - suc n
@@ -70,7 +74,8 @@ abbrev pub to_end : Option ℤ → ℕ → ℕ
 to_end None count = count
 to_end (Some n) count = clamped n count
 
--- What stands under the names, one in the other, through objects; none where one of them is missing.
+-- What stands under the names, one in the other, through objects; none where one of them is
+-- missing.
 abbrev pub follow : List (List ℕ) → Tree → Option Tree
 follow [] t = Some t
 follow (n ∷ ns) t = option_and_then (follow ns) (attribute n t)
@@ -80,7 +85,8 @@ abbrev pub holds : (Ordering → Bool) → Option Ordering → Bool
 holds test None = false
 holds test (Some o) = test o
 
--- Whether a value stands so to a constant: `==` is equality and `!=` its negation, the others ask for a comparison.
+-- Whether a value stands so to a constant: `==` is equality and `!=` its negation, the others ask
+-- for a comparison.
 abbrev pub stands : Comparison → Tree → Tree → Bool
 stands Equal t u = equal t u
 stands NotEqual t u = not (equal t u)
@@ -107,13 +113,17 @@ selects count (Pos k) t every = true
 selects count (Pos k) t (named n) = false
 selects count (Pos k) t (meets ns c u) = met c u (follow ns t)
 
--- Whether a path leads from v along a trail: no steps lead to v itself; the first step selects the first part, by one of
--- its items, and the others lead on from there; or `..` stands before the first step, and the path leads on from within.
+-- Whether a path leads from v along a trail: no steps lead to v itself; the first step selects the
+-- first part, by one of
+-- its items, and the others lead on from there; or `..` stands before the first step, and the path
+-- leads on from within.
 abbrev pub leads : Path → Tree → Trail → Bool
 leads [] v [] = true
 leads [] v (e ∷ l) = false
 leads (s ∷ ss) v [] = false
-leads (s ∷ ss) v (e ∷ l) = (list_any (selects (size v) e.0 e.1) s.items && leads ss e.1 l) || (s.deep && leads (s ∷ ss) e.1 l)
+leads (s ∷ ss) v (e ∷ l) =
+    (list_any (selects (size v) e.0 e.1) s.items && leads ss e.1 l)
+    || (s.deep && leads (s ∷ ss) e.1 l)
 
 -- The places of a path in a value: the locations that it leads to, in document order, each once.
 abbrev pub places : Path → Tree → List Location

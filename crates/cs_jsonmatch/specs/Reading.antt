@@ -43,7 +43,8 @@ abbrev pub IsStop : Stop → Reading → List ℕ → Type 0
 IsStop stop.Here r rest = r ≡ cut rest
 IsStop stop.NoMemory r rest = ⊤
 
--- What a function read is where the reading goes on from, or the reading stops where the function stopped.
+-- What a function read is where the reading goes on from, or the reading stops where the function
+-- stopped.
 abbrev pub IsRead : {A : Type 0} → Result A Stop → (A → Reading) → Reading → List ℕ → Type 0
 IsRead result on r rest = MatchResult result (λ a. r ≡ on a) (λ e. IsStop e r rest)
 
@@ -84,12 +85,14 @@ TakesQuote s p d is g = (b : ℕ) → by_class s b Quote ≡ Some (quoted p d is
 
 -- the name is read, and no letter and no digit is next
 abbrev pub IsNameRead : List ℕ → List ℕ → List ℕ → Type 0
-IsNameRead n old new = (old ≡ n ++ new) × IsName n × (next_class new ≡ Letter → ⊥) × (next_class new ≡ Digit → ⊥)
+IsNameRead n old new = (old ≡ n ++ new) × IsName n × (next_class new ≡ Letter → ⊥)
+    × (next_class new ≡ Digit → ⊥)
 
 -- digits are read, and no more of them fit
 abbrev pub AreDigitsRead : ℕ → List ℕ → List ℕ → Type 0
 AreDigitsRead n old new =
-    (w : List ℕ) × (old ≡ w ++ new) × AreDigits w × (number_from 0 w ≡ n) × ((length w ≡ 18) ⊎ (next_class new ≡ Digit → ⊥))
+    (w : List ℕ) × (old ≡ w ++ new) × AreDigits w × (number_from 0 w ≡ n)
+    × ((length w ≡ 18) ⊎ (next_class new ≡ Digit → ⊥))
 
 -- an integer is read, or none is next
 abbrev pub IsIntRead : Option ℤ → Path → Bool → List Item → Slot → List ℕ → List ℕ → Type 0

@@ -1,4 +1,5 @@
--- What a text is as a path. Each text has one reading: `IsPathRead` says which by the grammar, and `path_verdict` computes it.
+-- What a text is as a path. Each text has one reading: `IsPathRead` says which by the grammar, and
+-- `path_verdict` computes it.
 use Rattle.std.specs.Prelude.{ℕ, ◌-◌, List, length, Option, Some, None, Result, Ok, Err}
 use Rattle.cs_jsonmatch.specs.Path.{Path}
 use Rattle.cs_jsonmatch.specs.Grammar.{IsPath, IsFault}

@@ -37,7 +37,8 @@ fn entries(alloc: Global) -> Result<Val, Fail> {
     Ok(Val::List(Vec::from_array(alloc, entries)?))
 }
 
-// {"a": {"b": the entries, "n": null}, "l": [1, "x", true, null, [7]], "n": {"n": {"n": 0}}, "x y": 2, "é": 3}
+// {"a": {"b": the entries, "n": null}, "l": [1, "x", true, null, [7]], "n": {"n": {"n": 0}}, "x y":
+// 2, "é": 3}
 fn sample(alloc: Global) -> Result<Val, Fail> {
     let mut a = Fields::new(alloc);
     add(alloc, &mut a, "b", entries(alloc)?)?;

@@ -5,7 +5,7 @@ use Rattle.std.specs.Option.{option_map_or}
 use Rattle.cs_value.specs.Tree.{Tree, null}
 use Rattle.cs_view.specs.Keys.{Sel}
 use Rattle.cs_view.specs.declared.key.Key.{Key}
-use Rattle.cs_meaning.specs.Joining.{as_list, list_of, mapped, spread, flattened, entered, onward}
+use Rattle.cs_meaning.specs.Joining.{as_list, list_of, mapped, flat_elements, flattened, entered, onward}
 use Rattle.cs_meaning.specs.Looked.{each_looked, entered_looked, onward_looked}
 use Rattle.cs_meaning.specs.Operators.{is_true}
 use Rattle.cs_meaning.specs.Ordered.{Ranked, ranked, in_order, ordered}
@@ -100,8 +100,8 @@ module _ (d1 d2 : List Tree) where
 
   pub flattened-agree : (k1 k2 : Tree → List Key) (r1 r2 : Tree → Tree) → Agree d1 d2 k1 k2 r1 r2 → Agree d1 d2 (each_looked k1) (each_looked k2) (flattened r1) (flattened r2)
   flattened-agree k1 k2 r1 r2 h v =
-      each-agree null k1 k2 (λ xs. list_of (flat_map spread (map r1 xs))) (λ xs. list_of (flat_map spread (map r2 xs)))
-      (λ xs. apply-agree (λ ys. list_of (flat_map spread ys)) (flat_map k1 xs) (flat_map k2 xs) (map r1 xs) (map r2 xs) (map-agree k1 k2 r1 r2 h xs)) (as_list v)
+      each-agree null k1 k2 (λ xs. list_of (flat_map flat_elements (map r1 xs))) (λ xs. list_of (flat_map flat_elements (map r2 xs)))
+      (λ xs. apply-agree (λ ys. list_of (flat_map flat_elements ys)) (flat_map k1 xs) (flat_map k2 xs) (map r1 xs) (map r2 xs) (map-agree k1 k2 r1 r2 h xs)) (as_list v)
 
   pub filtered-agree : (k1 k2 : Tree → List Key) (r1 r2 : Tree → Tree) → Agree d1 d2 k1 k2 r1 r2
       → Agree d1 d2 (each_looked k1) (each_looked k2) (filtered (λ x. is_true (r1 x))) (filtered (λ x. is_true (r2 x)))

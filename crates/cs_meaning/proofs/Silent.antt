@@ -13,7 +13,7 @@ use Rattle.cs_plan.specs.Simple.{is_quiet, quiet_operands, quiet_argument, quiet
 use Rattle.cs_plan.specs.Steps.{Bracketed, position, named, condition, bracketed, is_order_name}
 use Rattle.cs_meaning.specs.Joining.{as_list, list_of, mapped, form, kind, way, entrance, entered, base_entrance}
 use Rattle.cs_meaning.specs.Looked.{each_looked, entered_looked, onward_looked, bracket_looked, called_looked, is_everything, starts_with_filter, looked, filter_looked, run_looked, argument_looked, arguments_looked, coalesced_looked, selected_looked, element_looked, elements_looked, entry_looked, entries_looked, rest_looked, pipes_looked, step_looked, keys_looked}
-use Rattle.cs_meaning.specs.Operators.{is_true, operator, operated, decides, Callee, coalescing, selecting, referring, applying, callee}
+use Rattle.cs_meaning.specs.Operators.{is_true, operator_of, operated, decides, Callee, coalescing, selecting, referring, applying, callee}
 use Rattle.cs_meaning.specs.Values.{is_pipe, value, argument_value, rest_value, step_value}
 use Rattle.cs_meaning.specs.declared.join.Entrance.{Entrance}
 use Rattle.cs_meaning.specs.declared.join.Entrance.TheVariants.{Whole, Mapped, Flat}
@@ -105,8 +105,8 @@ module _ (docs : List Tree) (params : Pairs) where
     silent-run no_operands q scope v = refl
     silent-run (more_operands sign e rest) q scope v =
         let p = both-true (is_quiet e) (quiet_operands rest) q in
-        none (cond (decides (operator sign) v) [] (looked docs params e scope)) (run_looked docs params rest scope (operated sign v (value docs params e scope)))
-        (cond-none (decides (operator sign) v) [] (looked docs params e scope) refl (silent e p.0 scope)) (silent-run rest p.1 scope (operated sign v (value docs params e scope)))
+        none (cond (decides (operator_of sign) v) [] (looked docs params e scope)) (run_looked docs params rest scope (operated sign v (value docs params e scope)))
+        (cond-none (decides (operator_of sign) v) [] (looked docs params e scope) refl (silent e p.0 scope)) (silent-run rest p.1 scope (operated sign v (value docs params e scope)))
 
     silent-argument : (x : Argument) → quiet_argument x ≡ true → (scope : List Tree) → argument_looked docs params x scope ≡ []
     silent-argument (argument e) q scope = silent e q scope

@@ -5,7 +5,7 @@ use Rattle.cs_value.specs.Tree.{Tree, null, Pairs}
 use Rattle.cs_syntax.specs.Expression.{Expression, everything, chain, bracket, Steps, more_steps}
 use Rattle.cs_view.specs.declared.key.Key.{Key}
 use Rattle.cs_plan.specs.Filters.{key_in}
-use Rattle.cs_plan.specs.Simple.{is_quiet, quiet_steps, is_filter, are_tail_steps, is_simple_rest, is_simple, filter_of, key_of}
+use Rattle.cs_plan.specs.Simple.{is_quiet, quiet_steps, is_filter, are_tail_steps, is_simple_rest, is_simple, filter_of, query_key}
 use Rattle.cs_plan.specs.Steps.{condition, bracketed}
 use Rattle.cs_meaning.specs.Hits.{hits, tail}
 use Rattle.cs_meaning.specs.Joining.{list_of, kind, entrance, entered, base_entrance}
@@ -48,7 +48,7 @@ rest-looked docs params (more_steps (bracket e) ss) h =
     ∙ filter-alone docs params e ss (null ∷ []) p.0.1 p.1
 rest-looked docs params ss h = absurd (cc)
 
-pub simple-looked : (e : Expression) (params : Pairs) (docs : List Tree) → is_simple e ≡ true → query_looked docs params e ≡ key_of e params ∷ []
+pub simple-looked : (e : Expression) (params : Pairs) (docs : List Tree) → is_simple e ≡ true → query_looked docs params e ≡ query_key e params ∷ []
 simple-looked (chain everything ss) params docs h = rest-looked docs params ss h
 simple-looked e params docs h = absurd (cc)
 

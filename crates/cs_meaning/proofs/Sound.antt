@@ -23,15 +23,15 @@ use Rattle.cs_view.specs.declared.key.Key.TheVariants.{All, Id}
 use Rattle.cs_plan.specs.Filters.{key_in}
 use Rattle.cs_plan.specs.Simple.{is_condition}
 use Rattle.cs_plan.specs.Steps.{Bracketed, position, named, condition, bracketed, is_order_name}
-use Rattle.cs_meaning.specs.Joining.{as_list, list_of, bracket_form, form, joined, kind, way, entrance, entered, onward, base_entrance}
+use Rattle.cs_meaning.specs.Joining.{as_list, list_of, bracket_form, form, kind_before, kind, way, entrance, entered, onward, base_entrance}
 use Rattle.cs_meaning.specs.declared.join.Kind.{Kind}
-use Rattle.cs_meaning.specs.declared.join.Kind.TheVariants.{Empty, Steps as Taking}
-use Rattle.cs_meaning.specs.declared.join.Form.TheVariants.{List as Listing}
+use Rattle.cs_meaning.specs.declared.join.Kind.TheVariants.{Empty, Taking}
+use Rattle.cs_meaning.specs.declared.join.Form.TheVariants.{Listing}
 use Rattle.cs_meaning.specs.declared.join.Entrance.{Entrance}
 use Rattle.cs_meaning.specs.declared.join.Entrance.TheVariants.{Whole}
 use Rattle.cs_meaning.specs.declared.join.Shape.TheVariants.{One, Array}
 use Rattle.cs_meaning.specs.Looked.{each_looked, entered_looked, bracket_looked, id_looked, called_looked, is_everything, starts_with_filter, looked, filter_looked, run_looked, argument_looked, arguments_looked, coalesced_looked, selected_looked, element_looked, elements_looked, entry_looked, entries_looked, rest_looked, pipes_looked, step_looked, keys_looked}
-use Rattle.cs_meaning.specs.Operators.{is_true, operator, operated, decides, signed, in_list_or_path, sole, Callee, coalescing, selecting, referring, applying, callee, applied, references, called, or_else, spread_into, put_under, reference_of, sought}
+use Rattle.cs_meaning.specs.Operators.{is_true, operator_of, operated, decides, signed, in_list_or_path, sole, Callee, coalescing, selecting, referring, applying, callee, applied, references, called, or_else, spread_into, put_under, reference_of, sought}
 use Rattle.cs_meaning.specs.Ordered.{ordered, directions}
 use Rattle.cs_meaning.specs.Values.{in_bracket, projected, is_pipe, value, run_value, path_pattern, argument_value, arguments_values, coalesced, selected, element_values, elements_values, entry_pairs, entries_pairs, rest_value, pipes_value, step_value, keys_values}
 use Rattle.cs_meaning.proofs.Agree.{AllSame, Same, Agree, nothing-agree, apply-agree, then-agree, both-agree, cond-agree, choose-agree, filter-agree, filtered-agree, ordered-agree, entered-agree, onward-agree}
@@ -79,7 +79,7 @@ is-condition (position n) h = cc
 is-condition (named w) h = cc
 is-condition condition h = refl
 
-after-whole : (k : Kind) → entrance (joined Listing k) ≡ Whole
+after-whole : (k : Kind) → entrance (kind_before Listing k) ≡ Whole
 after-whole Empty = refl
 after-whole (Taking Array g) = refl
 after-whole (Taking One g) = refl
@@ -156,7 +156,7 @@ pub filter-value : (docs : List Tree) (params : Pairs) (e : Expression) (ss : St
     → entered (base_entrance everything (kind (more_steps (bracket e) ss))) (rest_value docs params (more_steps (bracket e) ss) scope) (list_of docs)
     ≡ entered (entrance (kind ss)) (rest_value docs params ss scope) (list_of (left_by docs params e scope))
 filter-value docs params e ss scope h =
-    ap (λ (b : Bracketed). entered (entrance (joined (bracket_form b) (kind ss))) (λ v. onward (way (bracket_form b) (kind ss)) (entrance (kind ss)) (step_value docs params (bracket e) scope) (rest_value docs params ss scope) v) (list_of docs)) h
+    ap (λ (b : Bracketed). entered (entrance (kind_before (bracket_form b) (kind ss))) (λ v. onward (way (bracket_form b) (kind ss)) (entrance (kind ss)) (step_value docs params (bracket e) scope) (rest_value docs params ss scope) v) (list_of docs)) h
     ∙ ap (λ (n : Entrance). entered n (λ v. entered (entrance (kind ss)) (rest_value docs params ss scope) (step_value docs params (bracket e) scope v)) (list_of docs)) (after-whole (kind ss))
     ∙ ap (λ v. entered (entrance (kind ss)) (rest_value docs params ss scope) v) (left-value docs params e scope h)
 
@@ -259,9 +259,9 @@ module _ (d1 d2 : List Tree) (params : Pairs) where
     run-sound : (rest : Operands) (scope : List Tree) → Agree d1 d2 (run_looked d1 params rest scope) (run_looked d2 params rest scope) (run_value d1 params rest scope) (run_value d2 params rest scope)
     run-sound no_operands scope v = λ s. (refl, refl)
     run-sound (more_operands sign e rest) scope v =
-        then-agree d1 d2 (cond (decides (operator sign) v) [] (looked d1 params e scope)) (cond (decides (operator sign) v) [] (looked d2 params e scope)) (operated sign v (value d1 params e scope)) (operated sign v (value d2 params e scope))
+        then-agree d1 d2 (cond (decides (operator_of sign) v) [] (looked d1 params e scope)) (cond (decides (operator_of sign) v) [] (looked d2 params e scope)) (operated sign v (value d1 params e scope)) (operated sign v (value d2 params e scope))
         (run_looked d1 params rest scope) (run_looked d2 params rest scope) (run_value d1 params rest scope) (run_value d2 params rest scope)
-        (sign-agree d1 d2 (operator sign) v (looked d1 params e scope) (looked d2 params e scope) (value d1 params e scope) (value d2 params e scope) (sound e scope)) (run-sound rest scope)
+        (sign-agree d1 d2 (operator_of sign) v (looked d1 params e scope) (looked d2 params e scope) (value d1 params e scope) (value d2 params e scope) (sound e scope)) (run-sound rest scope)
 
     pattern-sound : (e : Expression) (scope : List Tree) → AllSame d1 d2 (looked d1 params e scope) → path_pattern d1 params e scope ≡ path_pattern d2 params e scope
     pattern-sound (call name args) scope s =

@@ -3,7 +3,7 @@ use Rattle.std.specs.Prelude.{ℕ, length, filter, List, [], ◌∷◌, Bool}
 use Rattle.cs_value.specs.Tree.{Tree, null, Pairs}
 use Rattle.cs_syntax.specs.Expression.{Expression}
 use Rattle.cs_view.specs.Keys.{Sel}
-use Rattle.cs_plan.specs.Simple.{filter_of, tail_of, steps_behind, key_of}
+use Rattle.cs_plan.specs.Simple.{filter_of, tail_of, steps_behind, query_key}
 use Rattle.cs_meaning.specs.Joining.{list_of, kind, entrance, entered}
 use Rattle.cs_meaning.specs.Operators.{is_true}
 use Rattle.cs_meaning.specs.Values.{value, rest_value, pipes_value}
@@ -20,8 +20,9 @@ hits e params docs = filter (is_hit e params) docs
 abbrev pub tail : Expression → Pairs → List Tree → Tree
 tail e params ds =
     let ss = tail_of (steps_behind e) in
-    pipes_value [] params ss (null ∷ []) (entered (entrance (kind ss)) (rest_value [] params ss (null ∷ [])) (list_of ds))
+    pipes_value [] params ss (null ∷ [])
+    (entered (entrance (kind ss)) (rest_value [] params ss (null ∷ [])) (list_of ds))
 
 -- How many documents have the key of the query.
 abbrev pub cost : Expression → Pairs → List Tree → ℕ
-cost e params docs = length (Sel (key_of e params) docs)
+cost e params docs = length (Sel (query_key e params) docs)

@@ -6,7 +6,7 @@ use Rattle.cs_syntax.specs.Expression.{Expression, Steps}
 use Rattle.cs_view.specs.Keys.{has, Sel}
 use Rattle.cs_view.specs.declared.key.Key.{Key}
 use Rattle.cs_plan.specs.Filters.{key_in}
-use Rattle.cs_plan.specs.Simple.{is_quiet, is_simple, key_of}
+use Rattle.cs_plan.specs.Simple.{is_quiet, is_simple, query_key}
 use Rattle.cs_meaning.specs.Hits.{hits, tail}
 use Rattle.cs_meaning.specs.Looked.{looked, query_looked}
 use Rattle.cs_meaning.specs.Operators.{is_true}
@@ -17,39 +17,50 @@ use Rattle.cs_meaning.specs.Values.{value, rest_value, query_value}
 abbrev pub AgreeOn : List Key → List Tree → List Tree → Type 0
 AgreeOn keys d1 d2 = (k : Key) → Contains keys k → Sel k d1 ≡ Sel k d2
 
--- What was looked up settles the value: over documents that agree on it the value is the same, and the same is looked up.
+-- What was looked up settles the value: over documents that agree on it the value is the same, and
+-- the same is looked up.
 abbrev pub LookedSettlesValue : Type 0
-LookedSettlesValue = (e : Expression) (params : Pairs) (scope d1 d2 : List Tree) → AgreeOn (looked d1 params e scope) d1 d2
-    → (value d1 params e scope ≡ value d2 params e scope) × (looked d1 params e scope ≡ looked d2 params e scope)
+LookedSettlesValue = (e : Expression) (params : Pairs) (scope d1 d2 : List Tree)
+    → AgreeOn (looked d1 params e scope) d1 d2
+    → (value d1 params e scope ≡ value d2 params e scope)
+    × (looked d1 params e scope ≡ looked d2 params e scope)
 
 -- A document that makes a filter true has the filter's key, in every scope and over every dataset.
 abbrev pub TrueHasKey : Type 0
-TrueHasKey = (e : Expression) (params : Pairs) (scope docs : List Tree) (d : Tree) → IsTrue (is_true (value docs params e (d ∷ scope))) → IsTrue (has (key_in e scope params) d)
+TrueHasKey = (e : Expression) (params : Pairs) (scope docs : List Tree) (d : Tree)
+    → IsTrue (is_true (value docs params e (d ∷ scope))) → IsTrue (has (key_in e scope params) d)
 
 -- A simple query looks up its key and nothing else.
 abbrev pub SimpleLooksUpItsKey : Type 0
-SimpleLooksUpItsKey = (e : Expression) (params : Pairs) (docs : List Tree) → IsTrue (is_simple e) → query_looked docs params e ≡ key_of e params ∷ []
+SimpleLooksUpItsKey = (e : Expression) (params : Pairs) (docs : List Tree) → IsTrue (is_simple e)
+    → query_looked docs params e ≡ query_key e params ∷ []
 
 -- A simple query's value is what its tail makes of its hits.
 abbrev pub SimpleIsTailOfHits : Type 0
-SimpleIsTailOfHits = (e : Expression) (params : Pairs) (docs : List Tree) → IsTrue (is_simple e) → query_value docs params e ≡ tail e params (hits e params docs)
+SimpleIsTailOfHits = (e : Expression) (params : Pairs) (docs : List Tree) → IsTrue (is_simple e)
+    → query_value docs params e ≡ tail e params (hits e params docs)
 
 -- An order gives the same elements, ascending by their keys, with ties as they stood.
 abbrev pub SortedInOrder : Type 0
-SortedInOrder = (ds : List Bool) (xs : List Ranked) → IsPermutation xs (sorted ds xs) × IsSorted (ranks ds) (sorted ds xs) × IsStable (ranks ds) xs (sorted ds xs)
+SortedInOrder = (ds : List Bool) (xs : List Ranked)
+    → IsPermutation xs (sorted ds xs) × IsSorted (ranks ds) (sorted ds xs)
+    × IsStable (ranks ds) xs (sorted ds xs)
 
 -- No other list ascends by the keys and keeps ties as they stood.
 abbrev pub SortedInOneWay : Type 0
-SortedInOneWay = (ds : List Bool) (xs ys : List Ranked) → IsSorted (ranks ds) ys → IsStable (ranks ds) xs ys → ys ≡ sorted ds xs
+SortedInOneWay = (ds : List Bool) (xs ys : List Ranked) → IsSorted (ranks ds) ys
+    → IsStable (ranks ds) xs ys → ys ≡ sorted ds xs
 
--- An expression without `*` and `->` looks nothing up, and its value is the same over all documents.
+-- An expression without `*` and `->` looks nothing up, and its value is the same over all
+-- documents.
 abbrev pub QuietAsksNothing : Type 0
 QuietAsksNothing = (e : Expression) (params : Pairs) (scope d1 d2 : List Tree) → IsTrue (is_quiet e)
     → (looked d1 params e scope ≡ []) × (value d1 params e scope ≡ value d2 params e scope)
 
 -- The hits of a query are found among the documents that have its key.
 abbrev pub HitsHaveKey : Type 0
-HitsHaveKey = (e : Expression) (params : Pairs) (docs : List Tree) → hits e params docs ≡ hits e params (Sel (key_of e params) docs)
+HitsHaveKey = (e : Expression) (params : Pairs) (docs : List Tree)
+    → hits e params docs ≡ hits e params (Sel (query_key e params) docs)
 
 -- A rest of a chain gives null of null.
 abbrev pub RestKeepsNull : Type 0

@@ -1,4 +1,5 @@
--- What an evaluation looks up, as a list of keys in the order of evaluation: this project's profile. It stands beside the
+-- What an evaluation looks up, as a list of keys in the order of evaluation: this project's
+-- profile. It stands beside the
 -- value of each form: a part that the value does not need is not looked at.
 use Rattle.std.specs.Prelude.{ℕ, Bool, true, false, ◌&&◌, List, [], ◌∷◌, ◌++◌, flat_map, Option, Some, None, if◌then◌else◌}
 use Rattle.std.specs.Option.{option_map_or}
@@ -17,7 +18,7 @@ use Rattle.cs_meaning.specs.declared.join.Way.TheVariants.{Through, Over, After,
 use Rattle.cs_meaning.specs.declared.join.Entrance.{Entrance}
 use Rattle.cs_meaning.specs.declared.join.Entrance.TheVariants.{Whole, Mapped, Flat}
 use Rattle.cs_meaning.specs.Joining.{as_list, list_of, mapped, form, kind, way, entrance, entered, base_entrance}
-use Rattle.cs_meaning.specs.Operators.{is_true, operator, operated, decides, Callee, coalescing, selecting, referring, applying, callee, reference_of}
+use Rattle.cs_meaning.specs.Operators.{is_true, operator_of, operated, decides, Callee, coalescing, selecting, referring, applying, callee, reference_of}
 use Rattle.cs_meaning.specs.Values.{is_pipe, value, argument_value, rest_value, step_value}
 
 -- What is looked up for each element of a list, nothing for anything else.
@@ -31,10 +32,13 @@ entered_looked Mapped rest v = each_looked rest v
 entered_looked Flat rest v = each_looked rest v
 
 -- What a step and the rest behind it look up.
-abbrev pub onward_looked : Way → Entrance → (Tree → Tree) → (Tree → List Key) → (Tree → List Key) → Tree → List Key
+abbrev pub onward_looked : Way → Entrance → (Tree → Tree) → (Tree → List Key) → (Tree → List Key)
+    → Tree → List Key
 onward_looked Through enter step step_keys rest_keys v = step_keys v ++ rest_keys (step v)
-onward_looked Over enter step step_keys rest_keys v = each_looked step_keys v ++ rest_keys (mapped step v)
-onward_looked After enter step step_keys rest_keys v = step_keys v ++ entered_looked enter rest_keys (step v)
+onward_looked Over enter step step_keys rest_keys v =
+    each_looked step_keys v ++ rest_keys (mapped step v)
+onward_looked After enter step step_keys rest_keys v =
+    step_keys v ++ entered_looked enter rest_keys (step v)
 onward_looked Ends enter step step_keys rest_keys v = []
 
 -- A condition is tried on each element, and a position or a name looks nothing up.
@@ -48,7 +52,8 @@ abbrev pub id_looked : Option (List ℕ) → List Key
 id_looked None = []
 id_looked (Some t) = Id t ∷ []
 
--- `coalesce` and `select` look up for the arguments that count, every other call for all its arguments.
+-- `coalesce` and `select` look up for the arguments that count, every other call for all its
+-- arguments.
 abbrev pub called_looked : Callee → List Key → List Key → List Key → List Key
 called_looked coalescing first taken all = first
 called_looked selecting first taken all = taken
@@ -66,37 +71,51 @@ starts_with_filter no_steps = false
 starts_with_filter (more_steps s ss) = is_filter s
 
 abbrev mutual
-  -- A `*` with a filter as its first step is looked up by the key of the filter; every other `*` is all documents. All
+  -- A `*` with a filter as its first step is looked up by the key of the filter; every other `*` is
+  -- all documents. All
   -- other forms look up what their parts do.
   pub looked : List Tree → Pairs → Expression → List Tree → List Key
   looked docs params everything scope = All ∷ []
   looked docs params (round e) scope = looked docs params e scope
-  looked docs params (call name args) scope = called_looked (callee name) (coalesced_looked docs params args scope) (selected_looked docs params args scope) (arguments_looked docs params args scope)
+  looked docs params (call name args) scope =
+      called_looked (callee name) (coalesced_looked docs params args scope)
+      (selected_looked docs params args scope) (arguments_looked docs params args scope)
   looked docs params (array es) scope = elements_looked docs params es scope
   looked docs params (object_literal es) scope = entries_looked docs params es scope
   looked docs params (chain base ss) scope =
       (if is_everything base && starts_with_filter ss then filter_looked docs params ss scope
-      else looked docs params base scope ++ entered_looked (base_entrance base (kind ss)) (rest_looked docs params ss scope) (value docs params base scope))
-      ++ pipes_looked docs params ss scope (entered (base_entrance base (kind ss)) (rest_value docs params ss scope) (value docs params base scope))
+      else looked docs params base scope
+      ++ entered_looked (base_entrance base (kind ss)) (rest_looked docs params ss scope)
+      (value docs params base scope))
+      ++ pipes_looked docs params ss scope
+      (entered (base_entrance base (kind ss)) (rest_value docs params ss scope)
+      (value docs params base scope))
   looked docs params (prefix signs e) scope = looked docs params e scope
-  looked docs params (run e rest) scope = looked docs params e scope ++ run_looked docs params rest scope (value docs params e scope)
-  looked docs params (within e right) scope = looked docs params e scope ++ looked docs params right scope
-  looked docs params (between e from to closed) scope = looked docs params e scope ++ (looked docs params from scope ++ looked docs params to scope)
+  looked docs params (run e rest) scope =
+      looked docs params e scope ++ run_looked docs params rest scope (value docs params e scope)
+  looked docs params (within e right) scope =
+      looked docs params e scope ++ looked docs params right scope
+  looked docs params (between e from to closed) scope =
+      looked docs params e scope ++ (looked docs params from scope ++ looked docs params to scope)
   looked docs params _ scope = []
 
-  -- `*` and its filter: the key of the filter, then what the filter looks up for each document that has the key, and then
+  -- `*` and its filter: the key of the filter, then what the filter looks up for each document that
+  -- has the key, and then
   -- what the rest looks up of the documents that make the filter true.
   pub filter_looked : List Tree → Pairs → Steps → List Tree → List Key
   filter_looked docs params (more_steps (bracket e) ss) scope =
-      key_in e scope params ∷ (flat_map (λ d. looked docs params e (d ∷ scope)) (Sel (key_in e scope params) docs)
-      ++ entered_looked (entrance (kind ss)) (rest_looked docs params ss scope) (step_value docs params (bracket e) scope (list_of docs)))
+      key_in e scope params
+      ∷ (flat_map (λ d. looked docs params e (d ∷ scope)) (Sel (key_in e scope params) docs)
+      ++ entered_looked (entrance (kind ss)) (rest_looked docs params ss scope)
+      (step_value docs params (bracket e) scope (list_of docs)))
   filter_looked docs params _ scope = []
 
   -- A right side is looked at unless the left side decides.
   pub run_looked : List Tree → Pairs → Operands → List Tree → Tree → List Key
   run_looked docs params no_operands scope v = []
   run_looked docs params (more_operands sign e rest) scope v =
-      (if decides (operator sign) v then [] else looked docs params e scope) ++ run_looked docs params rest scope (operated sign v (value docs params e scope))
+      (if decides (operator_of sign) v then [] else looked docs params e scope)
+      ++ run_looked docs params rest scope (operated sign v (value docs params e scope))
 
   -- An argument; of one with `=>`, which only `select` may have, there is no value.
   pub argument_looked : List Tree → Pairs → Argument → List Tree → List Key
@@ -106,20 +125,25 @@ abbrev mutual
   -- All arguments, in order.
   pub arguments_looked : List Tree → Pairs → Arguments → List Tree → List Key
   arguments_looked docs params no_arguments scope = []
-  arguments_looked docs params (more_arguments x xs) scope = argument_looked docs params x scope ++ arguments_looked docs params xs scope
+  arguments_looked docs params (more_arguments x xs) scope =
+      argument_looked docs params x scope ++ arguments_looked docs params xs scope
 
   -- The first argument that is not null is the last that counts.
   pub coalesced_looked : List Tree → Pairs → Arguments → List Tree → List Key
   coalesced_looked docs params no_arguments scope = []
   coalesced_looked docs params (more_arguments x xs) scope =
-      argument_looked docs params x scope ++ (if is_null (argument_value docs params x scope) then coalesced_looked docs params xs scope else [])
+      argument_looked docs params x scope
+      ++ (if is_null (argument_value docs params x scope)
+      then coalesced_looked docs params xs scope else [])
 
   -- The first condition that is true is the last that counts, and then the value that is taken.
   pub selected_looked : List Tree → Pairs → Arguments → List Tree → List Key
   selected_looked docs params no_arguments scope = []
   selected_looked docs params (more_arguments (argument e) xs) scope = looked docs params e scope
   selected_looked docs params (more_arguments (when_argument c e) xs) scope =
-      looked docs params c scope ++ (if is_true (value docs params c scope) then looked docs params e scope else selected_looked docs params xs scope)
+      looked docs params c scope
+      ++ (if is_true (value docs params c scope) then looked docs params e scope
+      else selected_looked docs params xs scope)
 
   -- An element of an array literal.
   pub element_looked : List Tree → Pairs → Element → List Tree → List Key
@@ -129,32 +153,43 @@ abbrev mutual
   -- All elements, in order.
   pub elements_looked : List Tree → Pairs → Elements → List Tree → List Key
   elements_looked docs params no_elements scope = []
-  elements_looked docs params (more_elements x xs) scope = element_looked docs params x scope ++ elements_looked docs params xs scope
+  elements_looked docs params (more_elements x xs) scope =
+      element_looked docs params x scope ++ elements_looked docs params xs scope
 
   -- An entry under a condition is looked at where this is true.
   pub entry_looked : List Tree → Pairs → Entry → List Tree → List Key
   entry_looked docs params (keyed k e) scope = looked docs params e scope
   entry_looked docs params (bare e) scope = looked docs params e scope
-  entry_looked docs params (when c e) scope = looked docs params c scope ++ (if is_true (value docs params c scope) then looked docs params e scope else [])
+  entry_looked docs params (when c e) scope =
+      looked docs params c scope
+      ++ (if is_true (value docs params c scope) then looked docs params e scope else [])
   entry_looked docs params (spread e) scope = looked docs params e scope
 
   -- All entries, in order.
   pub entries_looked : List Tree → Pairs → Entries → List Tree → List Key
   entries_looked docs params no_entries scope = []
-  entries_looked docs params (more_entries x xs) scope = entry_looked docs params x scope ++ entries_looked docs params xs scope
+  entries_looked docs params (more_entries x xs) scope =
+      entry_looked docs params x scope ++ entries_looked docs params xs scope
 
   -- What a rest, up to the first piped call, looks up of a value.
   pub rest_looked : List Tree → Pairs → Steps → List Tree → Tree → List Key
   rest_looked docs params no_steps scope v = []
   rest_looked docs params (more_steps s ss) scope v =
-      onward_looked (way (form s) (kind ss)) (entrance (kind ss)) (step_value docs params s scope) (step_looked docs params s scope) (rest_looked docs params ss scope) v
+      onward_looked (way (form s) (kind ss)) (entrance (kind ss)) (step_value docs params s scope)
+      (step_looked docs params s scope) (rest_looked docs params ss scope) v
 
   -- What each piped call and the rest behind it look up.
   pub pipes_looked : List Tree → Pairs → Steps → List Tree → Tree → List Key
   pipes_looked docs params no_steps scope v = []
   pipes_looked docs params (more_steps s ss) scope v =
-      (if is_pipe s then step_looked docs params s scope v ++ entered_looked (entrance (kind ss)) (rest_looked docs params ss scope) (step_value docs params s scope v) else [])
-      ++ pipes_looked docs params ss scope (if is_pipe s then entered (entrance (kind ss)) (rest_value docs params ss scope) (step_value docs params s scope v) else v)
+      (if is_pipe s
+      then step_looked docs params s scope v
+      ++ entered_looked (entrance (kind ss)) (rest_looked docs params ss scope)
+      (step_value docs params s scope v) else [])
+      ++ pipes_looked docs params ss scope
+      (if is_pipe s
+      then entered (entrance (kind ss)) (rest_value docs params ss scope)
+      (step_value docs params s scope v) else v)
 
   -- One step; a filter tries its condition on each element, an order finds the keys of each.
   pub step_looked : List Tree → Pairs → Step → List Tree → Tree → List Key
@@ -162,14 +197,18 @@ abbrev mutual
   step_looked docs params deref scope v = id_looked (reference_of v)
   step_looked docs params each scope v = []
   step_looked docs params (slice from to closed) scope v = []
-  step_looked docs params (bracket e) scope v = bracket_looked (bracketed e) (λ x. looked docs params e (x ∷ scope)) v
-  step_looked docs params (project es) scope v = if is_object v then entries_looked docs params es (v ∷ scope) else []
-  step_looked docs params (pipe name ks) scope v = if is_order_name name then each_looked (λ x. keys_looked docs params ks (x ∷ scope)) v else []
+  step_looked docs params (bracket e) scope v =
+      bracket_looked (bracketed e) (λ x. looked docs params e (x ∷ scope)) v
+  step_looked docs params (project es) scope v = if is_object v
+      then entries_looked docs params es (v ∷ scope) else []
+  step_looked docs params (pipe name ks) scope v = if is_order_name name
+      then each_looked (λ x. keys_looked docs params ks (x ∷ scope)) v else []
 
   -- The keys of an order, in order.
   pub keys_looked : List Tree → Pairs → OrderKeys → List Tree → List Key
   keys_looked docs params no_keys scope = []
-  keys_looked docs params (more_keys (order_key e descending) ks) scope = looked docs params e scope ++ keys_looked docs params ks scope
+  keys_looked docs params (more_keys (order_key e descending) ks) scope =
+      looked docs params e scope ++ keys_looked docs params ks scope
 
 -- What a whole query looks up: its scope is that of null alone.
 abbrev pub query_looked : List Tree → Pairs → Expression → List Key

@@ -1,4 +1,5 @@
--- Operators and functions by the signs and names that stand in an expression: GROQ-1.revision1, "Operators", "Functions".
+-- Operators and functions by the signs and names that stand in an expression: GROQ-1.revision1,
+-- "Operators", "Functions".
 use Rattle.std.specs.Prelude.{ℕ, List, [], ◌∷◌, ◌++◌, flat_map, filter_map, Bool, true, false, not, Option, Some, None, option_and_then, option_to_list, unwrap_or, codes, if◌then◌else◌}
 use Rattle.std.specs.Option.{option_map_or}
 use Rattle.std.specs.List.{list_any}
@@ -36,27 +37,28 @@ is_true v = unwrap_or (truth v) false
 abbrev pub is_false : Tree → Bool
 is_false v = not (unwrap_or (truth v) true)
 
--- The operator of a sign between two values; `match`, `/` and `**` have none in this project's profile.
-abbrev pub operator : BinSign → Option Op
-operator sign.Or = Some Or
-operator sign.And = Some And
-operator sign.Eq = Some Eq
-operator sign.Ne = Some Ne
-operator sign.Lt = Some Lt
-operator sign.Le = Some Le
-operator sign.Gt = Some Gt
-operator sign.Ge = Some Ge
-operator sign.Match = None
-operator sign.Add = Some Add
-operator sign.Sub = Some Sub
-operator sign.Mul = Some Mul
-operator sign.Div = None
-operator sign.Rem = Some Rem
-operator sign.Pow = None
+-- The operator of a sign between two values; `match`, `/` and `**` have none in this project's
+-- profile.
+abbrev pub operator_of : BinSign → Option Op
+operator_of sign.Or = Some Or
+operator_of sign.And = Some And
+operator_of sign.Eq = Some Eq
+operator_of sign.Ne = Some Ne
+operator_of sign.Lt = Some Lt
+operator_of sign.Le = Some Le
+operator_of sign.Gt = Some Gt
+operator_of sign.Ge = Some Ge
+operator_of sign.Match = None
+operator_of sign.Add = Some Add
+operator_of sign.Sub = Some Sub
+operator_of sign.Mul = Some Mul
+operator_of sign.Div = None
+operator_of sign.Rem = Some Rem
+operator_of sign.Pow = None
 
 -- The value of a sign between two values: null where the sign has no operator.
 abbrev pub operated : BinSign → Tree → Tree → Tree
-operated s a b = option_map_or (λ o. binary o a b) (operator s) null
+operated s a b = option_map_or (λ o. binary o a b) (operator_of s) null
 
 -- The left side alone decides: false of `&&`, true of `||`.
 abbrev pub decides : Option Op → Tree → Bool
@@ -75,7 +77,8 @@ abbrev pub signed : List PreSign → Tree → Tree
 signed [] v = v
 signed (p ∷ ps) v = prefix (front_operator p) (signed ps v)
 
--- `v in path(p)`: whether the pattern matches, null where either is no text: "In operator", "path()".
+-- `v in path(p)`: whether the pattern matches, null where either is no text: "In operator",
+-- "path()".
 abbrev pub in_path : Tree → Tree → Tree
 in_path v pattern = of_texts (λ s p. boolean (path_matches p s)) v pattern
 
@@ -89,7 +92,8 @@ abbrev pub sole : List Tree → Tree
 sole (v ∷ []) = v
 sole vs = null
 
--- How a call finds its value: `coalesce` and `select` may leave arguments aside, `references` looks at `@`, and every other
+-- How a call finds its value: `coalesce` and `select` may leave arguments aside, `references` looks
+-- at `@`, and every other
 -- name may be that of a function of values.
 pub data Callee : Type 0 where
   coalescing : Callee
@@ -105,17 +109,20 @@ callee name = let bare = without_global name in
     else if bytes_eq bare (codes "references") then referring
     else applying (named name)
 
--- A function of its arguments' values; null where there is no such function, or it has another number of arguments.
+-- A function of its arguments' values; null where there is no such function, or it has another
+-- number of arguments.
 abbrev pub applied : Option Function → List Tree → Tree
 applied (Some f) (x ∷ []) = value f x None
 applied (Some f) (x ∷ y ∷ []) = if has_two f then value f x (Some y) else null
 applied f xs = null
 
--- The texts that an argument of `references` gives: a text itself, and those among a list's elements.
+-- The texts that an argument of `references` gives: a text itself, and those among a list's
+-- elements.
 abbrev pub targets : Tree → List (List ℕ)
 targets v = option_to_list (as_text v) ++ filter_map as_text (unwrap_or (as_list v) [])
 
--- `references(..)`: whether the value, or one inside it, refers to one of the texts given: "references()".
+-- `references(..)`: whether the value, or one inside it, refers to one of the texts given:
+-- "references()".
 abbrev pub references : List Tree → Tree → Tree
 references vs this = boolean (list_any (λ target. refers target this) (flat_map targets vs))
 
@@ -143,9 +150,12 @@ abbrev pub put_under : Option (List ℕ) → Tree → Pairs → Pairs
 put_under None v pairs = pairs
 put_under (Some k) v pairs = put k v pairs
 
--- The text that an object refers by: none where it has a `_dataset`, or no text as `_ref`: "Dereference".
+-- The text that an object refers by: none where it has a `_dataset`, or no text as `_ref`:
+-- "Dereference".
 abbrev pub reference_in : Pairs → Option (List ℕ)
-reference_in pairs = option_map_or (λ other. None) (find (codes "_dataset") pairs) (option_and_then as_text (find (codes "_ref") pairs))
+reference_in pairs =
+    option_map_or (λ other. None) (find (codes "_dataset") pairs)
+    (option_and_then as_text (find (codes "_ref") pairs))
 
 -- The text that a value refers by: none where it is no object.
 abbrev pub reference_of : Tree → Option (List ℕ)

@@ -32,12 +32,13 @@ abbrev pub behind : Bool → ℤ → ℤ
 behind closed j = if closed then j +ℤ pos 1 else j
 
 -- The elements from place i up to the right end, none where this is not above i.
-abbrev pub between : {A : Type 0} → ℤ → ℤ → Bool → List A → List A
-between i j closed ts =
+abbrev pub elements_between : {A : Type 0} → ℤ → ℤ → Bool → List A → List A
+elements_between i j closed ts =
     let n = length ts in
     drop (clamped n (counted n i)) (take (clamped n (behind closed (counted n j))) ts)
 
--- `[i..j]`, and `[i...j]` where it is not closed: null of anything but a list, and where an end is no position.
+-- `[i..j]`, and `[i...j]` where it is not closed: null of anything but a list, and where an end is
+-- no position.
 abbrev pub sliced : Option ℤ → Option ℤ → Bool → Tree → Tree
-sliced (Some i) (Some j) closed v = of_list (λ ts. list_of (between i j closed ts)) v
+sliced (Some i) (Some j) closed v = of_list (λ ts. list_of (elements_between i j closed ts)) v
 sliced i j closed v = null

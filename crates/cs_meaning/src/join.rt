@@ -14,7 +14,7 @@ pub enum Form {
     /// A projection.
     Projection,
     /// It takes an array and gives one: a filter, a slice, `[]`.
-    List,
+    Listing,
     /// It takes an array and gives one value: an element.
     Element,
     /// A piped call: a rest ends before it.
@@ -27,7 +27,7 @@ pub enum Kind {
     /// No step is left before the end, or before a piped call.
     Empty,
     /// What the rest takes, and what it gives.
-    Steps(Shape, Shape),
+    Taking(Shape, Shape),
 }
 
 /// How a step leads on to the rest behind it.

@@ -1,4 +1,5 @@
--- The arithmetic of whole numbers of 64 bits and the joins of `+`: GROQ-1.revision1, "Plus operator" and those after it.
+-- The arithmetic of whole numbers of 64 bits and the joins of `+`: GROQ-1.revision1, "Plus
+-- operator" and those after it.
 -- A number out of 64 bits, and a remainder by 0, are null: this project's profile.
 use Rattle.std.specs.Prelude.{◌^◌, ◌++◌, ℤ, pos, negsuc, ◌+ℤ◌, ◌-ℤ◌, ◌*ℤ◌, int_rem, Bool, true, false, nat_lt, if◌then◌else◌}
 use Rattle.std.specs.Ordering.{int_eq}

@@ -1,4 +1,5 @@
--- Equality of values: GROQ-1.revision1, "Equality operators". Lists and objects are equal to nothing.
+-- Equality of values: GROQ-1.revision1, "Equality operators". Lists and objects are equal to
+-- nothing.
 use Rattle.std.specs.Prelude.{Bool, true, false}
 use Rattle.std.specs.Ordering.{is_eq, bool_cmp, int_eq}
 use Rattle.std.specs.Str.{bytes_eq}

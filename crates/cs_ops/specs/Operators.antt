@@ -52,7 +52,8 @@ within a (list ts) = boolean (list_any (λ t. equal t a) (members ts))
 within a (object ps) = null
 
 -- the test of a comparison with the lower end, and of one with the upper end
-abbrev pub both_hold : (Ordering → Bool) → Option Ordering → (Ordering → Bool) → Option Ordering → Tree
+abbrev pub both_hold : (Ordering → Bool) → Option Ordering → (Ordering → Bool) → Option Ordering
+    → Tree
 both_hold from None to high = null
 both_hold from (Some o) to None = null
 both_hold from (Some o) to (Some p) = boolean (from o && to p)

@@ -1,5 +1,7 @@
--- The orders of values: GROQ-1.revision1, "Comparison operators", "Partial comparison", "Total comparison".
--- UTF-8 keeps the order of code points, so texts are compared by their bytes (`texts_compare_by_code_points`).
+-- The orders of values: GROQ-1.revision1, "Comparison operators", "Partial comparison", "Total
+-- comparison".
+-- UTF-8 keeps the order of code points, so texts are compared by their bytes
+-- (`texts_compare_by_code_points`).
 use Rattle.std.specs.Prelude.{ℕ, Option, Some, None, unwrap_or}
 use Rattle.std.specs.declared.cmp.Ordering.{Ordering}
 use Rattle.std.specs.declared.cmp.Ordering.TheVariants.{Equal}

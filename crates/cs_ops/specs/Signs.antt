@@ -5,8 +5,10 @@ use Rattle.cs_ops.specs.declared.op.Op.{Op}
 use Rattle.cs_ops.specs.declared.op.Op.TheVariants.{Add, Sub, Mul, Rem, Eq, Ne, Lt, Le, Gt, Ge, And, Or}
 
 abbrev pub signs : List (List ℕ × Op)
-signs = (codes "!=", Ne) ∷ (codes "%", Rem) ∷ (codes "&&", And) ∷ (codes "*", Mul) ∷ (codes "+", Add) ∷ (codes "-", Sub)
-    ∷ (codes "<", Lt) ∷ (codes "<=", Le) ∷ (codes "==", Eq) ∷ (codes ">", Gt) ∷ (codes ">=", Ge) ∷ (codes "||", Or) ∷ []
+signs = (codes "!=", Ne) ∷ (codes "%", Rem) ∷ (codes "&&", And) ∷ (codes "*", Mul)
+    ∷ (codes "+", Add) ∷ (codes "-", Sub)
+    ∷ (codes "<", Lt) ∷ (codes "<=", Le) ∷ (codes "==", Eq) ∷ (codes ">", Gt) ∷ (codes ">=", Ge)
+    ∷ (codes "||", Or) ∷ []
 
 -- the operator of the sign
 abbrev pub operator : List ℕ → Option Op

@@ -1,4 +1,5 @@
--- The logic of three values of `&&`, `||` and `!`: GROQ-1.revision1, "And operator", "Or operator", "Not operator".
+-- The logic of three values of `&&`, `||` and `!`: GROQ-1.revision1, "And operator", "Or operator",
+-- "Not operator".
 use Rattle.std.specs.Prelude.{Bool, true, false, not, Option, Some, None, option_map}
 use Rattle.cs_value.specs.Tree.{Tree, null, boolean}
 use Rattle.cs_value.specs.Words.{as_boolean}

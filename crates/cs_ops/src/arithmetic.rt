@@ -115,7 +115,8 @@ fn joined_texts(alloc: Global, left: &Txt, right: &Txt) -> Result<Txt, NoMemory>
 }
 
 fn joined_lists(alloc: Global, left: &Vec<Val>, right: &Vec<Val>) -> Result<Vec<Val>, NoMemory>
-    ensures { IfOk result (λ v. list_tree v.items ≡ list_tree left.now.items ++ list_tree right.now.items) }
+    ensures { IfOk result
+        (λ v. list_tree v.items ≡ list_tree left.now.items ++ list_tree right.now.items) }
 {
     let mut both = Vec::with_capacity(alloc, left.len() + right.len())?;
     push_copies(alloc, left, &mut both)?;
@@ -124,7 +125,8 @@ fn joined_lists(alloc: Global, left: &Vec<Val>, right: &Vec<Val>) -> Result<Vec<
 }
 
 fn push_copies(alloc: Global, items: &Vec<Val>, to: &mut Vec<Val>) -> Result<(), NoMemory>
-    ensures { OnOk result (list_tree to.new.items ≡ list_tree to.old.items ++ list_tree items.now.items) }
+    ensures { OnOk result
+        (list_tree to.new.items ≡ list_tree to.old.items ++ list_tree items.now.items) }
 {
     for item in items {
         to.push(item.copy(alloc)?)?;
@@ -134,7 +136,9 @@ fn push_copies(alloc: Global, items: &Vec<Val>, to: &mut Vec<Val>) -> Result<(),
 
 // The object with each pair put into it.
 fn put_all(alloc: Global, left: Val, right: &Fields) -> Result<Val, NoMemory>
-    ensures { IfOk result (λ v. (ps : Pairs) → tree left ≡ object ps → tree v ≡ object (merged ps (fields right.now))) }
+    ensures { IfOk result
+        (λ v. (ps : Pairs) → tree left ≡ object ps
+        → tree v ≡ object (merged ps (fields right.now))) }
 {
     let Val::Obj(mut object) = left else {
         return Ok(Val::Null);

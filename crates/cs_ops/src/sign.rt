@@ -25,7 +25,8 @@ macro_rules! signs {
     ($($name:literal => $op:ident),*) => { [$(Sign { name: $name, op: Op::$op }),*] };
 }
 
-/// The operator that stands between two values by the sign: `None` exactly where no operator has it.
+/// The operator that stands between two values by the sign: `None` exactly where no operator has
+/// it.
 pub fn operator(sign: &str) -> Option<Op>
     ensures { result ≡ operator sign.now }
 {

@@ -3,7 +3,7 @@ ghost use Rattle.std.specs.Prelude.{◌≡◌, IfOk, option_map};
 ghost use Rattle.cs_value.specs.View.{tree, fields};
 ghost use Rattle.cs_view.specs.Scopes.{scope};
 ghost use Rattle.cs_plan.specs.Steps.{in_scope};
-ghost use Rattle.cs_meaning.specs.Operators.{parameter, operator, operated, decides, front_operator, signed, is_true};
+ghost use Rattle.cs_meaning.specs.Operators.{parameter, operator_of, operated, decides, front_operator, signed, is_true};
 ghost use Rattle.cs_parts.specs.Parts.{got, item};
 
 use crate::{Got, Item, is_false};
@@ -37,8 +37,8 @@ pub fn param<'s>(params: &'s Fields, name: &str) -> Got<'s>
 }
 
 // The operator of a sign, if it has one.
-fn operator(sign: BinSign) -> Option<Op>
-    ensures { result ≡ operator sign }
+fn operator_of(sign: BinSign) -> Option<Op>
+    ensures { result ≡ operator_of sign }
 {
     match sign {
         BinSign::Or => Some(Op::Or),
@@ -59,15 +59,10 @@ fn operator(sign: BinSign) -> Option<Op>
 
 /// The value of a sign between two values. What was made for the left one is used again.
 #[tactic(auto, using(crate::proofs::Trees::tree_of_null))]
-pub fn operated(
-    alloc: Global,
-    sign: BinSign,
-    left: Item<'_>,
-    right: &Val,
-) -> Result<Val, NoMemory>
+pub fn operated(alloc: Global, sign: BinSign, left: Item<'_>, right: &Val) -> Result<Val, NoMemory>
     ensures { IfOk result (λ v. tree v ≡ operated sign (item left.entry) (tree right.now)) }
 {
-    let Some(op) = operator(sign) else {
+    let Some(op) = operator_of(sign) else {
         return Ok(Val::Null);
     };
     match left {
@@ -78,7 +73,7 @@ pub fn operated(
 
 /// Whether the left side alone decides.
 pub fn decides(sign: BinSign, left: &Val) -> bool
-    ensures { result ≡ decides (operator sign) (tree left.now) }
+    ensures { result ≡ decides (operator_of sign) (tree left.now) }
 {
     match sign {
         BinSign::And => is_false(left),

@@ -1,5 +1,7 @@
--- The key of a filter: which documents alone can make it true, as far as its form tells: this project's profile, over the
--- operators of GROQ-1.revision1, "And operator", "Equality operators", "In operator", "references()".
+-- The key of a filter: which documents alone can make it true, as far as its form tells: this
+-- project's profile, over the
+-- operators of GROQ-1.revision1, "And operator", "Equality operators", "In operator",
+-- "references()".
 use Rattle.std.specs.Prelude.{ℕ, List, [], ◌∷◌, ◌++◌, Bool, true, false, nat_le, length, filter, flat_map, Option, Some, None, option_map, option_and_then, option_to_list, codes, if◌then◌else◌}
 use Rattle.std.specs.Option.{option_or}
 use Rattle.std.specs.Str.{bytes_eq}
@@ -42,7 +44,8 @@ of_both f a b = None
 -- The key of `p == c` and of `c == p`, where one side is a path and the other a constant.
 abbrev pub equality_key : Expression → Expression → List Tree → Pairs → Option Key
 equality_key left right scope params =
-    option_or (of_both equals_key (path_of left) (constant right scope params)) (of_both equals_key (path_of right) (constant left scope params))
+    option_or (of_both equals_key (path_of left) (constant right scope params))
+    (of_both equals_key (path_of right) (constant left scope params))
 
 -- The key of `c in p`.
 abbrev pub element_key : Expression → Expression → List Tree → Pairs → Option Key
@@ -57,12 +60,14 @@ scalar_text (Text t) = Some t
 -- The key of `references(c)`, where this is its one argument and c a text.
 abbrev pub reference_key : List ℕ → Arguments → List Tree → Pairs → Option Key
 reference_key name (more_arguments (argument c) no_arguments) scope params =
-    if bytes_eq (without_global name) (codes "references") then option_map Ref (option_and_then scalar_text (constant c scope params)) else None
+    if bytes_eq (without_global name) (codes "references")
+    then option_map Ref (option_and_then scalar_text (constant c scope params)) else None
 reference_key name args scope params = None
 
 -- The key that a conjunct gives, if it gives one.
 abbrev pub conjunct_key : Expression → List Tree → Pairs → Option Key
-conjunct_key (run left (more_operands sign.Eq right no_operands)) scope params = equality_key left right scope params
+conjunct_key (run left (more_operands sign.Eq right no_operands)) scope params =
+    equality_key left right scope params
 conjunct_key (within left right) scope params = element_key left right scope params
 conjunct_key (call name args) scope params = reference_key name args scope params
 conjunct_key _ scope params = None
@@ -74,7 +79,8 @@ all_and (more_operands sign.And e rest) = all_and rest
 all_and _ = false
 
 abbrev mutual
-  -- The conjuncts of a filter: what `&&` joins, from the left; round brackets around one are opened.
+  -- The conjuncts of a filter: what `&&` joins, from the left; round brackets around one are
+  -- opened.
   pub conjuncts : Expression → List Expression
   conjuncts (round e) = conjuncts e
   conjuncts (run e rest) =
@@ -110,17 +116,21 @@ abbrev pub is_element_key : Key → Bool
 is_element_key (Elem names s) = true
 is_element_key k = false
 
--- The keys by their kinds: an id, then a reference, then a value at a path, then an element of a list; those of one kind
+-- The keys by their kinds: an id, then a reference, then a value at a path, then an element of a
+-- list; those of one kind
 -- from the left.
 abbrev pub by_kind : List Key → List Key
-by_kind ks = filter is_id_key ks ++ (filter is_ref_key ks ++ (filter is_path_key ks ++ filter is_element_key ks))
+by_kind ks =
+    filter is_id_key ks
+    ++ (filter is_ref_key ks ++ (filter is_path_key ks ++ filter is_element_key ks))
 
 -- The first key, `All` where there is none.
 abbrev pub first_or_all : List Key → Key
 first_or_all [] = All
 first_or_all (k ∷ ks) = k
 
--- The key of a filter, in the scope in which its chain stands: the leftmost of the first kind that some conjunct gives;
+-- The key of a filter, in the scope in which its chain stands: the leftmost of the first kind that
+-- some conjunct gives;
 -- `All` where none gives one.
 abbrev pub key_in : Expression → List Tree → Pairs → Key
 key_in e scope params = first_or_all (by_kind (keys_given scope params (conjuncts e)))

@@ -1,4 +1,5 @@
--- Simple queries, whose answer follows from the documents that make one filter true: this project's profile.
+-- Simple queries, whose answer follows from the documents that make one filter true: this project's
+-- profile.
 use Rattle.std.specs.Prelude.{Bool, true, false, ◌&&◌, [], ◌∷◌, if◌then◌else◌}
 use Rattle.cs_value.specs.Tree.{null, Pairs}
 use Rattle.cs_syntax.specs.Expression.{Expression, null_literal, everything, round, call, array, object_literal, chain, prefix, run, within, between, Operands, no_operands, more_operands, Step, attr, deref, each, slice, bracket, project, pipe, Steps, no_steps, more_steps, Entry, keyed, bare, when, spread, Entries, no_entries, more_entries, Element, element, spread_element, Elements, no_elements, more_elements, Argument, argument, when_argument, Arguments, no_arguments, more_arguments, order_key, OrderKeys, no_keys, more_keys}
@@ -7,7 +8,8 @@ use Rattle.cs_plan.specs.Steps.{Bracketed, position, named, condition, bracketed
 use Rattle.cs_plan.specs.Filters.{key_in}
 
 abbrev mutual
-  -- An expression is quiet: neither `*` as a value nor `->` stands anywhere in it, so no document but those at hand is
+  -- An expression is quiet: neither `*` as a value nor `->` stands anywhere in it, so no document
+  -- but those at hand is
   -- looked at.
   pub is_quiet : Expression → Bool
   is_quiet everything = false
@@ -86,7 +88,8 @@ abbrev pub is_filter : Step → Bool
 is_filter (bracket e) = is_condition (bracketed e)
 is_filter _ = false
 
--- The kinds of steps that may stand behind the filter of a simple query: an attribute, a projection, `[]`, a slice, an
+-- The kinds of steps that may stand behind the filter of a simple query: an attribute, a
+-- projection, `[]`, a slice, an
 -- element and a piped order.
 abbrev pub is_tail_step : Step → Bool
 is_tail_step deref = false
@@ -102,7 +105,8 @@ are_tail_steps (more_steps s ss) = is_tail_step s && are_tail_steps ss
 -- One filter and steps of these kinds, in which nothing further is looked up.
 abbrev pub is_simple_rest : Steps → Bool
 is_simple_rest no_steps = false
-is_simple_rest (more_steps s ss) = (is_filter s && quiet_step s) && (are_tail_steps ss && quiet_steps ss)
+is_simple_rest (more_steps s ss) =
+    (is_filter s && quiet_step s) && (are_tail_steps ss && quiet_steps ss)
 
 -- A query is simple: `*`, one filter and such steps.
 abbrev pub is_simple : Expression → Bool
@@ -125,5 +129,5 @@ steps_behind (chain everything ss) = ss
 steps_behind _ = no_steps
 
 -- The key of a simple query: that of its filter in the scope of null alone.
-abbrev pub key_of : Expression → Pairs → Key
-key_of e params = key_in (filter_of (steps_behind e)) (null ∷ []) params
+abbrev pub query_key : Expression → Pairs → Key
+query_key e params = key_in (filter_of (steps_behind e)) (null ∷ []) params

@@ -7,7 +7,8 @@ use Rattle.cs_syntax.specs.declared.tree.PreSign.TheVariants as sign
 use Rattle.cs_syntax.specs.Expression.{Expression, number_literal, text_literal, prefix, Step, attr, bracket, Steps, no_steps, more_steps}
 use Rattle.cs_syntax.specs.Numbers.{whole_number}
 
--- The value so many levels out in a scope, 0 being `@` and 1 `^`; null where the scope is too short: "This", "Parent".
+-- The value so many levels out in a scope, 0 being `@` and 1 `^`; null where the scope is too
+-- short: "This", "Parent".
 abbrev pub in_scope : ℕ → List Tree → Tree
 in_scope level scope = unwrap_or (slice_get scope level) null
 
@@ -20,7 +21,8 @@ abbrev pub number_of : Expression → Option ℕ
 number_of (number_literal n) = Some (whole_number n)
 number_of _ = None
 
--- The position that a number, or `-` and a number, stands for: this project's profile of constants in brackets.
+-- The position that a number, or `-` and a number, stands for: this project's profile of constants
+-- in brackets.
 abbrev pub position_of : Expression → Option ℤ
 position_of (prefix (sign.Minus ∷ []) e) = option_map (λ n. neg_ℤ (pos n)) (number_of e)
 position_of e = option_map pos (number_of e)
@@ -30,13 +32,15 @@ abbrev pub text_of : Expression → Option (List ℕ)
 text_of (text_literal s) = Some s
 text_of _ = None
 
--- What a bracket asks for: the element at a position, the attribute of a name, or the elements that meet a condition.
+-- What a bracket asks for: the element at a position, the attribute of a name, or the elements that
+-- meet a condition.
 pub data Bracketed : Type 0 where
   position : ℤ → Bracketed
   named : List ℕ → Bracketed
   condition : Bracketed
 
--- A position is an element, a text alone an attribute, and all else a filter: "Element access", "Attribute access",
+-- A position is an element, a text alone an attribute, and all else a filter: "Element access",
+-- "Attribute access",
 -- "Filter".
 abbrev pub bracketed_by : Option ℤ → Option (List ℕ) → Bracketed
 bracketed_by (Some n) s = position n
@@ -60,4 +64,5 @@ name_of _ = None
 -- The names of steps that are all `.w` or `["w"]`; none where another step is among them.
 abbrev pub names_of : Steps → Option (List (List ℕ))
 names_of no_steps = Some []
-names_of (more_steps s ss) = option_and_then (λ name. option_map (λ names. name ∷ names) (names_of ss)) (name_of s)
+names_of (more_steps s ss) =
+    option_and_then (λ name. option_map (λ names. name ∷ names) (names_of ss)) (name_of s)

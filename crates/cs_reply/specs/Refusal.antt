@@ -11,7 +11,8 @@ pub data Refusal : Type 0 where
   bad_command : Refusal
   -- a command in a form that is not built yet
   not_built : Refusal
-  -- a text is no query: the place where no token begins, brackets, syntax, or a name that is at fault
+  -- a text is no query: the place where no token begins, brackets, syntax, or a name that is at
+  -- fault
   bad_token : ℕ → Refusal
   deep_query : Refusal
   syntax : Refusal

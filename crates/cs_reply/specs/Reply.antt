@@ -1,4 +1,5 @@
--- The replies to the lines of a script: what each says, the object that it is written as, and its line (RFC 8259, and a newline): this project's profile.
+-- The replies to the lines of a script: what each says, the object that it is written as, and its
+-- line (RFC 8259, and a newline): this project's profile.
 use Rattle.std.specs.Prelude.{ℕ, List, [], ◌∷◌, ◌++◌, map, flat_map, Option, Some, None, codes}
 use Rattle.cs_value.specs.Tree.{Tree, text, list, trees}
 use Rattle.cs_json.specs.Text.{json_text}
@@ -17,7 +18,8 @@ pub data Transition : Type 0 where
   changed : Transition
   disappear : Transition
 
--- what a listener hears of one changed document: the two revisions, and the two documents where it asks for them, of the sides on which the document stands
+-- what a listener hears of one changed document: the two revisions, and the two documents where it
+-- asks for them, of the sides on which the document stands
 pub record Event : Type 0 where
   pub listener : List ℕ
   pub id : List ℕ
@@ -71,17 +73,23 @@ revision (Some s) = Some (text s)
 
 abbrev pub event_fields : Event → Fields
 event_fields e =
-    (codes "documentId", text e.id) ∷ (codes "listener", text e.listener) ∷ (codes "timestamp", text e.moment)
-    ∷ (codes "transactionId", text e.tx) ∷ (codes "transition", text (transition_word e.transition)) ∷ (codes "type", text (codes "mutation"))
-    ∷ (where_there (codes "previousRev") (revision e.previous_rev) ++ where_there (codes "resultRev") (revision e.result_rev)
+    (codes "documentId", text e.id) ∷ (codes "listener", text e.listener)
+    ∷ (codes "timestamp", text e.moment)
+    ∷ (codes "transactionId", text e.tx)
+    ∷ (codes "transition", text (transition_word e.transition))
+    ∷ (codes "type", text (codes "mutation"))
+    ∷ (where_there (codes "previousRev") (revision e.previous_rev)
+    ++ where_there (codes "resultRev") (revision e.result_rev)
     ++ where_there (codes "previous") e.previous ++ where_there (codes "result") e.result)
 
 -- the fields beside the number of the line
 abbrev pub fields_of : Reply → Fields
-fields_of (committed tx outcomes) = (codes "results", list (trees (map outcome outcomes))) ∷ (codes "transactionId", text tx) ∷ []
+fields_of (committed tx outcomes) =
+    (codes "results", list (trees (map outcome outcomes))) ∷ (codes "transactionId", text tx) ∷ []
 fields_of (found t) = (codes "result", t) ∷ []
 fields_of (live name t) = (codes "live", text name) ∷ (codes "result", t) ∷ []
-fields_of (welcome name) = (codes "listener", text name) ∷ (codes "type", text (codes "welcome")) ∷ []
+fields_of (welcome name) =
+    (codes "listener", text name) ∷ (codes "type", text (codes "welcome")) ∷ []
 fields_of (event e) = event_fields e
 fields_of (stopped name) = (codes "stopped", text name) ∷ []
 fields_of (set moment) = (codes "at", text moment) ∷ []

@@ -1,4 +1,5 @@
--- The line that is written where the data file or the size of a source ends a run: this project's profile.
+-- The line that is written where the data file or the size of a source ends a run: this project's
+-- profile.
 use Rattle.std.specs.Prelude.{ℕ, List, [], ◌∷◌, codes}
 use Rattle.cs_value.specs.Tree.{Tree, text}
 use Rattle.cs_reply.specs.Fields.{Fields, object_of, number}
@@ -47,13 +48,19 @@ source_word data_file = codes "data"
 source_word script = codes "script"
 
 abbrev pub size_fields : List ℕ → Source → ℕ → Fields
-size_fields word source line = (codes "error", text word) ∷ (codes "line", number line) ∷ (codes "source", text (source_word source)) ∷ []
+size_fields word source line =
+    (codes "error", text word) ∷ (codes "line", number line)
+    ∷ (codes "source", text (source_word source)) ∷ []
 
 abbrev pub stop_fields : Stop → Fields
 stop_fields (long_line source line) = size_fields (codes "too-long") source line
 stop_fields (much source line) = size_fields (codes "too-much") source line
-stop_fields (bad line cause) = (codes "cause", text (cause_word cause)) ∷ (codes "error", text (codes "data")) ∷ (codes "line", number line) ∷ cause_details cause
-stop_fields (dangling from to) = (codes "cause", text (codes "dangling")) ∷ (codes "error", text (codes "data")) ∷ (codes "from", text from) ∷ (codes "to", text to) ∷ []
+stop_fields (bad line cause) =
+    (codes "cause", text (cause_word cause)) ∷ (codes "error", text (codes "data"))
+    ∷ (codes "line", number line) ∷ cause_details cause
+stop_fields (dangling from to) =
+    (codes "cause", text (codes "dangling")) ∷ (codes "error", text (codes "data"))
+    ∷ (codes "from", text from) ∷ (codes "to", text to) ∷ []
 
 -- the line that is written
 abbrev pub stated_line : Stop → List ℕ

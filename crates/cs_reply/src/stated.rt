@@ -106,7 +106,8 @@ fn repeated(alloc: Global, id: &str, line: u32, out: &mut Vec<u8>) -> Result<(),
 }
 
 fn bad(alloc: Global, line: u32, why: Cause<'_>, out: &mut Vec<u8>) -> Result<(), NoMemory>
-    ensures { OnOk result (out.new.items ≡ out.old.items ++ stated_line (bad line (cause why.entry))) }
+    ensures { OnOk result
+        (out.new.items ≡ out.old.items ++ stated_line (bad line (cause why.entry))) }
 {
     match why {
         Cause::NotJson => bad_line(alloc, "not-json", line, out),

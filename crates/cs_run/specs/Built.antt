@@ -1,4 +1,5 @@
--- What is built so far: every other command is answered `not-built` and changes nothing. This is the one place that says so:
+-- What is built so far: every other command is answered `not-built` and changes nothing. This is
+-- the one place that says so:
 -- each case that is built takes a line away, and the file goes with the last one.
 use Rattle.std.specs.Prelude.{Bool, true, false, not, ◌||◌, length, ◌==◌, Option, Some, None}
 use Rattle.cs_value.specs.Tree.{Tree}
@@ -9,7 +10,8 @@ use Rattle.cs_docs.specs.Limits.{most_documents}
 use Rattle.cs_run.specs.Command.{created_by}
 use Rattle.cs_run.specs.State.{State}
 
--- one create of an object that refers to nothing, where there is room for a document more or the id is taken
+-- one create of an object that refers to nothing, where there is room for a document more or the id
+-- is taken
 abbrev pub can_create : State → Option Tree → Bool
 can_create s None = false
 can_create s (Some t) = stands (id_of t) s.docs || not (length s.docs == most_documents)

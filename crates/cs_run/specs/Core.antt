@@ -8,7 +8,15 @@ use Rattle.cs_run.specs.declared.machine.Core.{Core}
 
 -- stand-in: a state without live queries and listeners, at the first moment
 abbrev pub seen : List Tree → (List ℕ → Bool) → State
-seen documents is_used = record { docs = documents; moment = first_moment; is_used = is_used; lives = []; listeners = [] }
+seen documents is_used =
+    record {
+      docs = documents;
+      moment = first_moment;
+      is_used = is_used;
+      lives = [];
+      listeners =
+          [];
+    }
 
 abbrev pub state : Core → State
 state c = seen (docs c.docs) (contains_text c.used)

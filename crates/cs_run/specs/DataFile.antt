@@ -16,9 +16,13 @@ use Rattle.cs_run.specs.References.{first_dangling}
 abbrev pub with_default : List ℕ → List ℕ → Tree → Tree
 with_default name s t = cond (has_text name t) t (with_text name s t)
 
--- the document that a body of a data file is: its texts for the revision and the two moments are kept
+-- the document that a body of a data file is: its texts for the revision and the two moments are
+-- kept
 abbrev pub imported : Tree → Tree
-imported t = with_default (codes "_rev") (codes "import") (with_default (codes "_createdAt") first_moment (with_default (codes "_updatedAt") first_moment t))
+imported t =
+    with_default (codes "_rev") (codes "import")
+    (with_default (codes "_createdAt") first_moment
+    (with_default (codes "_updatedAt") first_moment t))
 
 -- what a line of a data file says: nothing, a document, or why it is refused
 pub data Said : Type 0 where

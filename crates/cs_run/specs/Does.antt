@@ -13,7 +13,8 @@ use Rattle.cs_run.specs.State.{State}
 use Rattle.cs_run.specs.Txn.{created}
 use Rattle.cs_run.specs.declared.machine.Core.{Core}
 
--- what was added to what is written, and the state now, are those of a step with the line of the number
+-- what was added to what is written, and the state now, are those of a step with the line of the
+-- number
 pub record Does (before after : List ℕ) (now : State) (n : ℕ) (out : Stepped State) : Type 0 where
   pub written : after ≡ before ++ reply_lines (numbered n out.replies)
   pub state_is : now ≡ out.state
@@ -26,5 +27,6 @@ Leaves old new = state new ≡ state old
 abbrev pub creating : State → ℕ → Tree → Stepped State
 creating s n t =
     cond (can_create s (Some t))
-    (cond (s.is_used (tx_of_line n)) (refuse s (tx_used (tx_of_line n))) (by_outcome s (tx_of_line n) (created s.docs s.moment (tx_of_line n) t)))
+    (cond (s.is_used (tx_of_line n)) (refuse s (tx_used (tx_of_line n)))
+    (by_outcome s (tx_of_line n) (created s.docs s.moment (tx_of_line n) t)))
     (refuse s not_built)

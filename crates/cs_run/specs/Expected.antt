@@ -1,4 +1,5 @@
--- What a data file and a script have the program write, and how the run ends: this project's profile.
+-- What a data file and a script have the program write, and how the run ends: this project's
+-- profile.
 use Rattle.std.specs.Prelude.{◌≡◌, ℕ, ◌≤◌, List, [], ◌++◌, length, take, Option}
 use Rattle.std.specs.Io.KnownBytes.{Appends}
 use Rattle.cs_io.specs.Causes.{Rose}
@@ -54,7 +55,8 @@ start_of (stopped stop) = stops stop
 
 -- what was written is the replies to so many of the script's lines
 abbrev pub WroteReplies : State → Option (List ℕ) → Option (List ℕ) → List ℕ → Type 0
-WroteReplies s old new script = (k : ℕ) × (k ≤ length (given_lines (feed_of script))) × Appends old new (first_replies s k script)
+WroteReplies s old new script = (k : ℕ) × (k ≤ length (given_lines (feed_of script)))
+    × Appends old new (first_replies s k script)
 
 -- no count fell, and a fault is answered only where its own count rose
 pub record Causes (status : Status) (opens opens' reads reads' writes writes' : ℕ) : Type 0 where

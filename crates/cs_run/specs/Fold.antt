@@ -1,4 +1,5 @@
--- A machine over the lines of a script, whatever its states are: each line leads to a state, and to replies.
+-- A machine over the lines of a script, whatever its states are: each line leads to a state, and to
+-- replies.
 use Rattle.std.specs.Prelude.{ℕ, ◌+◌, List, [], ◌∷◌, ◌++◌}
 use Rattle.cs_reply.specs.Reply.{Reply, numbered}
 
@@ -19,4 +20,5 @@ state_after step s n (line ∷ lines) = state_after step (step s n line).state (
 -- the replies to the lines, each with the number of its line
 abbrev pub replies : {S : Type 0} → Step S → S → ℕ → List (List ℕ) → List (ℕ × Reply)
 replies step s n [] = []
-replies step s n (line ∷ lines) = numbered n (step s n line).replies ++ replies step (step s n line).state (n + 1) lines
+replies step s n (line ∷ lines) =
+    numbered n (step s n line).replies ++ replies step (step s n line).state (n + 1) lines

@@ -39,10 +39,12 @@ start_ends (begins s) bytes = script_ends bytes
 start_ends (stops stop) bytes = stop_status stop
 
 abbrev pub expected : List (List ℕ) → Files → List ℕ
-expected words files = cond (takes_words words) (start_writes (start words files) (script words files)) usage_line
+expected words files =
+    cond (takes_words words) (start_writes (start words files) (script words files)) usage_line
 
 abbrev pub expected_status : List (List ℕ) → Files → Status
-expected_status words files = cond (takes_words words) (start_ends (start words files) (script words files)) Usage
+expected_status words files =
+    cond (takes_words words) (start_ends (start words files) (script words files)) Usage
 
 -- what a list got
 abbrev pub added : {X : Type 0} → List X → List X → List X
@@ -76,9 +78,11 @@ replies_so_far (begins s) bytes rest = written s 1 (whole_lines (taken_of bytes 
 replies_so_far (stops stop) bytes rest = []
 
 -- what was written when a read failed: those replies where the script was open, else nothing
-abbrev pub WritesSoFar : Option ℕ → (ℕ → Option (List ℕ)) → Start → List ℕ → Option (List ℕ) → Option (List ℕ) → Type 0
+abbrev pub WritesSoFar : Option ℕ → (ℕ → Option (List ℕ)) → Start → List ℕ → Option (List ℕ)
+    → Option (List ℕ) → Type 0
 WritesSoFar None left begin bytes old new = Appends old new []
-WritesSoFar (Some number) left begin bytes old new = MatchOption (left number) ⊥ (λ rest. Appends old new (replies_so_far begin bytes rest))
+WritesSoFar (Some number) left begin bytes old new =
+    MatchOption (left number) ⊥ (λ rest. Appends old new (replies_so_far begin bytes rest))
 
 -- what was written when memory was short: nothing, or the replies to so many lines
 abbrev pub WritesLines : Start → Option (List ℕ) → Option (List ℕ) → List ℕ → Type 0
@@ -86,22 +90,34 @@ WritesLines (begins s) old new bytes = Appends old new [] ⊎ WroteReplies s old
 WritesLines (stops stop) old new bytes = Appends old new []
 
 -- what was written, by how the run ended
-abbrev pub RunWrites : Status → List (List ℕ) → Option (List ℕ) → Option (List ℕ) → Files → List Asked → (ℕ → Option (List ℕ)) → Type 0
-RunWrites Done words old new files asked left = (expected_status words files ≡ Done) × Appends old new (expected words files) × IsEmptied left (script_number (names_of words) asked)
-RunWrites Usage words old new files asked left = (expected_status words files ≡ Usage) × Appends old new (expected words files)
-RunWrites Data words old new files asked left = (expected_status words files ≡ Data) × Appends old new (expected words files)
-RunWrites Input words old new files asked left = (expected_status words files ≡ Input) × Appends old new (expected words files)
-RunWrites ReadFault words old new files asked left = WritesSoFar (script_number (names_of words) asked) left (start words files) (script words files) old new
+abbrev pub RunWrites : Status → List (List ℕ) → Option (List ℕ) → Option (List ℕ) → Files
+    → List Asked → (ℕ → Option (List ℕ)) → Type 0
+RunWrites Done words old new files asked left = (expected_status words files ≡ Done)
+    × Appends old new (expected words files) × IsEmptied left (script_number (names_of words) asked)
+RunWrites Usage words old new files asked left = (expected_status words files ≡ Usage)
+    × Appends old new (expected words files)
+RunWrites Data words old new files asked left = (expected_status words files ≡ Data)
+    × Appends old new (expected words files)
+RunWrites Input words old new files asked left = (expected_status words files ≡ Input)
+    × Appends old new (expected words files)
+RunWrites ReadFault words old new files asked left =
+    WritesSoFar (script_number (names_of words) asked) left (start words files)
+    (script words files) old new
 RunWrites OpenFault words old new files asked left = Appends old new []
 RunWrites WriteFault words old new files asked left = AppendsPartOf old new (expected words files)
-RunWrites NoMemory words old new files asked left = AppendsPartOf old new (expected words files) × cond (takes_words words) (WritesLines (start words files) old new (script words files)) (Appends old new [])
+RunWrites NoMemory words old new files asked left = AppendsPartOf old new (expected words files)
+    × cond (takes_words words) (WritesLines (start words files) old new (script words files))
+    (Appends old new [])
 
 -- the same, where the library tells its bytes
-abbrev pub ToldRun : Status → List (List ℕ) → Option (List ℕ) → Option (List ℕ) → Option Files → List Asked → (ℕ → Option (List ℕ)) → Type 0
+abbrev pub ToldRun : Status → List (List ℕ) → Option (List ℕ) → Option (List ℕ) → Option Files
+    → List Asked → (ℕ → Option (List ℕ)) → Type 0
 ToldRun status words old new None asked left = ⊤
-ToldRun status words old new (Some files) asked left = RunWrites status words old new files asked left
+ToldRun status words old new (Some files) asked left =
+    RunWrites status words old new files asked left
 
--- how a run ends whose words are refused, and what it writes, whether or not the library tells its bytes
+-- how a run ends whose words are refused, and what it writes, whether or not the library tells its
+-- bytes
 abbrev pub RefusedWrites : Status → Option (List ℕ) → Option (List ℕ) → Type 0
 RefusedWrites Usage old new = Appends old new usage_line
 RefusedWrites WriteFault old new = AppendsPartOf old new usage_line
@@ -113,7 +129,9 @@ RefusedWrites ReadFault old new = ⊥
 RefusedWrites OpenFault old new = ⊥
 
 -- where nothing of the outside failed in the call, the run ends as it should, or for want of memory
-abbrev pub IsComplete : Status → List (List ℕ) → Option Files → (opens opens' reads reads' writes writes' : ℕ) → Type 0
+abbrev pub IsComplete : Status → List (List ℕ) → Option Files
+    → (opens opens' reads reads' writes writes' : ℕ) → Type 0
 IsComplete status words None opens opens' reads reads' writes writes' = ⊤
 IsComplete status words (Some files) opens opens' reads reads' writes writes' =
-    (Rose opens opens' → ⊥) → (Rose reads reads' → ⊥) → (Rose writes writes' → ⊥) → (status ≡ expected_status words files) ⊎ (status ≡ NoMemory)
+    (Rose opens opens' → ⊥) → (Rose reads reads' → ⊥) → (Rose writes writes' → ⊥)
+    → (status ≡ expected_status words files) ⊎ (status ≡ NoMemory)

@@ -24,7 +24,8 @@ is_stale docs e = not (same_tree (value_of docs e) e.last)
 
 -- the same with its value over the dataset as its last answer
 abbrev pub refreshed : List Tree → LiveQuery → LiveQuery
-refreshed docs e = record { name = e.name; query = e.query; params = e.params; last = value_of docs e }
+refreshed docs e =
+    record { name = e.name; query = e.query; params = e.params; last = value_of docs e }
 
 abbrev pub all_refreshed : List Tree → List LiveQuery → List LiveQuery
 all_refreshed docs es = map (refreshed docs) es
@@ -36,7 +37,8 @@ Said = List ℕ × Tree
 abbrev pub say : LiveQuery → Said
 say e = (e.name, e.last)
 
--- one line for each live query whose value over the dataset is another tree than its last answer, in the order made
+-- one line for each live query whose value over the dataset is another tree than its last answer,
+-- in the order made
 abbrev pub news : List Tree → List LiveQuery → List Said
 news docs es = map say (all_refreshed docs (filter (is_stale docs) es))
 
@@ -54,7 +56,8 @@ without_name name (e ∷ es) = cond (has_live_name name e) es (e ∷ without_nam
 
 -- a live query as it is made over a dataset
 abbrev pub made : List Tree → List ℕ → Expression → Pairs → LiveQuery
-made docs name q params = record { name = name; query = q; params = params; last = query_value docs params q }
+made docs name q params =
+    record { name = name; query = q; params = params; last = query_value docs params q }
 
 abbrev pub most_lives : ℕ
 most_lives = 1024

@@ -1,4 +1,5 @@
--- The plain machine, this project's profile: what each line of a script does to the state, and what it replies.
+-- The plain machine, this project's profile: what each line of a script does to the state, and what
+-- it replies.
 use Rattle.std.specs.Prelude.{ℕ, List, [], cond, Option, Some, None}
 use Rattle.cs_json.specs.Reading.{Outcome, not_json, too_deep, not_whole, value, outcome}
 use Rattle.cs_wire.specs.Commands.{Request}
@@ -30,7 +31,9 @@ heard s n (value t) = by_command s n (command t)
 
 -- what the line with this number leads to: a blank line to nothing
 unfoldable pub step : State → ℕ → List ℕ → Stepped State
-step s n line = cond (is_blank line) (record { state = s; replies = [] }) (heard s n (outcome deepest_line line))
+step s n line =
+    cond (is_blank line) (record { state = s; replies = [] })
+    (heard s n (outcome deepest_line line))
 
 -- what the line has the machine write
 abbrev pub step_writes : State → ℕ → List ℕ → List ℕ

@@ -1,4 +1,5 @@
--- The rows of the plain machine, one for each command: the state that it leads to, and its replies: this project's profile.
+-- The rows of the plain machine, one for each command: the state that it leads to, and its replies:
+-- this project's profile.
 use Rattle.std.specs.Prelude.{ℕ, List, [], ◌∷◌, ◌++◌, Bool, not, map, filter, length, cond, nat_le, Option, Some, None}
 use Rattle.cs_value.specs.Tree.{Tree, Pairs}
 use Rattle.cs_syntax.specs.Expression.{Expression}
@@ -32,7 +33,8 @@ live_reply said = reply.live said.0 said.1
 -- the reply, then the events, then the live answers that are other trees than those printed last
 abbrev pub commit_replies : State → List ℕ → List Tree → List Edit → List Reply
 commit_replies s tx docs cs =
-    committed tx (map outcome cs) ∷ (events tx s.moment cs s.listeners ++ map live_reply (news docs s.lives))
+    committed tx (map outcome cs)
+    ∷ (events tx s.moment cs s.listeners ++ map live_reply (news docs s.lives))
 
 abbrev pub installed : State → List ℕ → List Tree → List Edit → Stepped State
 installed s tx docs cs = record {
@@ -60,7 +62,8 @@ row_query s text params = with_query s text (λ e. answered s (found (query_valu
 
 -- ---- live
 abbrev pub lively : State → LiveQuery → Stepped State
-lively s l = record { state = with_lives (s.lives ++ l ∷ []) s; replies = reply.live l.name l.last ∷ [] }
+lively s l =
+    record { state = with_lives (s.lives ++ l ∷ []) s; replies = reply.live l.name l.last ∷ [] }
 
 -- the name is free and there is room, or the line is refused
 abbrev pub subscribing : State → List ℕ → ℕ → Stepped State → Stepped State
@@ -69,31 +72,49 @@ subscribing s name count next =
     (cond (nat_le most_lives count) (refuse s (full_subscriptions most_lives)) next)
 
 abbrev pub row_live : State → List ℕ → List ℕ → Pairs → Stepped State
-row_live s name text params = with_query s text (λ e. subscribing s name (length s.lives) (lively s (made s.docs name e params)))
+row_live s name text params =
+    with_query s text
+    (λ e. subscribing s name (length s.lives) (lively s (made s.docs name e params)))
 
 -- ---- listen
 abbrev pub listening : State → Listener → Stepped State
-listening s l = record { state = with_listeners (s.listeners ++ l ∷ []) s; replies = welcome l.name ∷ [] }
+listening s l =
+    record { state = with_listeners (s.listeners ++ l ∷ []) s; replies = welcome l.name ∷ [] }
 
 abbrev pub by_filter : State → List ℕ → Pairs → Bool → Bool → Option Expression → Stepped State
 by_filter s name params result previous None = refuse s not_listenable
 by_filter s name params result previous (Some f) =
     subscribing s name (length s.listeners)
-    (listening s (record { name = name; filter = f; params = params; with_result = result; with_previous = previous }))
+    (listening s
+    (record {
+      name = name;
+      filter = f;
+      params = params;
+      with_result = result;
+      with_previous =
+          previous;
+    }))
 
 abbrev pub row_listen : State → List ℕ → List ℕ → Pairs → Bool → Bool → Stepped State
-row_listen s name text params result previous = with_query s text (λ e. by_filter s name params result previous (filter_of_listen e))
+row_listen s name text params result previous =
+    with_query s text (λ e. by_filter s name params result previous (filter_of_listen e))
 
 -- ---- stop
 abbrev pub without_named : List ℕ → State → State
-without_named name s = with_listeners (filter (λ l. not (listens name l)) s.listeners) (with_lives (without_name name s.lives) s)
+without_named name s =
+    with_listeners (filter (λ l. not (listens name l)) s.listeners)
+    (with_lives (without_name name s.lives) s)
 
 abbrev pub row_stop : State → List ℕ → Stepped State
-row_stop s name = cond (is_taken name s) (record { state = without_named name s; replies = stopped name ∷ [] }) (refuse s (no_name name))
+row_stop s name =
+    cond (is_taken name s) (record { state = without_named name s; replies = stopped name ∷ [] })
+    (refuse s (no_name name))
 
 -- ---- at
 abbrev pub row_at : State → List ℕ → Stepped State
-row_at s moment = cond (is_moment moment) (record { state = with_moment moment s; replies = set moment ∷ [] }) (refuse s bad_moment)
+row_at s moment =
+    cond (is_moment moment) (record { state = with_moment moment s; replies = set moment ∷ [] })
+    (refuse s bad_moment)
 
 -- ---- the table
 abbrev pub row : State → ℕ → Request → Stepped State

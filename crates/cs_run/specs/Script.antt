@@ -21,13 +21,15 @@ use Rattle.cs_run.specs.declared.status.Status.{Status}
 use Rattle.cs_run.specs.declared.status.Status.TheVariants.{Done, ReadFault, Usage, Data, Input, WriteFault, NoMemory, OpenFault}
 
 -- a stated line was written and the status given, or memory or the sink failed
-pub record Stated (result status : Status) (line : List ℕ) (old new : Option (List ℕ)) : Type 0 where
-  pub whole : result ≢ WriteFault → result ≢ NoMemory → (result ≡ status) × Appends old new line
-  pub part : AppendsPartOf old new line
-  pub none : result ≡ NoMemory → Appends old new []
+pub record Stated (result status : Status) (line : List ℕ) (old new : Option (List ℕ)) : Type 0
+  where
+    pub whole : result ≢ WriteFault → result ≢ NoMemory → (result ≡ status) × Appends old new line
+    pub part : AppendsPartOf old new line
+    pub none : result ≡ NoMemory → Appends old new []
 
 -- the same of a line that memory may have been short for
-abbrev pub States : Status → Status → Result (Vec ℕ Global) memory.NoMemory → Option (List ℕ) → Option (List ℕ) → Type 0
+abbrev pub States : Status → Status → Result (Vec ℕ Global) memory.NoMemory → Option (List ℕ)
+    → Option (List ℕ) → Type 0
 States result status (Ok line) old new = Stated result status line.items old new
 States result status (Err e) old new = (result ≡ NoMemory) × Appends old new []
 
@@ -43,10 +45,14 @@ LineStops ReadFault old new reply = ⊥
 LineStops OpenFault old new reply = ⊥
 
 -- what was written of a script of which `rest` is left, by how the run ended
-abbrev pub ScriptWrites : State → Status → Option (List ℕ) → Option (List ℕ) → List ℕ → List ℕ → Type 0
-ScriptWrites s Done old new script rest = (script_ends script ≡ Done) × Appends old new (script_writes s script) × (rest ≡ [])
-ScriptWrites s Input old new script rest = (script_ends script ≡ Input) × Appends old new (script_writes s script)
-ScriptWrites s ReadFault old new script rest = Appends old new (written s 1 (whole_lines (taken_of script rest)))
+abbrev pub ScriptWrites : State → Status → Option (List ℕ) → Option (List ℕ) → List ℕ → List ℕ
+    → Type 0
+ScriptWrites s Done old new script rest = (script_ends script ≡ Done)
+    × Appends old new (script_writes s script) × (rest ≡ [])
+ScriptWrites s Input old new script rest = (script_ends script ≡ Input)
+    × Appends old new (script_writes s script)
+ScriptWrites s ReadFault old new script rest =
+    Appends old new (written s 1 (whole_lines (taken_of script rest)))
 ScriptWrites s WriteFault old new script rest = AppendsPartOf old new (script_writes s script)
 ScriptWrites s NoMemory old new script rest = WroteReplies s old new script
 ScriptWrites s Usage old new script rest = ⊥
@@ -54,7 +60,8 @@ ScriptWrites s Data old new script rest = ⊥
 ScriptWrites s OpenFault old new script rest = ⊥
 
 -- the same, where the bytes are told
-abbrev pub ToldWrites : State → Status → Option (List ℕ) → Option (List ℕ) → Option (List ℕ) → Option (List ℕ) → Type 0
+abbrev pub ToldWrites : State → Status → Option (List ℕ) → Option (List ℕ) → Option (List ℕ)
+    → Option (List ℕ) → Type 0
 ToldWrites s status old new None rest = ⊤
 ToldWrites s status old new (Some script) None = ⊥
 ToldWrites s status old new (Some script) (Some rest) = ScriptWrites s status old new script rest
@@ -86,4 +93,5 @@ failure_status (fault.Dangling from to) = Data
 -- how a run ends whose data file was not loaded
 abbrev pub DataEnds : LoadFault → Status → Option (List ℕ) → Option (List ℕ) → Type 0
 DataEnds fault result old new =
-    MatchOption (stop_of fault) ((result ≡ failure_status fault) × Appends old new []) (λ stop. Stated result (stop_status stop) (stated_line stop) old new)
+    MatchOption (stop_of fault) ((result ≡ failure_status fault) × Appends old new [])
+    (λ stop. Stated result (stop_status stop) (stated_line stop) old new)

@@ -1,4 +1,5 @@
--- The state of the plain machine: this project's profile. It holds no index, no record of keys and no cache.
+-- The state of the plain machine: this project's profile. It holds no index, no record of keys and
+-- no cache.
 use Rattle.std.specs.Prelude.{ℕ, List, [], ◌∷◌, Bool, true, false, ◌||◌, cond, codes}
 use Rattle.std.specs.List.{list_any}
 use Rattle.std.specs.Str.{bytes_eq}
@@ -16,7 +17,8 @@ pub record Listener : Type 0 where
   pub with_result : Bool
   pub with_previous : Bool
 
--- the documents, ascending by their ids; the moment; which ids accepted transactions have; live queries and listeners in the order made
+-- the documents, ascending by their ids; the moment; which ids accepted transactions have; live
+-- queries and listeners in the order made
 pub record State : Type 0 where
   pub docs : List Tree
   pub moment : List ℕ
@@ -30,26 +32,67 @@ first_moment = codes "1970-01-01T00:00:00Z"
 
 -- the state in which a script begins
 abbrev pub begun : List Tree → State
-begun docs = record { docs = docs; moment = first_moment; is_used = λ id. false; lives = []; listeners = [] }
+begun docs =
+    record { docs = docs; moment = first_moment; is_used = λ id. false; lives = []; listeners = [] }
 
 abbrev pub with_docs : List Tree → State → State
-with_docs docs s = record { docs = docs; moment = s.moment; is_used = s.is_used; lives = s.lives; listeners = s.listeners }
+with_docs docs s =
+    record {
+      docs = docs;
+      moment = s.moment;
+      is_used = s.is_used;
+      lives = s.lives;
+      listeners =
+          s.listeners;
+    }
 
 abbrev pub with_moment : List ℕ → State → State
-with_moment moment s = record { docs = s.docs; moment = moment; is_used = s.is_used; lives = s.lives; listeners = s.listeners }
+with_moment moment s =
+    record {
+      docs = s.docs;
+      moment = moment;
+      is_used = s.is_used;
+      lives = s.lives;
+      listeners =
+          s.listeners;
+    }
 
 -- the id is used too
 abbrev pub and_used : List ℕ → (List ℕ → Bool) → List ℕ → Bool
 and_used tx is_used id = cond (bytes_eq tx id) true (is_used id)
 
 abbrev pub with_used : List ℕ → State → State
-with_used tx s = record { docs = s.docs; moment = s.moment; is_used = and_used tx s.is_used; lives = s.lives; listeners = s.listeners }
+with_used tx s =
+    record {
+      docs = s.docs;
+      moment = s.moment;
+      is_used = and_used tx s.is_used;
+      lives =
+          s.lives;
+      listeners = s.listeners;
+    }
 
 abbrev pub with_lives : List LiveQuery → State → State
-with_lives lives s = record { docs = s.docs; moment = s.moment; is_used = s.is_used; lives = lives; listeners = s.listeners }
+with_lives lives s =
+    record {
+      docs = s.docs;
+      moment = s.moment;
+      is_used = s.is_used;
+      lives = lives;
+      listeners =
+          s.listeners;
+    }
 
 abbrev pub with_listeners : List Listener → State → State
-with_listeners listeners s = record { docs = s.docs; moment = s.moment; is_used = s.is_used; lives = s.lives; listeners = listeners }
+with_listeners listeners s =
+    record {
+      docs = s.docs;
+      moment = s.moment;
+      is_used = s.is_used;
+      lives = s.lives;
+      listeners =
+          listeners;
+    }
 
 abbrev pub listens : List ℕ → Listener → Bool
 listens name l = bytes_eq name l.name

@@ -1,4 +1,5 @@
--- Stand-in for what a transaction does: one create of an object that refers to nothing. What else one may hold is not built.
+-- Stand-in for what a transaction does: one create of an object that refers to nothing. What else
+-- one may hold is not built.
 use Rattle.std.specs.Prelude.{ℕ, List, [], ◌∷◌, cond, Option, Some, None}
 use Rattle.cs_value.specs.Tree.{Tree}
 use Rattle.cs_view.specs.Changes.{Edit}
@@ -18,7 +19,8 @@ pub data Body : Type 0 where
 abbrev pub body_of : Tree → ℕ → Body
 body_of body n = transaction (tx_of_line n) body
 
--- what a transaction comes to: it is refused, or the dataset after it with the changes that lead there
+-- what a transaction comes to: it is refused, or the dataset after it with the changes that lead
+-- there
 pub data Outcome : Type 0 where
   refused : Refusal → Outcome
   accepted : List Tree → List Edit → Outcome
@@ -26,7 +28,8 @@ pub data Outcome : Type 0 where
 abbrev pub created : List Tree → List ℕ → List ℕ → Tree → Outcome
 created docs moment tx t =
     cond (stands (id_of t) docs) (refused (exists 0 (id_of t)))
-    (accepted (with_doc (stamped tx moment t) docs) ((id_of t, (None, Some (stamped tx moment t))) ∷ []))
+    (accepted (with_doc (stamped tx moment t) docs)
+    ((id_of t, (None, Some (stamped tx moment t))) ∷ []))
 
 abbrev pub by_created : List Tree → List ℕ → List ℕ → Option Tree → Outcome
 by_created docs moment tx None = refused not_built

@@ -67,7 +67,8 @@ impl Replies {
     }
 }
 
-/// The machine: the documents that the lines so far have left, and the ids of accepted transactions.
+/// The machine: the documents that the lines so far have left, and the ids of accepted
+/// transactions.
 #[derive(Drop)]
 pub struct Core {
     pub(crate) alloc: Global,
@@ -94,9 +95,12 @@ impl Core {
         &self.docs
     }
 
-    /// One step of the machine: the replies to the line, as the plain machine gives them, and its state
-    /// afterwards. A blank line has no replies and takes no memory. After [`CoreFault::NoMemory`] the
-    /// machine is as before. The line is one that [`cs_io::Lines`] gives, so it has at most 16,777,216
+    /// One step of the machine: the replies to the line, as the plain machine gives them, and its
+    /// state
+    /// afterwards. A blank line has no replies and takes no memory. After [`CoreFault::NoMemory`]
+    /// the
+    /// machine is as before. The line is one that [`cs_io::Lines`] gives, so it has at most
+    /// 16,777,216
     /// bytes.
     pub fn step<L: Ledger>(
         &mut self,

@@ -64,7 +64,8 @@ impl Core {
             (λ place. IsGapFor (id_of (doc document.entry.now)) (docs_of self.now.docs) place
             × (length (docs_of self.now.docs) < most_documents)
             × (contains_text self.now.used tx.entry.now ≡ false))
-            (λ r. (n : ℕ) (t : Tree) → tx.entry.now ≡ tx_of_line n → id_of (doc document.entry.now) ≡ id_of t
+            (λ r. (n : ℕ) (t : Tree) → tx.entry.now ≡ tx_of_line n
+            → id_of (doc document.entry.now) ≡ id_of t
             → creating (state self.now) n t ≡ refuse (state self.now) (refusal r)) }
     {
         let id = document.id().as_str();

@@ -219,12 +219,16 @@ fn run_script<Lb: Library, K: Sink, L: Ledger>(
     }
 }
 
-/// Runs the program: the words of its command line, of which the first is the program's name, over the
+/// Runs the program: the words of its command line, of which the first is the program's name, over
+/// the
 /// library's files, with what is due written to the sink. `steps` counts the visits of documents.
 ///
-/// The words are `--data NAME` and `--script NAME`, each at most once; the script's name is `-` where
-/// none is given. The data file is loaded before the script is opened, and each line of the script is
-/// read, run and answered before the next one is asked for. [`Status`] says how the run ended and what
+/// The words are `--data NAME` and `--script NAME`, each at most once; the script's name is `-`
+/// where
+/// none is given. The data file is loaded before the script is opened, and each line of the script
+/// is
+/// read, run and answered before the next one is asked for. [`Status`] says how the run ended and
+/// what
 /// was written.
 pub fn run<Lb: Library, K: Sink, L: Ledger>(
     alloc: Global,

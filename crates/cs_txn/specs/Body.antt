@@ -6,7 +6,7 @@ use Rattle.std.specs.Fmt.{decimal}
 use Rattle.cs_value.specs.Tree.{Tree, null, boolean, integer, text, list, object, members, Pairs, attributes}
 use Rattle.cs_value.specs.Pairs.{find}
 use Rattle.cs_value.specs.Words.{as_text, as_object}
-use Rattle.cs_value.specs.Id.{between}
+use Rattle.cs_value.specs.Id.{is_between}
 use Rattle.cs_wire.specs.Commands.{has_keys, text_in, params_in, value_or, given}
 use Rattle.cs_patch.specs.Inserted.{Side, before, after, replace as instead}
 use Rattle.cs_patch.specs.Operations.{Insertion}
@@ -155,7 +155,7 @@ action t = option_and_then (λ ps. sole_action (attributes ps)) (as_object t)
 
 -- ---- ids
 abbrev pub is_tx_byte : ℕ → Bool
-is_tx_byte b = between 65 90 b || between 97 122 b || between 48 57 b || b == 95 || b == 45
+is_tx_byte b = is_between 65 90 b || is_between 97 122 b || is_between 48 57 b || b == 95 || b == 45
 
 abbrev pub begins : List ℕ → List ℕ → Bool
 begins start s = bytes_eq start (take (length start) s)

@@ -50,7 +50,8 @@ abbrev pub After : List Tree → List Edit → List Tree
 After docs [] = docs
 After docs (c ∷ cs) = placed c.0 c.1.1 (After docs cs)
 
--- what stands under an id before, or after, changes that hold these sides of the id, or do not speak of it
+-- what stands under an id before, or after, changes that hold these sides of the id, or do not
+-- speak of it
 abbrev pub before_of : Option (Option Tree × Option Tree) → Option Tree → Option Tree
 before_of None now = now
 before_of (Some sides) now = sides.0
@@ -59,7 +60,8 @@ abbrev pub after_of : Option (Option Tree × Option Tree) → Option Tree → Op
 after_of None now = now
 after_of (Some sides) now = sides.1
 
--- what the changes say of an id, where one document, or none, stands there before and another after:
+-- what the changes say of an id, where one document, or none, stands there before and another
+-- after:
 -- nothing where the two are one
 abbrev pub IsChangeAt : Option Tree → Option Tree → Option (Option Tree × Option Tree) → Type 0
 IsChangeAt before after None = before ≡ after

@@ -37,7 +37,8 @@ is_dataset docs = ascending docs && list_all is_document docs
 -- the dataset with the document in the place of its id
 abbrev pub with_doc : Tree → List Tree → List Tree
 with_doc d [] = d ∷ []
-with_doc d (e ∷ es) = by_order (id_cmp (id_of d) (id_of e)) (d ∷ e ∷ es) (d ∷ es) (e ∷ with_doc d es)
+with_doc d (e ∷ es) =
+    by_order (id_cmp (id_of d) (id_of e)) (d ∷ e ∷ es) (d ∷ es) (e ∷ with_doc d es)
 
 -- the dataset without the document of the id
 abbrev pub without : List ℕ → List Tree → List Tree

@@ -1,4 +1,5 @@
--- What a document is: an object with the attributes that Sanity's documentation ("Document") gives each one, within this project's limits.
+-- What a document is: an object with the attributes that Sanity's documentation ("Document") gives
+-- each one, within this project's limits.
 use Rattle.std.specs.Prelude.{ℕ, List, [], length, Bool, false, ◌&&◌, nat_le, nat_lt, is_some, Option, Some, None, codes, unwrap_or}
 use Rattle.cs_value.specs.Tree.{Tree, depth}
 use Rattle.cs_value.specs.Id.{is_id}
@@ -32,7 +33,9 @@ abbrev pub is_body : Tree → Bool
 is_body t = is_object t && has_id t && has_type t
 
 abbrev pub is_document : Tree → Bool
-is_document t = is_body t && is_shallow t && has_text (codes "_rev") t && has_text (codes "_createdAt") t && has_text (codes "_updatedAt") t
+is_document t =
+    is_body t && is_shallow t && has_text (codes "_rev") t && has_text (codes "_createdAt") t
+    && has_text (codes "_updatedAt") t
 
 abbrev pub id_of : Tree → List ℕ
 id_of t = unwrap_or (text_at (codes "_id") t) []

@@ -1,5 +1,7 @@
--- Keys, by which documents are looked up, and which documents have one: this project's profile. Equality is that of
--- GROQ-1.revision1, "Equality operators"; names are followed as in its "Attribute access traversal".
+-- Keys, by which documents are looked up, and which documents have one: this project's profile.
+-- Equality is that of
+-- GROQ-1.revision1, "Equality operators"; names are followed as in its "Attribute access
+-- traversal".
 use Rattle.std.specs.Prelude.{ℕ, Bool, true, false, ◌||◌, List, [], ◌∷◌, Option, Some, option_and_then, codes, filter}
 use Rattle.std.specs.List.{list_any}
 use Rattle.std.specs.Ordering.{is_eq, bool_cmp, int_eq}
@@ -26,7 +28,8 @@ abbrev pub has_element : Scalar → Tree → Bool
 has_element s (list ts) = list_any (equals s) (members ts)
 has_element s v = false
 
--- what following the names through objects gives: none where it leaves the objects, or a name is not there
+-- what following the names through objects gives: none where it leaves the objects, or a name is
+-- not there
 abbrev pub followed : List (List ℕ) → Tree → Option Tree
 followed [] v = Some v
 followed (n ∷ ns) v = option_and_then (followed ns) (attribute n v)
@@ -39,7 +42,9 @@ abbrev mutual
   has_ref target (integer n) = false
   has_ref target (text s) = false
   has_ref target (list ts) = some_has_ref target ts
-  has_ref target (object ps) = passes (λ s. bytes_eq s target) (option_and_then as_text (find (codes "_ref") ps)) || some_pair_has_ref target ps
+  has_ref target (object ps) =
+      passes (λ s. bytes_eq s target) (option_and_then as_text (find (codes "_ref") ps))
+      || some_pair_has_ref target ps
 
   pub some_has_ref : List ℕ → Trees → Bool
   some_has_ref target no_trees = false

@@ -12,7 +12,8 @@ use Rattle.cs_view.specs.declared.key.Key.{Key}
 
 -- two datasets that hold the same under each id are one
 abbrev pub HoldingTheSameIsBeingOne : Type 0
-HoldingTheSameIsBeingOne = (one other : List Tree) → ascending one ≡ true → ascending other ≡ true → ((id : List ℕ) → At id one ≡ At id other) → one ≡ other
+HoldingTheSameIsBeingOne = (one other : List Tree) → ascending one ≡ true → ascending other ≡ true
+    → ((id : List ℕ) → At id one ≡ At id other) → one ≡ other
 
 -- what stands in the changes of a call are documents
 abbrev pub ChangesHoldDocuments : Type 0
@@ -20,17 +21,20 @@ ChangesHoldDocuments = (cs : List Change) → are_documents (edits cs) ≡ true
 
 -- before and after changes a dataset is a dataset
 abbrev pub ChangesKeepDatasets : Type 0
-ChangesKeepDatasets = (docs : List Tree) (cs : List Edit) → is_dataset docs ≡ true → are_documents cs ≡ true
+ChangesKeepDatasets = (docs : List Tree) (cs : List Edit) → is_dataset docs ≡ true
+    → are_documents cs ≡ true
     → (is_dataset (Before docs cs) ≡ true) × (is_dataset (After docs cs) ≡ true)
 
 -- before and after changes a dataset holds under each id what the changes say, or else what it held
 abbrev pub ChangesAreHeld : Type 0
 ChangesAreHeld = (docs : List Tree) (cs : List Edit) → are_changes cs ≡ true → (id : List ℕ)
-    → (At id (Before docs cs) ≡ before_of (find id_cmp id cs) (At id docs)) × (At id (After docs cs) ≡ after_of (find id_cmp id cs) (At id docs))
+    → (At id (Before docs cs) ≡ before_of (find id_cmp id cs) (At id docs))
+    × (At id (After docs cs) ≡ after_of (find id_cmp id cs) (At id docs))
 
 -- changes that lead on from a dataset lead to the dataset after them, and from there back again
 abbrev pub ChangesLeadOnAndBack : Type 0
-ChangesLeadOnAndBack = (docs : List Tree) (cs : List Edit) → ascending docs ≡ true → are_changes cs ≡ true → LeadFrom docs cs
+ChangesLeadOnAndBack = (docs : List Tree) (cs : List Edit) → ascending docs ≡ true
+    → are_changes cs ≡ true → LeadFrom docs cs
     → (Before docs cs ≡ docs) × LeadTo (After docs cs) cs × (Before (After docs cs) cs ≡ docs)
 
 -- changes that lead to a dataset lead back to the one before them, and from there on again
@@ -59,7 +63,8 @@ FilterFollowsChanges =
 
 -- the changes between two datasets lead on from the one to the other
 abbrev pub ChangesLeadToTheOther : Type 0
-ChangesLeadToTheOther = (one other : List Tree) (cs : List Edit) → ascending one ≡ true → ascending other ≡ true → AreChangesBetween one other cs
+ChangesLeadToTheOther = (one other : List Tree) (cs : List Edit) → ascending one ≡ true
+    → ascending other ≡ true → AreChangesBetween one other cs
     → (are_changes cs ≡ true) × LeadFrom one cs × (After one cs ≡ other)
 
 -- the list `changes_between` holds the changes between two datasets
@@ -70,9 +75,12 @@ ChangesAreComputed =
 
 -- there is one list of the changes between two datasets
 abbrev pub ChangesAreOneList : Type 0
-ChangesAreOneList = (one other : List Tree) (cs es : List Edit) → AreChangesBetween one other cs → AreChangesBetween one other es → cs ≡ es
+ChangesAreOneList = (one other : List Tree) (cs es : List Edit) → AreChangesBetween one other cs
+    → AreChangesBetween one other es → cs ≡ es
 
 -- a key of an untouched record selects the same documents before and after
 abbrev pub UntouchedSelectsTheSame : Type 0
-UntouchedSelectsTheSame = (docs : List Tree) (cs : List Edit) → ascending docs ≡ true → are_changes cs ≡ true
-    → (keys : List Key) → touched keys cs ≡ false → (k : Key) → Contains keys k → Sel k (Before docs cs) ≡ Sel k (After docs cs)
+UntouchedSelectsTheSame = (docs : List Tree) (cs : List Edit) → ascending docs ≡ true
+    → are_changes cs ≡ true
+    → (keys : List Key) → touched keys cs ≡ false → (k : Key) → Contains keys k
+    → Sel k (Before docs cs) ≡ Sel k (After docs cs)

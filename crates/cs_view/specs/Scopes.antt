@@ -1,4 +1,5 @@
--- Scopes: GROQ-1.revision1, "Scope". A scope is a list of values that is not empty, the innermost first.
+-- Scopes: GROQ-1.revision1, "Scope". A scope is a list of values that is not empty, the innermost
+-- first.
 use Rattle.std.specs.Prelude.{List, [], ◌∷◌}
 use Rattle.cs_value.specs.Tree.{Tree}
 use Rattle.cs_value.specs.View.{tree}

@@ -17,7 +17,8 @@ pub fn changes_keep_datasets()
     ensures { ChangesKeepDatasets }
 {}
 
-/// Before and after changes a dataset holds under each id what the changes say, or else what it held.
+/// Before and after changes a dataset holds under each id what the changes say, or else what it
+/// held.
 pub fn changes_are_held()
     ensures { ChangesAreHeld }
 {}

@@ -77,7 +77,9 @@ fn some_equals(scalar: &Scalar, items: &Vec<Val>) -> bool
 }
 
 fn is_ref(object: &Fields, target: &Txt) -> bool
-    ensures { result ≡ passes (λ s. bytes_eq s target.now) (option_and_then as_text (find (codes "_ref") (fields object.now))) }
+    ensures { result
+        ≡ passes (λ s. bytes_eq s target.now)
+        (option_and_then as_text (find (codes "_ref") (fields object.now))) }
 {
     if let Some(Val::Text(text)) = object.get("_ref") {
         text.as_str() == target.as_str()

@@ -26,7 +26,8 @@ pub trait View<L: Ledger> {
     /// The places of the documents that have the key, in the order of their ids. `NoMemory` where
     /// the allocator has no room for them.
     fn select(&self, alloc: Global, key: &Key) -> Result<Vec<u32>, NoMemory>
-        ensures { IfOk result (λ places. map (doc_at self.now) places.items ≡ map Some (Sel key.now (docs self.now))) };
+        ensures { IfOk result
+            (λ places. map (doc_at self.now) places.items ≡ map Some (Sel key.now (docs self.now))) };
 
     /// The document at a place where one stands: one visit.
     fn at(&self, place: u32, steps: &mut Steps<L>) -> &Doc
@@ -36,7 +37,8 @@ pub trait View<L: Ledger> {
 
     /// The place of the document with the id: `None` exactly where there is none.
     fn by_id(&self, id: &Txt) -> Option<u32>
-        ensures { option_map (doc_at self.now) result ≡ option_map Some (At id.now (docs self.now)) };
+        ensures { option_map (doc_at self.now) result
+            ≡ option_map Some (At id.now (docs self.now)) };
 
     ghost dataset: { (v : Self) → is_dataset (docs v) ≡ true };
 }

@@ -75,7 +75,9 @@ live_of ps =
 
 abbrev pub listen_of : Pairs → Option Request
 listen_of ps =
-    given (given (given (given (given (Some (λ name text params result previous. listen name text params result previous))
+    given (given
+    (given (given
+    (given (Some (λ name text params result previous. listen name text params result previous))
     (name_in (codes "listen") ps))
     (text_in (codes "query") ps))
     (params_in ps))

@@ -13,7 +13,12 @@ pub record Row : Type 0 where
 abbrev pub rows : List Row
 rows = record { must = codes "mutate" ∷ []; may = []; command = mutate_of }
     ∷ record { must = codes "query" ∷ []; may = codes "params" ∷ []; command = query_of }
-    ∷ record { must = codes "live" ∷ codes "query" ∷ []; may = codes "params" ∷ []; command = live_of }
+    ∷ record {
+      must = codes "live" ∷ codes "query" ∷ [];
+      may = codes "params" ∷ [];
+      command =
+          live_of;
+    }
     ∷ record {
       must = codes "listen" ∷ codes "query" ∷ [];
       may = codes "params" ∷ codes "includeResult" ∷ codes "includePrevious" ∷ [];

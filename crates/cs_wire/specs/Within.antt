@@ -4,12 +4,15 @@ use Rattle.cs_value.specs.Tree.{Tree, widest, pairs_widest}
 use Rattle.cs_wire.specs.Commands.{Request, mutate, query, live, listen, stop, at}
 use Rattle.cs_wire.specs.Rows.{command}
 
--- no text of the request has more bytes than n, nor has a text or a name in what it holds, and no list there has more members
+-- no text of the request has more bytes than n, nor has a text or a name in what it holds, and no
+-- list there has more members
 abbrev pub IsWithin : ℕ → Request → Type 0
 IsWithin n (mutate body) = widest body ≤ n
 IsWithin n (query text params) = (length text ≤ n) × (pairs_widest params ≤ n)
-IsWithin n (live name text params) = (length name ≤ n) × (length text ≤ n) × (pairs_widest params ≤ n)
-IsWithin n (listen name text params result previous) = (length name ≤ n) × (length text ≤ n) × (pairs_widest params ≤ n)
+IsWithin n (live name text params) = (length name ≤ n) × (length text ≤ n)
+    × (pairs_widest params ≤ n)
+IsWithin n (listen name text params result previous) = (length name ≤ n) × (length text ≤ n)
+    × (pairs_widest params ≤ n)
 IsWithin n (stop name) = length name ≤ n
 IsWithin n (at moment) = length moment ≤ n
 

@@ -10,7 +10,8 @@ use crate::parts::{take_flag, take_name, take_params, take_text};
 use cs_value::{Fields, Txt, Val};
 use std::alloc::Global;
 
-/// A command of the script: this project's profile. A `name` has the form of an id, a `text` is that
+/// A command of the script: this project's profile. A `name` has the form of an id, a `text` is
+/// that
 /// of a query, and `params` are its parameters, an object without attributes where the key is
 /// absent.
 #[derive(Drop)]

@@ -6,7 +6,7 @@ use Rattle.cs_value.specs.View.{tree, fields}
 use Rattle.cs_syntax.specs.Expression.{operands_of, steps_of, entries_of, elements_of, arguments_of, keys_of}
 use Rattle.cs_syntax.specs.View.{expression, operands, step, entry, elem, arg, key}
 use Rattle.cs_view.specs.Scopes.{scope}
-use Rattle.cs_meaning.specs.Joining.{spread}
+use Rattle.cs_meaning.specs.Joining.{flat_elements}
 use Rattle.cs_meaning.specs.Operators.{is_true}
 use Rattle.cs_meaning.specs.Values.{value, run_value, arguments_values, coalesced, selected, elements_values, entries_pairs, rest_value, pipes_value, step_value, keys_values}
 use Rattle.cs_meaning.specs.Looked.{looked, run_looked, arguments_looked, coalesced_looked, selected_looked, elements_looked, entries_looked, rest_looked, pipes_looked, step_looked, keys_looked}
@@ -155,7 +155,7 @@ invariant-chains::rest_of_each-loop-i g l = record {
 
 abbrev pub invariant-chains::rests_joined-loop-i : goal.invariant-chains::rests_joined-loop-i
 invariant-chains::rests_joined-loop-i g l = record {
-  value : map item l.out.items ++ flat_map spread (map (rest_value (g.S.Source.docs l.source) (fields l.params) (steps_of (map step l.steps)) (scope l.frame)) (map item (into_iter_items l.i-iterator))) ≡ flat_map spread (map (rest_value (g.S.Source.docs l.source) (fields l.params) (steps_of (map step l.steps)) (scope l.frame)) (map item (into_iter_items l.initial.i-iterator)));
+  value : map item l.out.items ++ flat_map flat_elements (map (rest_value (g.S.Source.docs l.source) (fields l.params) (steps_of (map step l.steps)) (scope l.frame)) (map item (into_iter_items l.i-iterator))) ≡ flat_map flat_elements (map (rest_value (g.S.Source.docs l.source) (fields l.params) (steps_of (map step l.steps)) (scope l.frame)) (map item (into_iter_items l.initial.i-iterator)));
   keys : l.keys ++ flat_map (rest_looked (g.S.Source.docs l.source) (fields l.params) (steps_of (map step l.steps)) (scope l.frame)) (map item (into_iter_items l.i-iterator)) ≡ l.initial.keys ++ flat_map (rest_looked (g.S.Source.docs l.source) (fields l.params) (steps_of (map step l.steps)) (scope l.frame)) (map item (into_iter_items l.initial.i-iterator));
 }
 
