@@ -1,6 +1,9 @@
+pub mod Entries
 pub mod Id
+pub mod Left
 pub mod Pairs
 pub mod Tree
 pub mod Value
 pub mod View
 pub mod Words
+pub mod formers
