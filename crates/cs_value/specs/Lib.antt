@@ -1,7 +1,10 @@
+pub mod Entries
 pub mod Id
+pub mod Left
 pub mod Pairs
 pub mod Same
 pub mod Tree
 pub mod Value
 pub mod View
 pub mod Words
+pub mod formers

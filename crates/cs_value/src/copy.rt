@@ -38,7 +38,7 @@ fn copy_items(alloc: Global, items: &Vec<Val>) -> Result<Vec<Val>, NoMemory>
 fn copy_fields(alloc: Global, object: &Fields) -> Result<Fields, NoMemory>
     ensures { IfOk result (λ f. fields f ≡ fields object.now) }
 {
-    let mut copies = Fields::new(alloc);
+    let mut copies = Fields::with_capacity(alloc, object.pairs.len())?;
     for (key, member) in object.pairs.iter() {
         let name = Txt::copy_of(alloc, key.as_str())?;
         drop(copies.put(name, copy(alloc, member)?)?);

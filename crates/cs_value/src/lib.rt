@@ -4,14 +4,18 @@
 mod copy;
 mod depth;
 mod id;
+mod map;
 mod memory;
 mod same;
 mod steps;
+#[cfg(test)]
+mod tests;
 mod txt;
 mod val;
 mod within;
 
 pub use id::is_id;
+pub use map::OrderedMap;
 pub use memory::{NoMemory, NoName};
 pub use steps::Steps;
 pub use txt::Txt;

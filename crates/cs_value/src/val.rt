@@ -4,11 +4,11 @@ ghost use Rattle.cs_value.specs.Pairs.{find, put, without, attribute};
 ghost use Rattle.cs_value.specs.Value.{IsValue};
 ghost use Rattle.cs_value.specs.View.{tree, fields};
 
+use crate::map::OrderedMap;
 use crate::memory::NoMemory;
 use crate::txt::Txt;
 use crate::{copy, depth, same, within};
 use std::alloc::Global;
-use std::collections::BTreeMap;
 
 /// A value of JSON (RFC 8259, section 3) whose numbers are whole and have 64 bits. Contracts speak
 /// of it by its tree.
@@ -35,7 +35,7 @@ pub enum Val {
 #[derive(Drop)]
 pub struct Fields {
     /// The attributes, in the order of their names.
-    pub pairs: BTreeMap<String, Val>,
+    pub pairs: OrderedMap<Val>,
 }
 
 impl Val {
@@ -89,8 +89,18 @@ impl Fields {
         ensures { fields result ≡ no_pairs }
     {
         Fields {
-            pairs: BTreeMap::new(alloc),
+            pairs: OrderedMap::new(alloc),
         }
+    }
+
+    /// An object without attributes that has room for so many. `NoMemory` where the allocator has
+    /// no room for them.
+    pub fn with_capacity(alloc: Global, attributes: usize) -> Result<Fields, NoMemory>
+        ensures { IfOk result (λ f. fields f ≡ no_pairs) }
+    {
+        Ok(Fields {
+            pairs: OrderedMap::with_capacity(alloc, attributes)?,
+        })
     }
 
     /// The value of the name. `None` exactly where the object lacks the name.
@@ -101,16 +111,14 @@ impl Fields {
     }
 
     /// Puts the value at the name, and gives back the value that it replaces: `Ok(None)` exactly
-    /// where the name was not there. `NoMemory` where the object cannot grow; it is unchanged then.
+    /// where the name was not there. A name above all others goes last without a search. `NoMemory`
+    /// where the object cannot grow; it is unchanged then.
     pub fn put(&mut self, name: Txt, val: Val) -> Result<Option<Val>, NoMemory>
         ensures replaced { IfOk result (λ old. option_map tree old ≡ find name (fields self.old)) }
         ensures put { IfOk result (λ _. fields self.new ≡ put name (tree val) (fields self.old)) }
         ensures kept { OnErr result (fields self.new ≡ fields self.old) }
     {
-        match self.pairs.insert(name.into_string(), val) {
-            Ok(old) => Ok(old),
-            Err(_) => Err(NoMemory),
-        }
+        self.pairs.insert(name.into_string(), val)
     }
 
     /// Takes the name out, and gives its value. `None` exactly where the object lacks the name.

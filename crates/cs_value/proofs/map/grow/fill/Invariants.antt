@@ -1,0 +1,11 @@
+use Rattle.std.proofs.Common.{◌≡◌, ◌+◌, ◌≤◌, ◌++◌, length}
+use Rattle.std.specs.Vec.{vec_capacity}
+use Rattle.cs_value.proofs.map.grow.fill.Given as goal
+
+abbrev pub invariant-loop-name : goal.invariant-loop-name
+invariant-loop-name g l =
+    (l.row.items ++ l.tree.entries ≡ l.initial.row.items ++ l.initial.tree.entries)
+    × (length l.row.items + length l.tree.entries ≤ vec_capacity l.row)
+
+abbrev pub decreases-loop-name : goal.decreases-loop-name
+decreases-loop-name g l = length l.row.items

@@ -1,0 +1,133 @@
+// The iterators of an ordered map. Contracts see each as the list of the pairs that are left.
+ghost use Rattle.std.specs.Prelude.{◌≡◌, ◌<◌, ◌^◌, length};
+ghost use Rattle.std.specs.Iterator.{at_most};
+ghost use Rattle.std_collections.specs.Map.Iter.{TakesFirst, deref_pair};
+
+use std::collections::{BTreeMap, btree_map};
+use std::marker::Model;
+use std::{slice, vec};
+
+#[derive(Drop)]
+enum Lent<'a, V> {
+    LentRow(slice::Iter<'a, (String, V)>),
+    LentTree(btree_map::Iter<'a, String, V>),
+}
+
+/// The pairs of an ordered map, lent in the order of their names.
+#[derive(Drop)]
+pub struct Iter<'a, V> {
+    form: Lent<'a, V>,
+}
+
+impl<'a, V> Model for Iter<'a, V> {
+    ghost use Rattle.std.specs.Prelude.{List};
+    ghost use Rattle.std.specs.Coded.{coded_list, coded×};
+    ghost use Rattle.cs_value.specs.Entries.{Name, name_code};
+
+    ghost Value = { List (Name × V) };
+
+    ghost coded = { coded_list (coded× name_code V.code) };
+
+    ghost use Rattle.cs_value.specs.Left.{lent};
+
+    ghost view = { λ i. lent i.form };
+}
+
+impl<'a, V> Iter<'a, V> {
+    pub(super) fn of_row(row: &'a [(String, V)]) -> Iter<'a, V>
+        ensures rest { result ≡ row.now }
+        ensures fits { length row.now < 2 ^ 63 }
+    {
+        Iter {
+            form: Lent::LentRow(row.iter()),
+        }
+    }
+
+    pub(super) fn of_tree(tree: &'a BTreeMap<String, V>) -> Iter<'a, V>
+        ensures rest { result ≡ tree.now.entries }
+        ensures fits { length tree.now.entries < 2 ^ 63 }
+    {
+        Iter {
+            form: Lent::LentTree(tree.iter()),
+        }
+    }
+}
+
+impl<'a, V> Iterator for Iter<'a, V> {
+    type Item = (&'a String, &'a V);
+
+    ghost next_gives = { TakesFirst deref_pair };
+
+    ghost remaining = { λ s. at_most (length s) };
+
+    fn next(&mut self) -> Option<(&'a String, &'a V)> {
+        match &mut self.form {
+            Lent::LentRow(pairs) => match pairs.next() {
+                Some((name, value)) => Some((name, value)),
+                None => None,
+            },
+            Lent::LentTree(pairs) => pairs.next(),
+        }
+    }
+}
+
+#[derive(Drop)]
+enum Given<V> {
+    GivenRow(vec::IntoIter<(String, V)>),
+    GivenTree(btree_map::IntoIter<String, V>),
+}
+
+/// The pairs of an ordered map by value, in the order of their names.
+#[derive(Drop)]
+pub struct IntoIter<V> {
+    form: Given<V>,
+}
+
+impl<V> Model for IntoIter<V> {
+    ghost use Rattle.std.specs.Prelude.{List};
+    ghost use Rattle.std.specs.Coded.{coded_list, coded×};
+    ghost use Rattle.cs_value.specs.Entries.{Name, name_code};
+
+    ghost Value = { List (Name × V) };
+
+    ghost coded = { coded_list (coded× name_code V.code) };
+
+    ghost use Rattle.cs_value.specs.Left.{given};
+
+    ghost view = { λ i. given i.form };
+}
+
+impl<V> IntoIter<V> {
+    pub(super) fn of_row(row: Vec<(String, V)>) -> IntoIter<V>
+        ensures { result ≡ row.items }
+    {
+        IntoIter {
+            form: Given::GivenRow(row.into_iter()),
+        }
+    }
+
+    pub(super) fn of_tree(tree: BTreeMap<String, V>) -> IntoIter<V>
+    where
+        V: Drop,
+        ensures { result ≡ tree.entries }
+    {
+        IntoIter {
+            form: Given::GivenTree(tree.into_iter()),
+        }
+    }
+}
+
+impl<V: Drop> Iterator for IntoIter<V> {
+    type Item = (String, V);
+
+    ghost next_gives = { TakesFirst (λ p. p) };
+
+    ghost remaining = { λ s. at_most (length s) };
+
+    fn next(&mut self) -> Option<(String, V)> {
+        match &mut self.form {
+            Given::GivenRow(pairs) => pairs.next(),
+            Given::GivenTree(pairs) => pairs.next(),
+        }
+    }
+}

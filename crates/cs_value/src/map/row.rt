@@ -1,0 +1,105 @@
+// The pairs of a small map in a vector, in ascending order of their names.
+ghost use Rattle.std.specs.Prelude.{◌≡◌, length, IfOk, OnOk, OnErr};
+ghost use Rattle.std.specs.List.Sorted.{IsSearchInRange};
+ghost use Rattle.std.specs.Map.{lookup, remove_entry};
+ghost use Rattle.std.specs.BTreeMap.{insert_entry, is_at};
+ghost use Rattle.std.specs.Option.{option_copied};
+ghost use Rattle.std.specs.String.{string_cmp};
+ghost use Rattle.std_collections.specs.Layout.BTreeMap.{seek};
+ghost use Rattle.cs_value.specs.Entries.{Ascend, compares};
+
+use crate::memory::NoMemory;
+use std::cmp::Ordering;
+use std::mem;
+
+// A full vector takes room for so many pairs more.
+const STEP: usize = 4;
+
+/// The place of the name, or else where it would go. The search stops at the first name that is not
+/// below it.
+pub(super) fn place<V>(row: &[(String, V)], name: &str) -> Result<usize, usize>
+    ensures place { result ≡ seek (compares name.now) row.now }
+    ensures within { IsSearchInRange result (length row.now) }
+{
+    for at in 0..row.len() {
+        match name.cmp(row[at].0.as_str()) {
+            Ordering::Less => return Err(at),
+            Ordering::Equal => return Ok(at),
+            Ordering::Greater => {}
+        }
+    }
+    Err(row.len())
+}
+
+/// The value of the name. `None` exactly where the row lacks the name.
+pub(super) fn get<'a, V>(row: &'a [(String, V)], name: &str) -> Option<&'a V>
+    requires { Ascend row.now }
+    ensures { option_copied result ≡ lookup (is_at (compares name.now)) row.now }
+{
+    match place(row, name) {
+        Ok(at) => Some(&row[at].1),
+        Err(_) => None,
+    }
+}
+
+/// Takes the name out, and gives its value. `None` exactly where the row lacks the name.
+pub(super) fn take<V: Drop>(row: &mut Vec<(String, V)>, name: &str) -> Option<V>
+    requires { Ascend row.old.items }
+    ensures value { result ≡ lookup (is_at (compares name.now)) row.old.items }
+    ensures left { row.new.items ≡ remove_entry (is_at (compares name.now)) row.old.items }
+{
+    match place(row.as_slice(), name) {
+        Ok(at) => {
+            let (_, value) = row.remove(at);
+            Some(value)
+        }
+        Err(_) => None,
+    }
+}
+
+/// The same as [`place`], with one look at the last name alone where the name is above it.
+fn gap<V>(row: &[(String, V)], name: &str) -> Result<usize, usize>
+    requires { Ascend row.now }
+    ensures place { result ≡ seek (compares name.now) row.now }
+    ensures within { IsSearchInRange result (length row.now) }
+{
+    if let Some((last, _)) = row.last() {
+        if let Ordering::Greater = name.cmp(last.as_str()) {
+            return Err(row.len());
+        }
+    }
+    place(row, name)
+}
+
+// Room for one pair more.
+fn make_room<V>(row: &mut Vec<(String, V)>) -> Result<(), NoMemory>
+    ensures { row.new.items ≡ row.old.items }
+{
+    if row.len() == row.capacity() {
+        row.reserve_exact(STEP)?;
+    }
+    Ok(())
+}
+
+/// Puts the value at the name, and gives back the value that it replaces. `NoMemory` where the
+/// vector cannot grow; it is unchanged then.
+pub(super) fn put<V: Drop>(
+    row: &mut Vec<(String, V)>,
+    name: String,
+    value: V,
+) -> Result<Option<V>, NoMemory>
+    requires { Ascend row.old.items }
+    ensures old { IfOk result (λ old. old ≡ lookup (is_at (string_cmp name)) row.old.items) }
+    ensures entries { OnOk result
+        (row.new.items ≡ insert_entry string_cmp row.old.items name value) }
+    ensures kept { OnErr result (row.new.items ≡ row.old.items) }
+{
+    match gap(row.as_slice(), name.as_str()) {
+        Ok(at) => Ok(Some(mem::replace(&mut row[at].1, value))),
+        Err(at) => {
+            make_room(row)?;
+            row.insert(at, (name, value))?;
+            Ok(None)
+        }
+    }
+}

@@ -1,0 +1,125 @@
+// The two forms of an ordered map: a vector while it is small, and a tree.
+ghost use Rattle.std.specs.Prelude.{◌≡◌, ◌^◌, ◌<◌, [], length, IfOk, OnOk, OnErr};
+ghost use Rattle.std.specs.Map.{lookup, remove_entry};
+ghost use Rattle.std.specs.BTreeMap.{insert_entry, is_at};
+ghost use Rattle.std.specs.Option.{option_copied};
+ghost use Rattle.std.specs.String.{string_cmp};
+ghost use Rattle.cs_value.specs.Entries.{Ascend, compares, entries};
+
+use super::iter::{IntoIter, Iter};
+use super::{grow, row};
+use crate::memory::NoMemory;
+use std::alloc::Global;
+use std::collections::BTreeMap;
+
+/// The most pairs that stand in a vector.
+pub const MOST_IN_ROW: usize = 32;
+
+#[derive(Drop)]
+pub(crate) enum Stored<V> {
+    Few(Vec<(String, V)>),
+    Many(BTreeMap<String, V>),
+}
+
+impl<V> Stored<V> {
+    pub(super) fn new(alloc: Global) -> Stored<V>
+        ensures { entries result ≡ [] }
+    {
+        Stored::Few(Vec::new(alloc))
+    }
+
+    pub(super) fn with_capacity(alloc: Global, pairs: usize) -> Result<Stored<V>, NoMemory>
+        ensures { IfOk result (λ s. entries s ≡ []) }
+    {
+        if pairs > MOST_IN_ROW {
+            return Ok(Stored::Many(BTreeMap::new(alloc)));
+        }
+        Ok(Stored::Few(Vec::with_capacity(alloc, pairs)?))
+    }
+
+    pub(super) fn len(&self) -> usize
+        ensures len { result ≡ length (entries self.now) }
+        ensures small { result < 2 ^ 63 }
+    {
+        match self {
+            Stored::Few(row) => row.len(),
+            Stored::Many(tree) => tree.len(),
+        }
+    }
+
+    pub(super) fn get(&self, name: &str) -> Option<&V>
+        requires { Ascend (entries self.now) }
+        ensures { option_copied result ≡ lookup (is_at (compares name.now)) (entries self.now) }
+    {
+        match self {
+            Stored::Few(row) => row::get(row.as_slice(), name),
+            Stored::Many(tree) => tree.get(name),
+        }
+    }
+
+    // Whether the vector is full and lacks the name.
+    fn is_full_without(&self, name: &str) -> bool {
+        match self {
+            Stored::Few(row) => row.len() >= MOST_IN_ROW
+                && row::place(row.as_slice(), name).is_err(),
+            Stored::Many(_) => false,
+        }
+    }
+
+    pub(super) fn insert(&mut self, name: String, value: V) -> Result<Option<V>, NoMemory>
+    where
+        V: Drop,
+        requires { Ascend (entries self.old) }
+        ensures old { IfOk result
+            (λ old. old ≡ lookup (is_at (string_cmp name)) (entries self.old)) }
+        ensures entries { OnOk result
+            (entries self.new ≡ insert_entry string_cmp (entries self.old) name value) }
+        ensures kept { OnErr result (entries self.new ≡ entries self.old) }
+    {
+        if self.is_full_without(name.as_str()) {
+            grow::grow(self)?;
+        }
+        match self {
+            Stored::Few(row) => row::put(row, name, value),
+            Stored::Many(tree) => match tree.insert(name, value) {
+                Ok(old) => Ok(old),
+                Err(_) => Err(NoMemory),
+            },
+        }
+    }
+
+    pub(super) fn remove(&mut self, name: &str) -> Option<V>
+    where
+        V: Drop,
+        requires { Ascend (entries self.old) }
+        ensures value { result ≡ lookup (is_at (compares name.now)) (entries self.old) }
+        ensures left { entries self.new
+            ≡ remove_entry (is_at (compares name.now)) (entries self.old) }
+    {
+        match self {
+            Stored::Few(row) => row::take(row, name),
+            Stored::Many(tree) => tree.remove(name),
+        }
+    }
+
+    pub(super) fn iter(&self) -> Iter<'_, V>
+        ensures rest { result ≡ entries self.now }
+        ensures fits { length (entries self.now) < 2 ^ 63 }
+    {
+        match self {
+            Stored::Few(row) => Iter::of_row(row.as_slice()),
+            Stored::Many(tree) => Iter::of_tree(tree),
+        }
+    }
+
+    pub(super) fn into_iter(self) -> IntoIter<V>
+    where
+        V: Drop,
+        ensures { result ≡ entries self }
+    {
+        match self {
+            Stored::Few(row) => IntoIter::of_row(row),
+            Stored::Many(tree) => IntoIter::of_tree(tree),
+        }
+    }
+}
