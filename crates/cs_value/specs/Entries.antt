@@ -1,4 +1,5 @@
--- The pairs of an ordered map: names, each with its value, in ascending order of the names' bytes (RFC 8259, "Objects", where each name is unique).
+-- The pairs of an ordered map: names, each with its value, in ascending order of the names' bytes
+-- (RFC 8259, "Objects", where each name is unique).
 use base.Stored.{Coded}
 use Rattle.std.specs.Prelude.{ℕ, List, String, string_bytes}
 use Rattle.std.specs.Ordering.{nat_cmp}

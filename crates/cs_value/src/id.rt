@@ -1,3 +1,4 @@
+//! Which texts are ids.
 ghost use Rattle.std.specs.Prelude.{◌≡◌};
 ghost use Rattle.std.specs.List.{list_all};
 ghost use Rattle.cs_value.specs.Id.{is_id, is_id_byte};

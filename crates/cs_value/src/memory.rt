@@ -1,3 +1,4 @@
+//! Refusals that many calls share.
 use std::alloc::{AllocError, AllocFailed};
 
 /// A growth was refused: the allocator had no memory to give.

@@ -1,3 +1,4 @@
+//! The counter of visits.
 ghost use Rattle.std.specs.Prelude.{◌≡◌, ◌+◌, ◌<◌};
 
 use std::marker::Model;

@@ -1,3 +1,4 @@
+//! Values and the attributes of objects.
 ghost use Rattle.std.specs.Prelude.{◌≡◌, option_map, IfOk, OnErr, ◌<◌, ◌^◌, ◌↔◌, IsTrue, nat_le};
 ghost use Rattle.cs_value.specs.Tree.{no_pairs, depth as tree_depth};
 ghost use Rattle.cs_value.specs.Pairs.{find, put, without, attribute};
