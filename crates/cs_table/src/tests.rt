@@ -1,3 +1,4 @@
+// Tables of a few rows.
 use super::*;
 
 #[derive(Clone, Copy)]
