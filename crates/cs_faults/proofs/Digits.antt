@@ -10,5 +10,8 @@ grows : (n : ℕ) (digits : List ℕ) → n ≤ fold next n digits
 grows n [] = omega arith
 grows n (d ∷ ds) = omega (arith, grows (next n d) ds)
 
-pub passes : (most n i : ℕ) (digits : List ℕ) → i < length digits → most < next n (get_or digits i 0) → most < fold next n (drop i digits)
-passes most n i digits inside above = rw (drop-cons digits i 0) (omega (arith, grows (next n (get_or digits i 0)) (drop (suc i) digits)))
+pub passes : (most n i : ℕ) (digits : List ℕ) → i < length digits →
+    most < next n (get_or digits i 0) → most < fold next n (drop i digits)
+passes most n i digits inside above =
+    rw (drop-cons digits i 0)
+    (omega (arith, grows (next n (get_or digits i 0)) (drop (suc i) digits)))

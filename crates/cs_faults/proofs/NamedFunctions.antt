@@ -16,20 +16,25 @@ use Rattle.cs_syntax.specs.Functions.{Arity, functions, arity_of, is_left_out}
 -- what passes for the name of each row passes for the name of a row that is found
 found_passes : (p : List ℕ → Bool) (rows : List (List ℕ × Arity)) (name : List ℕ) (a : Arity)
     → list_all p (map (λ (r : List ℕ × Arity). r.0) rows) ≡ true
-    → option_map (λ (r : List ℕ × Arity). r.1) (row_of (λ (r : List ℕ × Arity). r.0) name rows) ≡ Some a
+    → option_map (λ (r : List ℕ × Arity). r.1) (row_of (λ (r : List ℕ × Arity). r.0) name rows)
+    ≡ Some a
     → p name ≡ true
 found_passes p [] name a all h = cc
 found_passes p (r ∷ rows) name a all h =
-    by_name (is_eq (slice_cmp nat_cmp r.0 name)) refl (and_parts (p r.0) _ all) h (found_passes p rows name a)
+    by_name (is_eq (slice_cmp nat_cmp r.0 name)) refl (and_parts (p r.0) _ all) h
+    (found_passes p rows name a)
   where
     by_name : (t : Bool) → is_eq (slice_cmp nat_cmp r.0 name) ≡ t
         → (p r.0 ≡ true) × (list_all p (map (λ (x : List ℕ × Arity). x.0) rows) ≡ true)
-        → option_map (λ (x : List ℕ × Arity). x.1) (cond t (Some r) (row_of (λ (x : List ℕ × Arity). x.0) name rows)) ≡ Some a
+        → option_map (λ (x : List ℕ × Arity). x.1)
+        (cond t (Some r) (row_of (λ (x : List ℕ × Arity). x.0) name rows)) ≡ Some a
         → (list_all p (map (λ (x : List ℕ × Arity). x.0) rows) ≡ true
-        → option_map (λ (x : List ℕ × Arity). x.1) (row_of (λ (x : List ℕ × Arity). x.0) name rows) ≡ Some a
+        → option_map (λ (x : List ℕ × Arity). x.1)
+        (row_of (λ (x : List ℕ × Arity). x.0) name rows) ≡ Some a
         → p name ≡ true)
         → p name ≡ true
-    by_name true e q g ih = ap p (sym ((bytes_eq-Decides r.0 name).0 (sym (is_eq-slice_cmp r.0 name) ∙ e))) ∙ q.0
+    by_name true e q g ih =
+        ap p (sym ((bytes_eq-Decides r.0 name).0 (sym (is_eq-slice_cmp r.0 name) ∙ e))) ∙ q.0
     by_name false e q g ih = ih q.1 g
 
 abbrev is_kept : List ℕ → Bool
@@ -39,14 +44,16 @@ kept : (t : Bool) → not t ≡ true → t ≡ false
 kept true h = sym h
 kept false h = refl
 
-pub is_not_left_out : (name : List ℕ) (a : Arity) → arity_of name ≡ Some a → (is_left_out name || is_path name) ≡ false
+pub is_not_left_out : (name : List ℕ) (a : Arity) → arity_of name ≡ Some a →
+    (is_left_out name || is_path name) ≡ false
 is_not_left_out name a h = kept _ (found_passes is_kept functions name a refl h)
 
 -- the faults of a call of a function
 pub call_of_function : (name : List ℕ) (args : Arguments) (a : Arity) → arity_of name ≡ Some a
     → call_faults name args ≡ arity_faults name args (Some a)
 call_of_function name args a h =
-    ap (λ t. if t then unsupported name ∷ [] else arity_faults name args (arity_of name)) (is_not_left_out name a h)
+    ap (λ t. if t then unsupported name ∷ []
+    else arity_faults name args (arity_of name)) (is_not_left_out name a h)
     ∙ ap (λ o. arity_faults name args o) h
 
 -- the first fault of a call whose name no function has

@@ -5,6 +5,7 @@ use Rattle.cs_syntax.specs.Faults.{order_faults}
 use Rattle.cs_syntax.specs.View.{key}
 use Rattle.cs_syntax.specs.declared.tree.OrderKey.{OrderKey}
 
-pub order_with_key : (name : List ℕ) (ks : List OrderKey) → 0 < length ks → order_faults name (keys_of (map key ks)) ≡ []
+pub order_with_key : (name : List ℕ) (ks : List OrderKey) → 0 < length ks →
+    order_faults name (keys_of (map key ks)) ≡ []
 order_with_key name [] some = elim some [ ]
 order_with_key name (k ∷ ks) some = refl

@@ -27,7 +27,8 @@ found (Err f) = Some (told f)
 
 -- for private clauses: the fault of a call whose name no function has
 abbrev pub no_function : List ℕ → Fault
-no_function name = if is_left_out name || is_path name then unsupported name else unknown_function name
+no_function name = if is_left_out name || is_path name then unsupported name
+    else unknown_function name
 
 -- for private clauses: the first that is there
 abbrev pub first_or : Option Fault → Option Fault → Option Fault

@@ -69,7 +69,8 @@ pub(crate) fn check_right_call<'e>(name: &'e str, args: &[Arg]) -> Result<(), Fa
 
 #[tactic(auto, using(crate::proofs::Views::order_with_key))]
 fn check_order<'e>(name: &'e str, keys: &[OrderKey]) -> Result<(), Fault<'e>>
-    ensures { found result ≡ first_of (order_faults name.now (keys_of (map order_key_of keys.now))) }
+    ensures { found result
+        ≡ first_of (order_faults name.now (keys_of (map order_key_of keys.now))) }
 {
     if keys.is_empty() {
         return Err(Fault::Arity { name });
@@ -79,7 +80,8 @@ fn check_order<'e>(name: &'e str, keys: &[OrderKey]) -> Result<(), Fault<'e>>
 
 /// The fault of the name of a piped call.
 pub(crate) fn check_pipe<'e>(name: &'e str, keys: &[OrderKey]) -> Result<(), Fault<'e>>
-    ensures { found result ≡ first_of (pipe_faults name.now (keys_of (map order_key_of keys.now))) }
+    ensures { found result
+        ≡ first_of (pipe_faults name.now (keys_of (map order_key_of keys.now))) }
 {
     if is_left_out(name) {
         return Err(Fault::Unsupported { name });

@@ -135,7 +135,8 @@ pub(crate) fn accepts(arity: Arity, args: &[Arg]) -> bool
 }
 
 fn is_among(name: &[u8], others: &[&str]) -> bool
-    ensures { result ≡ list_any (λ other. bytes_eq name.now other) (map (λ o. o.now) others.entry.now) }
+    ensures { result
+        ≡ list_any (λ other. bytes_eq name.now other) (map (λ o. o.now) others.entry.now) }
 {
     for other in others {
         if name == other.as_bytes() {

@@ -1,3 +1,4 @@
+// Faults of small trees.
 use super::*;
 use cs_syntax::{Arg, BinSign, Expr, Step};
 use cs_value::Txt;

@@ -23,7 +23,8 @@ one_expression ts t u a b = got_tree (same_outcome (spelled_read a) (spelled_rea
 pub read_spelled : {ts : List Tok} {t : Expression} → Reads expr ts (got t []) → Spells ts t
 read_spelled {ts = ts} {t = t} h =
     let s = reads_sound h in
-    subst (λ z. Spells z t) (sym (s.took.is ∙ append-nil s.taken)) (s.fact.first, s.fact.rest, s.fact.spelled, s.fact.is)
+    subst (λ z. Spells z t) (sym (s.took.is
+    ∙ append-nil s.taken)) (s.fact.first, s.fact.rest, s.fact.spelled, s.fact.is)
 
 -- what is not read, or not to its end, spells nothing
 pub unread : {ts : List Tok} → Reads expr ts fail → (t : Expression) → Spells ts t → ⊥
@@ -32,7 +33,8 @@ unread h t s = clash (same_outcome h (spelled_read s))
     clash : {e : Expression} {r : List Tok} → fail ≡ got e r → ⊥
     clash h = cc
 
-pub unfinished : {ts r : List Tok} {x : Tok} {e : Expression} → Reads expr ts (got e (x ∷ r)) → (t : Expression) → Spells ts t → ⊥
+pub unfinished : {ts r : List Tok} {x : Tok} {e : Expression} → Reads expr ts (got e (x ∷ r)) →
+    (t : Expression) → Spells ts t → ⊥
 unfinished h t s = clash (same_outcome h (spelled_read s))
   where
     clash : {e f : Expression} {x : Tok} {r : List Tok} → got e (x ∷ r) ≡ got f [] → ⊥

@@ -62,13 +62,16 @@ sign_at_ordinal sign.At = refl
 sign_at_ordinal sign.Caret = refl
 
 pub same_sign_same : (s t : Sign) → same_sign s t ≡ true → s ≡ t
-same_sign_same s t h = sym (sign_at_ordinal s) ∙ ap sign_at (eqb-true (ordinal s) (ordinal t) h) ∙ sign_at_ordinal t
+same_sign_same s t h = sym (sign_at_ordinal s) ∙ ap sign_at (eqb-true (ordinal s) (ordinal t) h)
+    ∙ sign_at_ordinal t
 
-chosen : {A : Type 0} (b : Bool) {r s : A} → (if b then Some r else None) ≡ Some s → (b ≡ true) × (r ≡ s)
+chosen : {A : Type 0} (b : Bool) {r s : A} → (if b then Some r else None) ≡ Some s →
+    (b ≡ true) × (r ≡ s)
 chosen true h = (refl, cc)
 chosen false h = absurd (cc)
 
-refused : {A : Type 0} (b : Bool) {r s : A} → (if b then None else Some r) ≡ Some s → (b ≡ false) × (r ≡ s)
+refused : {A : Type 0} (b : Bool) {r s : A} → (if b then None else Some r) ≡ Some s →
+    (b ≡ false) × (r ≡ s)
 refused true h = absurd (cc)
 refused false h = (refl, cc)
 
@@ -76,7 +79,8 @@ some_same : {A : Type 0} {x y : A} → Some x ≡ Some y → x ≡ y
 some_same h = cc
 
 -- a sign
-pub after_is : (s : Sign) (ts : List Tok) {r : List Tok} → after s ts ≡ Some r → ts ≡ sign_tok s ∷ r
+pub after_is : (s : Sign) (ts : List Tok) {r : List Tok} → after s ts ≡ Some r →
+    ts ≡ sign_tok s ∷ r
 after_is s [] h = absurd (cc)
 after_is s (number_tok n ∷ ts) h = absurd (cc)
 after_is s (text_tok n ∷ ts) h = absurd (cc)
@@ -89,18 +93,21 @@ after_is s (sign_tok t ∷ ts) {r = r} h =
     cc
 
 -- a sign of a table
-pub record Signed {A : Type 0} (φ : Sign → Option A) (ts : List Tok) (a : A) (r : List Tok) : Type 0 where
+pub record Signed {A : Type 0} (φ : Sign →
+    Option A) (ts : List Tok) (a : A) (r : List Tok) : Type 0 where
   pub sign : Sign
   pub is : ts ≡ sign_tok sign ∷ r
   pub means : φ sign ≡ Some a
 
-mapped : {A : Type 0} (x : Option A) (r : List Tok) {a : A} {s : List Tok} → option_map {U = A × List Tok} (λ b. (b, r)) x ≡ Some (a, s) → (x ≡ Some a) × (r ≡ s)
+mapped : {A : Type 0} (x : Option A) (r : List Tok) {a : A} {s : List Tok} →
+    option_map {U = A × List Tok} (λ b. (b, r)) x ≡ Some (a, s) → (x ≡ Some a) × (r ≡ s)
 mapped (Some b) r h =
     let p = some_same h in
     (ap Some (ap (λ z. z.0) p), ap (λ z. z.1) p)
 mapped None r h = absurd (cc)
 
-pub after_sign_is : {A : Type 0} (φ : Sign → Option A) (ts : List Tok) {a : A} {r : List Tok} → after_sign φ ts ≡ Some (a, r) → Signed φ ts a r
+pub after_sign_is : {A : Type 0} (φ : Sign → Option A) (ts : List Tok) {a : A} {r : List Tok} →
+    after_sign φ ts ≡ Some (a, r) → Signed φ ts a r
 after_sign_is φ [] h = absurd (cc)
 after_sign_is φ (number_tok n ∷ ts) h = absurd (cc)
 after_sign_is φ (text_tok n ∷ ts) h = absurd (cc)
@@ -111,7 +118,8 @@ after_sign_is φ (sign_tok t ∷ ts) h =
     record { sign = t; is = ap (λ z. sign_tok t ∷ z) m.1; means = m.0 }
 
 -- a word, a keyword, and a word that is no keyword
-pub after_word_is : (ts : List Tok) {r : List Tok} {w : List ℕ} → after_word ts ≡ Some (w, r) → ts ≡ word_tok w ∷ r
+pub after_word_is : (ts : List Tok) {r : List Tok} {w : List ℕ} → after_word ts ≡ Some (w, r) →
+    ts ≡ word_tok w ∷ r
 after_word_is [] h = absurd (cc)
 after_word_is (number_tok n ∷ ts) h = absurd (cc)
 after_word_is (text_tok n ∷ ts) h = absurd (cc)
@@ -123,7 +131,8 @@ after_word_is (word_tok v ∷ ts) {r = r} {w = w} h =
     cc
 after_word_is (sign_tok t ∷ ts) h = absurd (cc)
 
-pub after_keyword_is : (k : List ℕ) (ts : List Tok) {r : List Tok} → after_keyword k ts ≡ Some r → ts ≡ word_tok k ∷ r
+pub after_keyword_is : (k : List ℕ) (ts : List Tok) {r : List Tok} → after_keyword k ts ≡ Some r →
+    ts ≡ word_tok k ∷ r
 after_keyword_is k [] h = absurd (cc)
 after_keyword_is k (number_tok n ∷ ts) h = absurd (cc)
 after_keyword_is k (text_tok n ∷ ts) h = absurd (cc)
@@ -139,7 +148,8 @@ pub record IsAttribute (ts : List Tok) (w : List ℕ) (r : List Tok) : Type 0 wh
   pub is : ts ≡ word_tok w ∷ r
   pub free : is_keyword w ≡ false
 
-pub after_attribute_is : (ts : List Tok) {r : List Tok} {w : List ℕ} → after_attribute ts ≡ Some (w, r) → IsAttribute ts w r
+pub after_attribute_is : (ts : List Tok) {r : List Tok} {w : List ℕ} →
+    after_attribute ts ≡ Some (w, r) → IsAttribute ts w r
 after_attribute_is [] h = absurd (cc)
 after_attribute_is (number_tok n ∷ ts) h = absurd (cc)
 after_attribute_is (text_tok n ∷ ts) h = absurd (cc)
@@ -152,26 +162,37 @@ after_attribute_is (word_tok v ∷ ts) {r = r} {w = w} h =
 after_attribute_is (sign_tok t ∷ ts) h = absurd (cc)
 
 -- `.` and `^`
-pub after_caret_is : (ts : List Tok) {r : List Tok} → after_caret ts ≡ Some r → ts ≡ sign_tok sign.Dot ∷ sign_tok sign.Caret ∷ r
+pub after_caret_is : (ts : List Tok) {r : List Tok} → after_caret ts ≡ Some r →
+    ts ≡ sign_tok sign.Dot ∷ sign_tok sign.Caret ∷ r
 after_caret_is ts {r = r} h = by_dot (after sign.Dot ts) refl h
   where
-    by_dot : (x : Option (List Tok)) → after sign.Dot ts ≡ x → option_and_then (after sign.Caret) x ≡ Some r → ts ≡ sign_tok sign.Dot ∷ sign_tok sign.Caret ∷ r
-    by_dot (Some q) i j = after_is sign.Dot ts i ∙ ap (λ z. sign_tok sign.Dot ∷ z) (after_is sign.Caret q j)
+    by_dot : (x : Option (List Tok)) → after sign.Dot ts ≡ x →
+        option_and_then (after sign.Caret) x ≡ Some r →
+        ts ≡ sign_tok sign.Dot ∷ sign_tok sign.Caret ∷ r
+    by_dot (Some q) i j =
+        after_is sign.Dot ts i ∙ ap (λ z. sign_tok sign.Dot ∷ z) (after_is sign.Caret q j)
     by_dot None i j = absurd (cc)
 
 -- where one stands first, no other does
-pub signs_apart : (s t : Sign) (ts : List Tok) {r : List Tok} → after t ts ≡ Some r → same_sign s t ≡ false → after s ts ≡ None
-signs_apart s t ts {r = r} h i = ap (after s) (after_is t ts h) ∙ ap (λ b. if b then Some r else None) i
+pub signs_apart : (s t : Sign) (ts : List Tok) {r : List Tok} → after t ts ≡ Some r →
+    same_sign s t ≡ false → after s ts ≡ None
+signs_apart s t ts {r = r} h i =
+    ap (after s) (after_is t ts h) ∙ ap (λ b. if b then Some r else None) i
 
-pub no_sign : {A : Type 0} (φ : Sign → Option A) (k : List ℕ) (ts : List Tok) {r : List Tok} → after_keyword k ts ≡ Some r → after_sign φ ts ≡ None
+pub no_sign : {A : Type 0} (φ : Sign → Option A) (k : List ℕ) (ts : List Tok) {r : List Tok} →
+    after_keyword k ts ≡ Some r → after_sign φ ts ≡ None
 no_sign φ k ts h = ap (after_sign φ) (after_keyword_is k ts h)
 
-pub no_word : (s : Sign) (ts : List Tok) {r : List Tok} {w : List ℕ} → after_word ts ≡ Some (w, r) → after s ts ≡ None
+pub no_word : (s : Sign) (ts : List Tok) {r : List Tok} {w : List ℕ} →
+    after_word ts ≡ Some (w, r) → after s ts ≡ None
 no_word s ts h = ap (after s) (after_word_is ts h)
 
-pub keywords_apart : (j k : List ℕ) (ts : List Tok) {r : List Tok} → after_keyword k ts ≡ Some r → bytes_eq k j ≡ false → after_keyword j ts ≡ None
-keywords_apart j k ts {r = r} h i = ap (after_keyword j) (after_keyword_is k ts h) ∙ ap (λ b. if b then Some r else None) i
+pub keywords_apart : (j k : List ℕ) (ts : List Tok) {r : List Tok} → after_keyword k ts ≡ Some r →
+    bytes_eq k j ≡ false → after_keyword j ts ≡ None
+keywords_apart j k ts {r = r} h i = ap (after_keyword j) (after_keyword_is k ts h)
+    ∙ ap (λ b. if b then Some r else None) i
 
 -- a sign of a table that stands first
-pub sign_found : {A : Type 0} (φ : Sign → Option A) (s : Sign) (r : List Tok) {a : A} → φ s ≡ Some a → after_sign φ (sign_tok s ∷ r) ≡ Some (a, r)
+pub sign_found : {A : Type 0} (φ : Sign → Option A) (s : Sign) (r : List Tok) {a : A} →
+    φ s ≡ Some a → after_sign φ (sign_tok s ∷ r) ≡ Some (a, r)
 sign_found {A = A} φ s r h = ap (option_map {U = A × List Tok} (λ b. (b, r))) h

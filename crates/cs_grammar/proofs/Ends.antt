@@ -52,34 +52,78 @@ pub record EndsExpr (r : List Tok) : Type 0 where
   pub conjunction : EndsAnd r
   pub or : after_sign (op_of level.Or) r ≡ None
 
-ends_chain : (r : List Tok) → after sign.OpenParen r ≡ None → after sign.ColonColon r ≡ None → after_caret r ≡ None → after sign.Dot r ≡ None → after sign.Arrow r ≡ None →
-    after sign.OpenBracket r ≡ None → after sign.OpenBrace r ≡ None → after sign.Pipe r ≡ None → after_attribute r ≡ None → EndsChain r
-ends_chain r a b c d e f g h i = record { base = record { paren = a; colons = b; caret = c }; dot = d; arrow = e; bracket = f; brace = g; pipe = h; attribute = i }
+ends_chain : (r : List Tok) → after sign.OpenParen r ≡ None → after sign.ColonColon r ≡ None →
+    after_caret r ≡ None → after sign.Dot r ≡ None → after sign.Arrow r ≡ None →
+    after sign.OpenBracket r ≡ None → after sign.OpenBrace r ≡ None → after sign.Pipe r ≡ None →
+    after_attribute r ≡ None → EndsChain r
+ends_chain r a b c d e f g h i =
+    record {
+      base = record { paren = a; colons = b; caret = c };
+      dot = d;
+      arrow = e;
+      bracket =
+          f;
+      brace = g;
+      pipe = h;
+      attribute = i;
+    }
 
 -- by an operator
 pub stars_end : (r : List Tok) → EndsChain (sign_tok sign.StarStar ∷ r)
 stars_end r = ends_chain (sign_tok sign.StarStar ∷ r) refl refl refl refl refl refl refl refl refl
 
-pub product_end : (s : Sign) {o : BinSign} (r : List Tok) → product_op s ≡ Some o → EndsPow (sign_tok s ∷ r)
-product_end sign.Star r h = record { chain = ends_chain (sign_tok sign.Star ∷ r) refl refl refl refl refl refl refl refl refl; stars = refl }
-product_end sign.Slash r h = record { chain = ends_chain (sign_tok sign.Slash ∷ r) refl refl refl refl refl refl refl refl refl; stars = refl }
-product_end sign.Percent r h = record { chain = ends_chain (sign_tok sign.Percent ∷ r) refl refl refl refl refl refl refl refl refl; stars = refl }
+pub product_end : (s : Sign) {o : BinSign} (r : List Tok) → product_op s ≡ Some o →
+    EndsPow (sign_tok s ∷ r)
+product_end sign.Star r h =
+    record {
+      chain =
+          ends_chain (sign_tok sign.Star ∷ r) refl refl refl refl refl refl refl refl refl;
+      stars =
+          refl;
+    }
+product_end sign.Slash r h =
+    record {
+      chain =
+          ends_chain (sign_tok sign.Slash ∷ r) refl refl refl refl refl refl refl refl refl;
+      stars =
+          refl;
+    }
+product_end sign.Percent r h =
+    record {
+      chain =
+          ends_chain (sign_tok sign.Percent ∷ r) refl refl refl refl refl refl refl refl refl;
+      stars =
+          refl;
+    }
 product_end _ r h = absurd (cc)
 
-pub sum_end : (s : Sign) {o : BinSign} (r : List Tok) → sum_op s ≡ Some o → EndsProduct (sign_tok s ∷ r)
+pub sum_end : (s : Sign) {o : BinSign} (r : List Tok) → sum_op s ≡ Some o →
+    EndsProduct (sign_tok s ∷ r)
 sum_end sign.Plus r h = record {
-  pow = record { chain = ends_chain (sign_tok sign.Plus ∷ r) refl refl refl refl refl refl refl refl refl; stars = refl };
+  pow = record {
+    chain =
+        ends_chain (sign_tok sign.Plus ∷ r) refl refl refl refl refl refl refl refl refl;
+    stars =
+        refl;
+  };
   product = refl;
 }
 sum_end sign.Minus r h = record {
-  pow = record { chain = ends_chain (sign_tok sign.Minus ∷ r) refl refl refl refl refl refl refl refl refl; stars = refl };
+  pow = record {
+    chain =
+        ends_chain (sign_tok sign.Minus ∷ r) refl refl refl refl refl refl refl refl refl;
+    stars =
+        refl;
+  };
   product = refl;
 }
 sum_end _ r h = absurd (cc)
 
 -- the tokens end a sum, where nothing goes on with what stands before them
-ends_sum : {r : List Tok} → EndsChain r → after sign.StarStar r ≡ None → after_sign (op_of level.Product) r ≡ None → after_sign (op_of level.Sum) r ≡ None → EndsSum r
-ends_sum c s p q = record { product = record { pow = record { chain = c; stars = s }; product = p }; sum = q }
+ends_sum : {r : List Tok} → EndsChain r → after sign.StarStar r ≡ None →
+    after_sign (op_of level.Product) r ≡ None → after_sign (op_of level.Sum) r ≡ None → EndsSum r
+ends_sum c s p q =
+    record { product = record { pow = record { chain = c; stars = s }; product = p }; sum = q }
 
 -- a sign by which a sum ends
 abbrev ends_sums : Sign → Bool
@@ -112,7 +156,8 @@ sign_ends_sum sign.Slash r h = absurd (cc)
 sign_ends_sum sign.Percent r h = absurd (cc)
 sign_ends_sum sign.Plus r h = absurd (cc)
 sign_ends_sum sign.Minus r h = absurd (cc)
-sign_ends_sum _ r h = ends_sum (ends_chain _ refl refl refl refl refl refl refl refl refl) refl refl refl
+sign_ends_sum _ r h =
+    ends_sum (ends_chain _ refl refl refl refl refl refl refl refl refl) refl refl refl
 
 compares_end_sum : (s : Sign) {o : BinSign} → comparison_op s ≡ Some o → ends_sums s ≡ true
 compares_end_sum sign.EqEq h = refl
@@ -123,7 +168,8 @@ compares_end_sum sign.Gt h = refl
 compares_end_sum sign.Ge h = refl
 compares_end_sum _ h = absurd (cc)
 
-pub comparison_end : (s : Sign) {o : BinSign} (r : List Tok) → comparison_op s ≡ Some o → EndsSum (sign_tok s ∷ r)
+pub comparison_end : (s : Sign) {o : BinSign} (r : List Tok) → comparison_op s ≡ Some o →
+    EndsSum (sign_tok s ∷ r)
 comparison_end s r h = sign_ends_sum s r (compares_end_sum s h)
 
 dots_end_sum : (s : Sign) {closed : Bool} → range_of s ≡ Some closed → ends_sums s ≡ true
@@ -131,11 +177,13 @@ dots_end_sum sign.DotDot h = refl
 dots_end_sum sign.DotDotDot h = refl
 dots_end_sum _ h = absurd (cc)
 
-pub range_end : (s : Sign) {closed : Bool} (r : List Tok) → range_of s ≡ Some closed → EndsSum (sign_tok s ∷ r)
+pub range_end : (s : Sign) {closed : Bool} (r : List Tok) → range_of s ≡ Some closed →
+    EndsSum (sign_tok s ∷ r)
 range_end s r h = sign_ends_sum s r (dots_end_sum s h)
 
 -- the dots of a range are no comparison
-pub range_no_comparison : (s : Sign) {o : BinSign} (r : List Tok) → comparison_op s ≡ Some o → after_sign range_of (sign_tok s ∷ r) ≡ None
+pub range_no_comparison : (s : Sign) {o : BinSign} (r : List Tok) → comparison_op s ≡ Some o →
+    after_sign range_of (sign_tok s ∷ r) ≡ None
 range_no_comparison sign.EqEq r h = refl
 range_no_comparison sign.Ne r h = refl
 range_no_comparison sign.Lt r h = refl
@@ -150,7 +198,8 @@ match_end r = ends_sum (ends_chain _ refl refl refl refl refl refl refl refl ref
 pub in_end : (r : List Tok) → EndsSum (word_tok (codes "in") ∷ r)
 in_end r = ends_sum (ends_chain _ refl refl refl refl refl refl refl refl refl) refl refl refl
 
-ends_cmp : {r : List Tok} → EndsSum r → after_sign comparison_op r ≡ None → after_keyword (codes "match") r ≡ None → after_keyword (codes "in") r ≡ None →
+ends_cmp : {r : List Tok} → EndsSum r → after_sign comparison_op r ≡ None →
+    after_keyword (codes "match") r ≡ None → after_keyword (codes "in") r ≡ None →
     after_sign range_of r ≡ None → EndsCmp r
 ends_cmp s a b c d = record { sum = s; comparison = a; matches = b; within = c; range = d }
 
@@ -158,20 +207,28 @@ pub and_end : (r : List Tok) → EndsCmp (sign_tok sign.AndAnd ∷ r)
 and_end r = ends_cmp (sign_ends_sum sign.AndAnd r refl) refl refl refl refl
 
 pub or_end : (r : List Tok) → EndsAnd (sign_tok sign.OrOr ∷ r)
-or_end r = record { cmp = ends_cmp (sign_ends_sum sign.OrOr r refl) refl refl refl refl; and = refl }
+or_end r = record {
+  cmp = ends_cmp (sign_ends_sum sign.OrOr r refl) refl refl refl refl;
+  and =
+      refl;
+}
 
 -- by what stands behind an expression
-ends_expr : {r : List Tok} → EndsCmp r → after_sign (op_of level.And) r ≡ None → after_sign (op_of level.Or) r ≡ None → EndsExpr r
+ends_expr : {r : List Tok} → EndsCmp r → after_sign (op_of level.And) r ≡ None →
+    after_sign (op_of level.Or) r ≡ None → EndsExpr r
 ends_expr c a b = record { conjunction = record { cmp = c; and = a }; or = b }
 
 pub close_paren_end : (r : List Tok) → EndsExpr (sign_tok sign.CloseParen ∷ r)
-close_paren_end r = ends_expr (ends_cmp (sign_ends_sum sign.CloseParen r refl) refl refl refl refl) refl refl
+close_paren_end r =
+    ends_expr (ends_cmp (sign_ends_sum sign.CloseParen r refl) refl refl refl refl) refl refl
 
 pub close_bracket_end : (r : List Tok) → EndsExpr (sign_tok sign.CloseBracket ∷ r)
-close_bracket_end r = ends_expr (ends_cmp (sign_ends_sum sign.CloseBracket r refl) refl refl refl refl) refl refl
+close_bracket_end r =
+    ends_expr (ends_cmp (sign_ends_sum sign.CloseBracket r refl) refl refl refl refl) refl refl
 
 pub close_brace_end : (r : List Tok) → EndsExpr (sign_tok sign.CloseBrace ∷ r)
-close_brace_end r = ends_expr (ends_cmp (sign_ends_sum sign.CloseBrace r refl) refl refl refl refl) refl refl
+close_brace_end r =
+    ends_expr (ends_cmp (sign_ends_sum sign.CloseBrace r refl) refl refl refl refl) refl refl
 
 pub comma_end : (r : List Tok) → EndsExpr (sign_tok sign.Comma ∷ r)
 comma_end r = ends_expr (ends_cmp (sign_ends_sum sign.Comma r refl) refl refl refl refl) refl refl
@@ -180,16 +237,23 @@ pub colon_end : (r : List Tok) → EndsExpr (sign_tok sign.Colon ∷ r)
 colon_end r = ends_expr (ends_cmp (sign_ends_sum sign.Colon r refl) refl refl refl refl) refl refl
 
 pub fat_arrow_end : (r : List Tok) → EndsExpr (sign_tok sign.FatArrow ∷ r)
-fat_arrow_end r = ends_expr (ends_cmp (sign_ends_sum sign.FatArrow r refl) refl refl refl refl) refl refl
+fat_arrow_end r =
+    ends_expr (ends_cmp (sign_ends_sum sign.FatArrow r refl) refl refl refl refl) refl refl
 
 pub asc_end : (r : List Tok) → EndsExpr (word_tok (codes "asc") ∷ r)
-asc_end r = ends_expr (ends_cmp (ends_sum (ends_chain _ refl refl refl refl refl refl refl refl refl) refl refl refl) refl refl refl refl) refl refl
+asc_end r = ends_expr
+    (ends_cmp (ends_sum (ends_chain _ refl refl refl refl refl refl refl refl refl) refl refl
+    refl) refl refl refl refl) refl refl
 
 pub desc_end : (r : List Tok) → EndsExpr (word_tok (codes "desc") ∷ r)
-desc_end r = ends_expr (ends_cmp (ends_sum (ends_chain _ refl refl refl refl refl refl refl refl refl) refl refl refl) refl refl refl refl) refl refl
+desc_end r = ends_expr
+    (ends_cmp (ends_sum (ends_chain _ refl refl refl refl refl refl refl refl refl) refl refl
+    refl) refl refl refl refl) refl refl
 
 pub nothing_end : EndsExpr []
-nothing_end = ends_expr (ends_cmp (ends_sum (ends_chain _ refl refl refl refl refl refl refl refl refl) refl refl refl) refl refl refl refl) refl refl
+nothing_end =
+    ends_expr (ends_cmp (ends_sum (ends_chain _ refl refl refl refl refl refl refl refl refl) refl
+    refl refl) refl refl refl refl) refl refl
 
 -- what stands behind a step ends a base, and is no attribute
 step_ends_base : {a : List Tok} {s : Step} → IsStep a s → (r : List Tok) → EndsBase (a ++ r)
@@ -203,7 +267,8 @@ step_ends_base (step_piped_project h) r = record { paren = refl; colons = refl; 
 step_ends_base (step_pipe h) r = record { paren = refl; colons = refl; caret = refl }
 step_ends_base (step_pipe_with h k) r = record { paren = refl; colons = refl; caret = refl }
 
-step_no_attribute : {a : List Tok} {s : Step} → IsStep a s → (r : List Tok) → after_attribute (a ++ r) ≡ None
+step_no_attribute : {a : List Tok} {s : Step} → IsStep a s → (r : List Tok) →
+    after_attribute (a ++ r) ≡ None
 step_no_attribute (step_attr w) r = refl
 step_no_attribute step_deref r = refl
 step_no_attribute step_each r = refl
@@ -214,12 +279,16 @@ step_no_attribute (step_piped_project h) r = refl
 step_no_attribute (step_pipe h) r = refl
 step_no_attribute (step_pipe_with h k) r = refl
 
-pub steps_end_base : {b : List Tok} {ss : List Step} → AreSteps b ss → (r : List Tok) → EndsBase r → EndsBase (b ++ r)
+pub steps_end_base : {b : List Tok} {ss : List Step} → AreSteps b ss → (r : List Tok) →
+    EndsBase r → EndsBase (b ++ r)
 steps_end_base steps_none r k = k
-steps_end_base (steps_more {a = a} {b = b} h j) r k = subst (λ z. EndsBase z) (sym (append_assoc a b r)) (step_ends_base h (b ++ r))
+steps_end_base (steps_more {a = a} {b = b} h j) r k =
+    subst (λ z. EndsBase z) (sym (append_assoc a b r)) (step_ends_base h (b ++ r))
 steps_end_base (steps_arrow w h j) r k = record { paren = refl; colons = refl; caret = refl }
 
-pub steps_no_attribute : {b : List Tok} {ss : List Step} → AreSteps b ss → (r : List Tok) → after_attribute r ≡ None → after_attribute (b ++ r) ≡ None
+pub steps_no_attribute : {b : List Tok} {ss : List Step} → AreSteps b ss → (r : List Tok) →
+    after_attribute r ≡ None → after_attribute (b ++ r) ≡ None
 steps_no_attribute steps_none r k = k
-steps_no_attribute (steps_more {a = a} {b = b} h j) r k = subst (λ z. after_attribute z ≡ None) (sym (append_assoc a b r)) (step_no_attribute h (b ++ r))
+steps_no_attribute (steps_more {a = a} {b = b} h j) r k =
+    subst (λ z. after_attribute z ≡ None) (sym (append_assoc a b r)) (step_no_attribute h (b ++ r))
 steps_no_attribute (steps_arrow w h j) r k = refl

@@ -20,7 +20,8 @@ pub data Begins (φ : Sign → Bool) : List Tok → Type 0 where
   by_word : (w : List ℕ) (r : List Tok) → Begins φ (word_tok w ∷ r)
   by_sign : (s : Sign) (r : List Tok) → φ s ≡ true → Begins φ (sign_tok s ∷ r)
 
-pub begins_append : {φ : Sign → Bool} {a : List Tok} (b : List Tok) → Begins φ a → Begins φ (a ++ b)
+pub begins_append : {φ : Sign → Bool} {a : List Tok} (b : List Tok) → Begins φ a →
+    Begins φ (a ++ b)
 begins_append b (by_number n r) = by_number n (r ++ b)
 begins_append b (by_text t r) = by_text t (r ++ b)
 begins_append b (by_param p r) = by_param p (r ++ b)
@@ -28,7 +29,8 @@ begins_append b (by_word w r) = by_word w (r ++ b)
 begins_append b (by_sign s r h) = by_sign s (r ++ b) h
 
 -- a table that has more signs
-wider : {φ ψ : Sign → Bool} {a : List Tok} → ((s : Sign) → φ s ≡ true → ψ s ≡ true) → Begins φ a → Begins ψ a
+wider : {φ ψ : Sign → Bool} {a : List Tok} → ((s : Sign) → φ s ≡ true → ψ s ≡ true) → Begins φ a →
+    Begins ψ a
 wider h (by_number n r) = by_number n r
 wider h (by_text t r) = by_text t r
 wider h (by_param p r) = by_param p r
@@ -67,12 +69,14 @@ unlike φ s t h i = by_case (same_sign s t) refl
     by_case true j = absurd (true≢false (sym i ∙ ap φ (sym (same_sign_same s t j)) ∙ h))
     by_case false j = j
 
-pub not_first : {φ : Sign → Bool} {a : List Tok} (s : Sign) → φ s ≡ false → Begins φ a → (r : List Tok) → after s (a ++ r) ≡ None
+pub not_first : {φ : Sign → Bool} {a : List Tok} (s : Sign) → φ s ≡ false → Begins φ a →
+    (r : List Tok) → after s (a ++ r) ≡ None
 not_first s h (by_number n q) r = refl
 not_first s h (by_text t q) r = refl
 not_first s h (by_param p q) r = refl
 not_first s h (by_word w q) r = refl
-not_first {φ = φ} s h (by_sign t q i) r = ap (λ b. if b then Some (q ++ r) else None) (unlike φ s t h i)
+not_first {φ = φ} s h (by_sign t q i) r =
+    ap (λ b. if b then Some (q ++ r) else None) (unlike φ s t h i)
 
 -- a base begins with no prefix operator
 no_prefix : (s : Sign) → begins_base s ≡ true → prefix_op s ≡ None
@@ -80,7 +84,8 @@ no_prefix sign.Plus h = absurd (cc)
 no_prefix sign.Not h = absurd (cc)
 no_prefix _ h = refl
 
-pub no_prefix_first : {a : List Tok} → Begins begins_base a → (r : List Tok) → after_sign prefix_op (a ++ r) ≡ None
+pub no_prefix_first : {a : List Tok} → Begins begins_base a → (r : List Tok) →
+    after_sign prefix_op (a ++ r) ≡ None
 no_prefix_first (by_number n q) r = refl
 no_prefix_first (by_text t q) r = refl
 no_prefix_first (by_param p q) r = refl
@@ -114,23 +119,28 @@ base_begins (base_object h) = by_sign sign.OpenBrace _ refl
 pub chain_begins : {a : List Tok} {e : Expression} → IsChain a e → Begins begins_base a
 chain_begins (chain_base h k) = begins_append _ (base_begins h)
 
-pub pre_begins : {a : List Tok} {ps : List PreSign} {e : Expression} → IsPre a ps e → Begins begins_pre a
+pub pre_begins : {a : List Tok} {ps : List PreSign} {e : Expression} → IsPre a ps e →
+    Begins begins_pre a
 pre_begins (pre_chain h) = wider base_pre (chain_begins h)
 pre_begins (pre_more s h k) = by_sign s _ (prefix_pre s h)
 
-pub pow_begins : {a : List Tok} {e : Expression} {xs : List (BinSign × Expression)} → IsPow a e xs → Begins begins_pre a
+pub pow_begins : {a : List Tok} {e : Expression} {xs : List (BinSign × Expression)} →
+    IsPow a e xs → Begins begins_pre a
 pow_begins (pow_pre h) = pre_begins h
 pow_begins (pow_more h k) = begins_append _ (pre_begins h)
 
-neg_begins : {a : List Tok} {ps : List PreSign} {e : Expression} → IsNeg a ps e → Begins begins_expr a
+neg_begins : {a : List Tok} {ps : List PreSign} {e : Expression} → IsNeg a ps e →
+    Begins begins_expr a
 neg_begins (neg_pow h) = wider pre_expr (pow_begins h)
 neg_begins (neg_minus h) = by_sign sign.Minus _ refl
 
-prod_begins : {a : List Tok} {e : Expression} {xs : List (BinSign × Expression)} → IsProd a e xs → Begins begins_expr a
+prod_begins : {a : List Tok} {e : Expression} {xs : List (BinSign × Expression)} → IsProd a e xs →
+    Begins begins_expr a
 prod_begins (prod_neg h) = neg_begins h
 prod_begins (prod_more s h k l) = begins_append _ (prod_begins h)
 
-pub sum_begins : {a : List Tok} {e : Expression} {xs : List (BinSign × Expression)} → IsSum a e xs → Begins begins_expr a
+pub sum_begins : {a : List Tok} {e : Expression} {xs : List (BinSign × Expression)} →
+    IsSum a e xs → Begins begins_expr a
 sum_begins (sum_prod h) = prod_begins h
 sum_begins (sum_more s h k l) = begins_append _ (sum_begins h)
 
@@ -141,11 +151,13 @@ cmp_begins (cmp_match h k) = begins_append _ (sum_begins h)
 cmp_begins (cmp_in h k) = begins_append _ (sum_begins h)
 cmp_begins (cmp_range s h k l m) = begins_append _ (sum_begins h)
 
-and_begins : {a : List Tok} {e : Expression} {xs : List (BinSign × Expression)} → IsAnd a e xs → Begins begins_expr a
+and_begins : {a : List Tok} {e : Expression} {xs : List (BinSign × Expression)} → IsAnd a e xs →
+    Begins begins_expr a
 and_begins (and_cmp h) = cmp_begins h
 and_begins (and_more h k) = begins_append _ (and_begins h)
 
-pub expr_begins : {a : List Tok} {e : Expression} {xs : List (BinSign × Expression)} → IsExpr a e xs → Begins begins_expr a
+pub expr_begins : {a : List Tok} {e : Expression} {xs : List (BinSign × Expression)} →
+    IsExpr a e xs → Begins begins_expr a
 expr_begins (expr_and h) = and_begins h
 expr_begins (expr_or h k) = begins_append _ (expr_begins h)
 
@@ -154,7 +166,8 @@ argument_begins : {a : List Tok} {x : Argument} → IsArgument a x → Begins be
 argument_begins (argument_one h) = expr_begins h
 argument_begins (argument_when h k) = begins_append _ (expr_begins h)
 
-pub arguments_begin : {a : List Tok} {xs : List Argument} → AreArguments a xs → Begins begins_expr a
+pub arguments_begin : {a : List Tok} {xs : List Argument} → AreArguments a xs →
+    Begins begins_expr a
 arguments_begin (arguments_last h) = argument_begins h
 arguments_begin (arguments_more h k) = begins_append _ (argument_begins h)
 

@@ -18,3 +18,4 @@ pub mod Push
 pub mod Exits
 pub mod Names
 pub mod Ended
+pub mod Looks

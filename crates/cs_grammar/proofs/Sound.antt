@@ -9,7 +9,9 @@ use Rattle.cs_grammar.proofs.SoundSteps.{sound_steps, sound_arrow, sound_bracket
 use Rattle.cs_grammar.proofs.SoundLists.{sound_args, sound_arg, sound_next_arg, sound_elements, sound_next_element, sound_entries, sound_keyed, sound_next_entry}
 
 -- one step
-sound_step : (f : Oracle) → IsSound f → (g : Goal) (ts : List Tok) (t : Expression) (r : List Tok) → step f g ts ≡ got t r → Sound g ts t r
+sound_step : (f : Oracle) → IsSound f →
+    (g : Goal) (ts : List Tok) (t : Expression) (r : List Tok) → step f g ts ≡ got t r →
+    Sound g ts t r
 sound_step f h expr ts t r eq = sound_expr f h ts t r eq
 sound_step f h (expr_from e) ts t r eq = sound_expr_from f h e ts t r eq
 sound_step f h conjunction ts t r eq = sound_conjunction f h ts t r eq
@@ -41,10 +43,13 @@ sound_step f h (keyed_from xs e) ts t r eq = sound_keyed f h xs e ts t r eq
 sound_step f h (next_entry xs) ts t r eq = sound_next_entry f h xs ts t r eq
 
 -- any number of steps
-sound : (n : ℕ) (g : Goal) (ts : List Tok) (t : Expression) (r : List Tok) → read n g ts ≡ got t r → Sound g ts t r
+sound : (n : ℕ) (g : Goal) (ts : List Tok) (t : Expression) (r : List Tok) →
+    read n g ts ≡ got t r → Sound g ts t r
 unfolding read
 sound zero g ts t r eq = absurd (cc)
 sound (suc n) g ts t r eq = sound_step (read n) (sound n) g ts t r eq
 
-pub reads_sound : {g : Goal} {ts : List Tok} {t : Expression} {r : List Tok} → Reads g ts (got t r) → Sound g ts t r
-reads_sound {g = g} {ts = ts} {t = t} {r = r} h = sound h.given.enough g ts t r (h.given.from h.given.enough (omega arith))
+pub reads_sound : {g : Goal} {ts : List Tok} {t : Expression} {r : List Tok} →
+    Reads g ts (got t r) → Sound g ts t r
+reads_sound {g = g} {ts = ts} {t = t} {r = r} h =
+    sound h.given.enough g ts t r (h.given.from h.given.enough (omega arith))

@@ -13,23 +13,27 @@ use Rattle.cs_grammar.specs.Reading.{Goal, expr, expr_from, conjunction, cmp, cm
 use Rattle.cs_grammar.proofs.Behind.{after_is}
 
 -- a first part and the rest
-pub record Bound (x : Outcome) (k : Expression → List Tok → Outcome) (e : Expression) (r : List Tok) : Type 0 where
+pub record Bound (x : Outcome) (k : Expression → List Tok →
+    Outcome) (e : Expression) (r : List Tok) : Type 0 where
   pub tree : Expression
   pub rest : List Tok
   pub first : x ≡ got tree rest
   pub second : k tree rest ≡ got e r
 
-pub bound : (x : Outcome) (k : Expression → List Tok → Outcome) {e : Expression} {r : List Tok} → bind x k ≡ got e r → Bound x k e r
+pub bound : (x : Outcome) (k : Expression → List Tok → Outcome) {e : Expression} {r : List Tok} →
+    bind x k ≡ got e r → Bound x k e r
 bound out k h = absurd (cc)
 bound fail k h = absurd (cc)
 bound (got f s) k h = record { tree = f; rest = s; first = refl; second = h }
 
 -- whether something stands first
-pub data Split {A : Type 0} (x : Option A) (k : A → Outcome) (d : Outcome) (o : Outcome) : Type 0 where
+pub data Split {A : Type 0} (x : Option A) (k : A →
+    Outcome) (d : Outcome) (o : Outcome) : Type 0 where
   found : (r : A) → x ≡ Some r → k r ≡ o → Split x k d o
   missing : x ≡ None → d ≡ o → Split x k d o
 
-pub split : {A : Type 0} (x : Option A) (k : A → Outcome) (d : Outcome) {o : Outcome} → match_after x k d ≡ o → Split x k d o
+pub split : {A : Type 0} (x : Option A) (k : A → Outcome) (d : Outcome) {o : Outcome} →
+    match_after x k d ≡ o → Split x k d o
 split (Some r) k d h = found r refl h
 split None k d h = missing refl h
 
@@ -39,16 +43,19 @@ pub record Must {A : Type 0} (x : Option A) (k : A → Outcome) (o : Outcome) : 
   pub is : x ≡ Some value
   pub goes_on : k value ≡ o
 
-pub must : {A : Type 0} (x : Option A) (k : A → Outcome) {e : Expression} {r : List Tok} → match_after x k fail ≡ got e r → Must x k (got e r)
+pub must : {A : Type 0} (x : Option A) (k : A → Outcome) {e : Expression} {r : List Tok} →
+    match_after x k fail ≡ got e r → Must x k (got e r)
 must (Some v) k h = record { value = v; is = refl; goes_on = h }
 must None k h = absurd (cc)
 
-pub record Expected (s : Sign) (ts : List Tok) (k : List Tok → Outcome) (o : Outcome) : Type 0 where
+pub record Expected (s : Sign) (ts : List Tok) (k : List Tok →
+    Outcome) (o : Outcome) : Type 0 where
   pub rest : List Tok
   pub is : ts ≡ sign_tok s ∷ rest
   pub goes_on : k rest ≡ o
 
-pub expected : (s : Sign) (ts : List Tok) (k : List Tok → Outcome) {e : Expression} {r : List Tok} → expect s ts k ≡ got e r → Expected s ts k (got e r)
+pub expected : (s : Sign) (ts : List Tok) (k : List Tok →
+    Outcome) {e : Expression} {r : List Tok} → expect s ts k ≡ got e r → Expected s ts k (got e r)
 expected s ts k h =
     let m = must (after s ts) k h in
     record { rest = m.value; is = after_is s ts m.is; goes_on = m.goes_on }
@@ -65,7 +72,8 @@ pub record Took (ts a r : List Tok) : Type 0 where
 
 infixr 5 ◌then◌
 pub ◌then◌ : {ts s r a b : List Tok} → Took ts a s → Took s b r → Took ts (a ++ b) r
-◌then◌ {r = r} {a = a} {b = b} p q = record { is = p.is ∙ ap (λ z. a ++ z) q.is ∙ sym (append_assoc a b r) }
+◌then◌ {r = r} {a = a} {b = b} p q =
+    record { is = p.is ∙ ap (λ z. a ++ z) q.is ∙ sym (append_assoc a b r) }
 
 pub one : {ts r : List Tok} {x : Tok} → ts ≡ x ∷ r → Took ts (x ∷ []) r
 one h = record { is = h }
@@ -77,37 +85,44 @@ pub none : {ts r : List Tok} → ts ≡ r → Took ts [] r
 none h = record { is = h }
 
 -- the tokens spell a run that is the expression, and prefixes that are it behind those read before
-pub record RunTree (P : List Tok → Expression → List (BinSign × Expression) → Type 0) (a : List Tok) (t : Expression) : Type 0 where
+pub record RunTree (P : List Tok → Expression → List (BinSign × Expression) →
+    Type 0) (a : List Tok) (t : Expression) : Type 0 where
   pub first : Expression
   pub rest : List (BinSign × Expression)
   pub spelled : P a first rest
   pub is : t ≡ run_of first rest
 
-pub record PrefixTree (P : List Tok → List PreSign → Expression → Type 0) (acc : List PreSign) (a : List Tok) (t : Expression) : Type 0 where
+pub record PrefixTree (P : List Tok → List PreSign → Expression →
+    Type 0) (acc : List PreSign) (a : List Tok) (t : Expression) : Type 0 where
   pub signs : List PreSign
   pub operand : Expression
   pub spelled : P a signs operand
   pub is : t ≡ prefix_of (acc ++ signs) operand
 
 -- the operands of `**` behind those read before
-pub record MorePow (f : Expression) (acc : List (BinSign × Expression)) (a : List Tok) (t : Expression) : Type 0 where
+pub record MorePow (f : Expression) (acc : List (BinSign
+    × Expression)) (a : List Tok) (t : Expression) : Type 0 where
   pub rest : List (BinSign × Expression)
   pub is : t ≡ run_of f (acc ++ rest)
-  pub spelled : (b : List Tok) (ps : List PreSign) (g : Expression) → IsPre b ps g → IsPow (b ++ a) (prefix_of ps g) rest
+  pub spelled : (b : List Tok) (ps : List PreSign) (g : Expression) → IsPre b ps g →
+      IsPow (b ++ a) (prefix_of ps g) rest
 
 -- the steps behind those read before, and those behind `->`
-pub record MoreSteps (f : Expression) (acc : List Step) (a : List Tok) (t : Expression) : Type 0 where
-  pub steps : List Step
-  pub spelled : AreSteps a steps
-  pub is : t ≡ chain_of f (acc ++ steps)
+pub record MoreSteps (f : Expression) (acc : List Step) (a : List Tok) (t : Expression) : Type 0
+  where
+    pub steps : List Step
+    pub spelled : AreSteps a steps
+    pub is : t ≡ chain_of f (acc ++ steps)
 
-pub record ArrowSteps (f : Expression) (acc : List Step) (a : List Tok) (t : Expression) : Type 0 where
-  pub steps : List Step
-  pub spelled : AreSteps (sign_tok sign.Arrow ∷ a) (deref ∷ steps)
-  pub is : t ≡ chain_of f (acc ++ steps)
+pub record ArrowSteps (f : Expression) (acc : List Step) (a : List Tok) (t : Expression) : Type 0
+  where
+    pub steps : List Step
+    pub spelled : AreSteps (sign_tok sign.Arrow ∷ a) (deref ∷ steps)
+    pub is : t ≡ chain_of f (acc ++ steps)
 
 -- the items of a list behind those read before, the sign that closes it, and what all of them give
-pub record More {X : Type 0} (P : List Tok → List X → Type 0) (close : Sign) (Q : List X → List Tok → Type 0) (acc : List X) (a : List Tok) : Type 0 where
+pub record More {X : Type 0} (P : List Tok → List X → Type 0) (close : Sign) (Q : List X →
+    List Tok → Type 0) (acc : List X) (a : List Tok) : Type 0 where
   pub items : List X
   pub inner : List Tok
   pub behind : List Tok
@@ -116,14 +131,18 @@ pub record More {X : Type 0} (P : List Tok → List X → Type 0) (close : Sign)
   pub gives : Q (acc ++ items) behind
 
 -- the same behind an item
-pub record Next {X : Type 0} (I : List Tok → X → Type 0) (P : List Tok → List X → Type 0) (close : Sign) (Q : List X → List Tok → Type 0) (acc : List X) (a : List Tok) : Type 0 where
+pub record Next {X : Type 0} (I : List Tok → X → Type 0) (P : List Tok → List X →
+    Type 0) (close : Sign) (Q : List X → List Tok →
+    Type 0) (acc : List X) (a : List Tok) : Type 0 where
   pub items : List X
   pub behind : List Tok
   pub gives : Q (acc ++ items) behind
-  pub spelled : (b : List Tok) (x : X) → I b x → (inner : List Tok) × (b ++ a ≡ inner ++ (sign_tok close ∷ behind)) × P inner (x ∷ items)
+  pub spelled : (b : List Tok) (x : X) → I b x →
+      (inner : List Tok) × (b ++ a ≡ inner ++ (sign_tok close ∷ behind)) × P inner (x ∷ items)
 
 -- all items are read, and nothing behind them
-pub record IsMade {X : Type 0} (made : List X → Expression) (t : Expression) (xs : List X) (behind : List Tok) : Type 0 where
+pub record IsMade {X : Type 0} (made : List X →
+    Expression) (t : Expression) (xs : List X) (behind : List Tok) : Type 0 where
   pub nothing : behind ≡ []
   pub is : t ≡ made xs
 
@@ -134,29 +153,40 @@ IsRun level.And = IsAnd
 IsRun level.Sum = IsSum
 IsRun level.Product = IsProd
 
-abbrev pub MoreKeys : Expression → List Step → List ℕ → List OrderKey → List Tok → Expression → Type 0
-MoreKeys e ss w acc a t = More AreKeys sign.CloseParen (λ ks b. MoreSteps e (ss ++ (pipe w (keys_of ks) ∷ [])) b t) acc a
+abbrev pub MoreKeys : Expression → List Step → List ℕ → List OrderKey → List Tok → Expression →
+    Type 0
+MoreKeys e ss w acc a t =
+    More AreKeys sign.CloseParen (λ ks b. MoreSteps e (ss ++ (pipe w (keys_of ks) ∷ [])) b t) acc a
 
-abbrev pub NextKey : Expression → List Step → List ℕ → List OrderKey → List Tok → Expression → Type 0
-NextKey e ss w acc a t = Next IsKey AreKeys sign.CloseParen (λ ks b. MoreSteps e (ss ++ (pipe w (keys_of ks) ∷ [])) b t) acc a
+abbrev pub NextKey : Expression → List Step → List ℕ → List OrderKey → List Tok → Expression →
+    Type 0
+NextKey e ss w acc a t =
+    Next IsKey AreKeys sign.CloseParen (λ ks b. MoreSteps e (ss
+    ++ (pipe w (keys_of ks) ∷ [])) b t) acc a
 
 abbrev pub MoreArguments : List ℕ → List Argument → List Tok → Expression → Type 0
-MoreArguments w acc a t = More AreArguments sign.CloseParen (IsMade (λ xs. call w (arguments_of xs)) t) acc a
+MoreArguments w acc a t =
+    More AreArguments sign.CloseParen (IsMade (λ xs. call w (arguments_of xs)) t) acc a
 
 abbrev pub NextArgument : List ℕ → List Argument → List Tok → Expression → Type 0
-NextArgument w acc a t = Next IsArgument AreArguments sign.CloseParen (IsMade (λ xs. call w (arguments_of xs)) t) acc a
+NextArgument w acc a t =
+    Next IsArgument AreArguments sign.CloseParen (IsMade (λ xs. call w (arguments_of xs)) t) acc a
 
 abbrev pub MoreElements : List Element → List Tok → Expression → Type 0
-MoreElements acc a t = More AreElements sign.CloseBracket (IsMade (λ xs. array (elements_of xs)) t) acc a
+MoreElements acc a t =
+    More AreElements sign.CloseBracket (IsMade (λ xs. array (elements_of xs)) t) acc a
 
 abbrev pub NextElement : List Element → List Tok → Expression → Type 0
-NextElement acc a t = Next IsElement AreElements sign.CloseBracket (IsMade (λ xs. array (elements_of xs)) t) acc a
+NextElement acc a t =
+    Next IsElement AreElements sign.CloseBracket (IsMade (λ xs. array (elements_of xs)) t) acc a
 
 abbrev pub MoreEntries : List Entry → List Tok → Expression → Type 0
-MoreEntries acc a t = More AreEntries sign.CloseBrace (IsMade (λ xs. object_literal (entries_of xs)) t) acc a
+MoreEntries acc a t =
+    More AreEntries sign.CloseBrace (IsMade (λ xs. object_literal (entries_of xs)) t) acc a
 
 abbrev pub NextEntry : List Entry → List Tok → Expression → Type 0
-NextEntry acc a t = Next IsEntry AreEntries sign.CloseBrace (IsMade (λ xs. object_literal (entries_of xs)) t) acc a
+NextEntry acc a t =
+    Next IsEntry AreEntries sign.CloseBrace (IsMade (λ xs. object_literal (entries_of xs)) t) acc a
 
 -- what the tokens that were read spell
 abbrev pub SoundFor : Goal → List Tok → Expression → Type 0
@@ -182,7 +212,8 @@ SoundFor (pipe_from f acc) a t = MoreSteps f acc (sign_tok sign.Pipe ∷ a) t
 SoundFor (keys_from e ss w acc) a t = MoreKeys e ss w acc a t
 SoundFor (next_key e ss w acc) a t = NextKey e ss w acc a t
 SoundFor (args_from w acc) a t = MoreArguments w acc a t
-SoundFor (arg_from w acc l) a t = (b : List Tok) → RunTree IsExpr b l → MoreArguments w acc (b ++ a) t
+SoundFor (arg_from w acc l) a t = (b : List Tok) → RunTree IsExpr b l →
+    MoreArguments w acc (b ++ a) t
 SoundFor (next_arg w acc) a t = NextArgument w acc a t
 SoundFor (elements_from acc) a t = MoreElements acc a t
 SoundFor (next_element acc) a t = NextElement acc a t
@@ -197,7 +228,8 @@ pub record Sound (g : Goal) (ts : List Tok) (t : Expression) (r : List Tok) : Ty
   pub fact : SoundFor g taken t
 
 abbrev pub IsSound : Oracle → Type 0
-IsSound f = (g : Goal) (ts : List Tok) (t : Expression) (r : List Tok) → f g ts ≡ got t r → Sound g ts t r
+IsSound f = (g : Goal) (ts : List Tok) (t : Expression) (r : List Tok) → f g ts ≡ got t r →
+    Sound g ts t r
 
 -- the same base, step, element, argument, entry under another expression that is equal to it
 pub base_as : {a : List Tok} {e t : Expression} → e ≡ t → IsBase a e → IsBase a t
@@ -222,8 +254,10 @@ pub entry_as : {a : List Tok} {s t : Entry} → s ≡ t → IsEntry a s → IsEn
 entry_as {a = a} h k = subst (λ z. IsEntry a z) h k
 
 -- how lists are put together: the last item, one before others, none
-module _ {X : Type 0} (P : List Tok → List X → Type 0) (close : Sign) (Q : List X → List Tok → Type 0) where
-  pub more_none : (acc : List X) (behind : List Tok) → P [] [] → Q acc behind → More P close Q acc (sign_tok close ∷ behind)
+module _ {X : Type 0} (P : List Tok → List X → Type 0) (close : Sign) (Q : List X → List Tok →
+    Type 0) where
+  pub more_none : (acc : List X) (behind : List Tok) → P [] [] → Q acc behind →
+      More P close Q acc (sign_tok close ∷ behind)
   more_none acc behind h q = record {
     items = [];
     inner = [];
@@ -234,7 +268,8 @@ module _ {X : Type 0} (P : List Tok → List X → Type 0) (close : Sign) (Q : L
   }
 
   module _ (I : List Tok → X → Type 0) where
-    pub next_close : (acc : List X) (behind : List Tok) → ((b : List Tok) (x : X) → I b x → P b (x ∷ [])) → Q acc behind →
+    pub next_close : (acc : List X) (behind : List Tok) →
+        ((b : List Tok) (x : X) → I b x → P b (x ∷ [])) → Q acc behind →
         Next I P close Q acc (sign_tok close ∷ behind)
     next_close acc behind last q = record {
       items = [];
@@ -244,7 +279,8 @@ module _ {X : Type 0} (P : List Tok → List X → Type 0) (close : Sign) (Q : L
     }
 
     pub next_comma : (acc : List X) (a : List Tok) →
-        ((b c : List Tok) (x : X) (xs : List X) → I b x → P c xs → P (b ++ (sign_tok sign.Comma ∷ c)) (x ∷ xs)) → More P close Q acc a →
+        ((b c : List Tok) (x : X) (xs : List X) → I b x → P c xs →
+        P (b ++ (sign_tok sign.Comma ∷ c)) (x ∷ xs)) → More P close Q acc a →
         Next I P close Q acc (sign_tok sign.Comma ∷ a)
     next_comma acc a more m = record {
       items = m.items;
@@ -252,12 +288,14 @@ module _ {X : Type 0} (P : List Tok → List X → Type 0) (close : Sign) (Q : L
       gives = m.gives;
       spelled = λ b x k. (
         b ++ (sign_tok sign.Comma ∷ m.inner),
-        ap (λ z. b ++ (sign_tok sign.Comma ∷ z)) m.closed ∙ sym (append_assoc b (sign_tok sign.Comma ∷ m.inner) (sign_tok close ∷ m.behind)),
+        ap (λ z. b ++ (sign_tok sign.Comma ∷ z)) m.closed
+            ∙ sym (append_assoc b (sign_tok sign.Comma ∷ m.inner) (sign_tok close ∷ m.behind)),
         more b m.inner x m.items k m.spelled,
       );
     }
 
-    pub more_item : (acc : List X) (x : X) (a b : List Tok) → I b x → Next I P close Q (acc ++ (x ∷ [])) a → More P close Q acc (b ++ a)
+    pub more_item : (acc : List X) (x : X) (a b : List Tok) → I b x →
+        Next I P close Q (acc ++ (x ∷ [])) a → More P close Q acc (b ++ a)
     more_item acc x a b k n =
         let s = n.spelled b x k in
         record {
@@ -270,6 +308,8 @@ module _ {X : Type 0} (P : List Tok → List X → Type 0) (close : Sign) (Q : L
         }
 
 -- where nothing is behind the list, the sign that closes it stands last
-pub all_closed : {X : Type 0} {P : List Tok → List X → Type 0} {close : Sign} {made : List X → Expression} {t : Expression} {acc : List X} {a : List Tok}
+pub all_closed : {X : Type 0} {P : List Tok → List X → Type 0} {close : Sign} {made : List X →
+    Expression} {t : Expression} {acc : List X} {a : List Tok}
     (m : More P close (IsMade made t) acc a) → m.inner ++ (sign_tok close ∷ []) ≡ a
-all_closed {close = close} m = sym (m.closed ∙ ap (λ z. m.inner ++ (sign_tok close ∷ z)) m.gives.nothing)
+all_closed {close = close} m =
+    sym (m.closed ∙ ap (λ z. m.inner ++ (sign_tok close ∷ z)) m.gives.nothing)

@@ -14,7 +14,6 @@ use Rattle.cs_syntax.specs.Expression.{Tok, word_tok, sign_tok, Expression, call
 use Rattle.cs_syntax.specs.View.{expression, step, entry, elem, arg, key, entries, elements, arguments, keys}
 use Rattle.cs_grammar.specs.declared.fault.GrammarFault.{GrammarFault}
 use Rattle.cs_grammar.specs.declared.fault.GrammarFault.TheVariants.{Syntax, NoMemory}
-use Rattle.cs_grammar.specs.declared.lexeme.Lexeme.{Lexeme}
 use Rattle.cs_grammar.specs.View.{left}
 use Rattle.cs_grammar.specs.Reading.{Goal, base, steps_from, arrow_from, bracket_from, pipe_from, keys_from, next_key, args_from, next_arg, elements_from, next_element, entries_from, keyed_from, next_entry, Outcome, fail, got, after, after_word, joined, read_call, Gives, Reads}
 
@@ -31,94 +30,128 @@ abbrev pub Parsed : Type 0
 Parsed = Box Expr Global × ℕ
 
 -- what reading from the goal gives
-abbrev pub Answers : Goal → List Lexeme → ℕ → Result Parsed GrammarFault → Type 0
-Answers g ls i r = Replies (λ (x : Parsed). Reads g (left ls i) (got (expression x.0.value) (left ls x.1))) (Reads g (left ls i) fail) r
+abbrev pub Answers : Goal → List Tok → ℕ → Result Parsed GrammarFault → Type 0
+Answers g ls i r =
+    Replies (λ (x : Parsed). Reads g (left ls i) (got (expression x.0.value) (left ls x.1)))
+    (Reads g (left ls i) fail) r
 
 -- the base that begins with the word
-abbrev pub AnswersWord : List ℕ → List Lexeme → ℕ → Result Parsed GrammarFault → Type 0
+abbrev pub AnswersWord : List ℕ → List Tok → ℕ → Result Parsed GrammarFault → Type 0
 AnswersWord w ls i r = Replies
-    (λ (x : Parsed). Reads base (word_tok w ∷ left ls i) (got (expression x.0.value) (left ls x.1)))
+    (λ (x : Parsed). Reads base (word_tok w ∷ left ls i)
+    (got (expression x.0.value) (left ls x.1)))
     (Reads base (word_tok w ∷ left ls i) fail) r
 
 -- the base that begins with the sign
-abbrev pub AnswersSign : Sign → List Lexeme → ℕ → Result Parsed GrammarFault → Type 0
+abbrev pub AnswersSign : Sign → List Tok → ℕ → Result Parsed GrammarFault → Type 0
 AnswersSign s ls i r = Replies
-    (λ (x : Parsed). Reads base (sign_tok s ∷ left ls i) (got (expression x.0.value) (left ls x.1)))
+    (λ (x : Parsed). Reads base (sign_tok s ∷ left ls i)
+    (got (expression x.0.value) (left ls x.1)))
     (Reads base (sign_tok s ∷ left ls i) fail) r
 
 -- behind the bracket that opens a call of the name
-abbrev pub AnswersCall : List ℕ → List Lexeme → ℕ → Result Parsed GrammarFault → Type 0
+abbrev pub AnswersCall : List ℕ → List Tok → ℕ → Result Parsed GrammarFault → Type 0
 AnswersCall w ls i r = Replies
-    (λ (x : Parsed). Gives (λ f. read_call f w (left ls i)) (got (expression x.0.value) (left ls x.1)))
+    (λ (x : Parsed). Gives (λ f. read_call f w (left ls i))
+    (got (expression x.0.value) (left ls x.1)))
     (Gives (λ f. read_call f w (left ls i)) fail) r
 
-abbrev pub AnswersArgs : List Lexeme → ℕ → Result (Vec Arg Global × ℕ) GrammarFault → Type 0
+abbrev pub AnswersArgs : List Tok → ℕ → Result (Vec Arg Global × ℕ) GrammarFault → Type 0
 AnswersArgs ls i r = Replies
-    (λ (x : Vec Arg Global × ℕ). (w : List ℕ) → Reads (args_from w []) (left ls i) (got (call w (arguments_of (arguments x.0.items))) (left ls x.1)))
+    (λ (x : Vec Arg Global × ℕ). (w : List ℕ) →
+    Reads (args_from w []) (left ls i)
+    (got (call w (arguments_of (arguments x.0.items))) (left ls x.1)))
     ((w : List ℕ) → Reads (args_from w []) (left ls i) fail) r
 
 -- one argument, whatever is read behind it
-abbrev pub AnswersArg : List Lexeme → ℕ → Result (Arg × ℕ) GrammarFault → Type 0
+abbrev pub AnswersArg : List Tok → ℕ → Result (Arg × ℕ) GrammarFault → Type 0
 AnswersArg ls i r = Replies
-    (λ (x : Arg × ℕ). (w : List ℕ) (xs : List Argument) (o : Outcome) → Reads (next_arg w (xs ++ (arg x.0 ∷ []))) (left ls x.1) o → Reads (args_from w xs) (left ls i) o)
+    (λ (x : Arg × ℕ). (w : List ℕ) (xs : List Argument) (o : Outcome) →
+    Reads (next_arg w (xs ++ (arg x.0 ∷ []))) (left ls x.1) o →
+    Reads (args_from w xs) (left ls i) o)
     ((w : List ℕ) (xs : List Argument) → Reads (args_from w xs) (left ls i) fail) r
 
-abbrev pub AnswersElements : List Lexeme → ℕ → Result (Vec Elem Global × ℕ) GrammarFault → Type 0
+abbrev pub AnswersElements : List Tok → ℕ → Result (Vec Elem Global × ℕ) GrammarFault → Type 0
 AnswersElements ls i r = Replies
-    (λ (x : Vec Elem Global × ℕ). Reads (elements_from []) (left ls i) (got (array (elements_of (elements x.0.items))) (left ls x.1)))
+    (λ (x : Vec Elem Global × ℕ). Reads (elements_from []) (left ls i)
+    (got (array (elements_of (elements x.0.items))) (left ls x.1)))
     (Reads (elements_from []) (left ls i) fail) r
 
 -- one element, whatever is read behind it
-abbrev pub AnswersElement : List Lexeme → ℕ → Result (Elem × ℕ) GrammarFault → Type 0
+abbrev pub AnswersElement : List Tok → ℕ → Result (Elem × ℕ) GrammarFault → Type 0
 AnswersElement ls i r = Replies
-    (λ (x : Elem × ℕ). (xs : List Element) (o : Outcome) → after sign.CloseBracket (left ls i) ≡ None → Reads (next_element (xs ++ (elem x.0 ∷ []))) (left ls x.1) o → Reads (elements_from xs) (left ls i) o)
-    ((xs : List Element) → after sign.CloseBracket (left ls i) ≡ None → Reads (elements_from xs) (left ls i) fail) r
+    (λ (x : Elem × ℕ). (xs : List Element) (o : Outcome) →
+    after sign.CloseBracket (left ls i) ≡ None →
+    Reads (next_element (xs ++ (elem x.0 ∷ []))) (left ls x.1) o →
+    Reads (elements_from xs) (left ls i) o)
+    ((xs : List Element) → after sign.CloseBracket (left ls i) ≡ None →
+    Reads (elements_from xs) (left ls i) fail) r
 
-abbrev pub AnswersEntries : List Lexeme → ℕ → Result (Vec CodeEntry Global × ℕ) GrammarFault → Type 0
+abbrev pub AnswersEntries : List Tok → ℕ → Result (Vec CodeEntry Global × ℕ) GrammarFault → Type 0
 AnswersEntries ls i r = Replies
-    (λ (x : Vec CodeEntry Global × ℕ). Reads (entries_from []) (left ls i) (got (object_literal (entries_of (entries x.0.items))) (left ls x.1)))
+    (λ (x : Vec CodeEntry Global × ℕ). Reads (entries_from []) (left ls i)
+    (got (object_literal (entries_of (entries x.0.items))) (left ls x.1)))
     (Reads (entries_from []) (left ls i) fail) r
 
 -- one entry, whatever is read behind it
-abbrev pub AnswersEntry : List Lexeme → ℕ → Result (CodeEntry × ℕ) GrammarFault → Type 0
+abbrev pub AnswersEntry : List Tok → ℕ → Result (CodeEntry × ℕ) GrammarFault → Type 0
 AnswersEntry ls i r = Replies
-    (λ (x : CodeEntry × ℕ). (xs : List Entry) (o : Outcome) → after sign.CloseBrace (left ls i) ≡ None → Reads (next_entry (xs ++ (entry x.0 ∷ []))) (left ls x.1) o → Reads (entries_from xs) (left ls i) o)
-    ((xs : List Entry) → after sign.CloseBrace (left ls i) ≡ None → Reads (entries_from xs) (left ls i) fail) r
+    (λ (x : CodeEntry × ℕ). (xs : List Entry) (o : Outcome) →
+    after sign.CloseBrace (left ls i) ≡ None →
+    Reads (next_entry (xs ++ (entry x.0 ∷ []))) (left ls x.1) o →
+    Reads (entries_from xs) (left ls i) o)
+    ((xs : List Entry) → after sign.CloseBrace (left ls i) ≡ None →
+    Reads (entries_from xs) (left ls i) fail) r
 
 -- behind `...` where an entry stands
-abbrev pub AnswersSpread : List Lexeme → ℕ → Result (CodeEntry × ℕ) GrammarFault → Type 0
+abbrev pub AnswersSpread : List Tok → ℕ → Result (CodeEntry × ℕ) GrammarFault → Type 0
 AnswersSpread ls i r = Replies
-    (λ (x : CodeEntry × ℕ). (ts : List Tok) (xs : List Entry) (o : Outcome) → after sign.DotDotDot ts ≡ Some (left ls i) → Reads (next_entry (xs ++ (entry x.0 ∷ []))) (left ls x.1) o → Reads (entries_from xs) ts o)
-    ((ts : List Tok) (xs : List Entry) → after sign.DotDotDot ts ≡ Some (left ls i) → Reads (entries_from xs) ts fail) r
+    (λ (x : CodeEntry × ℕ). (ts : List Tok) (xs : List Entry) (o : Outcome) →
+    after sign.DotDotDot ts ≡ Some (left ls i) →
+    Reads (next_entry (xs ++ (entry x.0 ∷ []))) (left ls x.1) o → Reads (entries_from xs) ts o)
+    ((ts : List Tok) (xs : List Entry) → after sign.DotDotDot ts ≡ Some (left ls i) →
+    Reads (entries_from xs) ts fail) r
 
 -- behind an expression where an entry stands, whatever is read behind the entry
-abbrev pub AnswersEntryFrom : Expression → List Lexeme → ℕ → Result (CodeEntry × ℕ) GrammarFault → Type 0
+abbrev pub AnswersEntryFrom : Expression → List Tok → ℕ → Result (CodeEntry × ℕ) GrammarFault →
+    Type 0
 AnswersEntryFrom e ls i r = Replies
-    (λ (x : CodeEntry × ℕ). (xs : List Entry) (o : Outcome) → Reads (next_entry (xs ++ (entry x.0 ∷ []))) (left ls x.1) o → Reads (keyed_from xs e) (left ls i) o)
+    (λ (x : CodeEntry × ℕ). (xs : List Entry) (o : Outcome) →
+    Reads (next_entry (xs ++ (entry x.0 ∷ []))) (left ls x.1) o →
+    Reads (keyed_from xs e) (left ls i) o)
     ((xs : List Entry) → Reads (keyed_from xs e) (left ls i) fail) r
 
 -- behind `->`: the steps with it, and with the attribute that stands there
-abbrev pub AnswersArrow : List Step → List Lexeme → ℕ → List Step → ℕ → Type 0
-AnswersArrow before ls i steps j = (e : Expression) (o : Outcome) → Reads (steps_from e steps) (left ls j) o → Reads (arrow_from e (before ++ (deref ∷ []))) (left ls i) o
+abbrev pub AnswersArrow : List Step → List Tok → ℕ → List Step → ℕ → Type 0
+AnswersArrow before ls i steps j = (e : Expression) (o : Outcome) →
+    Reads (steps_from e steps) (left ls j) o →
+    Reads (arrow_from e (before ++ (deref ∷ []))) (left ls i) o
 
 -- one more step of a chain, or the end of the chain
-abbrev pub IsStepOrEnd : List Lexeme → ℕ → Option (CodeStep × ℕ) → Type 0
-IsStepOrEnd ls i (Some x) = (e : Expression) (ss : List Step) (o : Outcome) → Reads (steps_from e (ss ++ (step x.0 ∷ []))) (left ls x.1) o → Reads (steps_from e ss) (left ls i) o
-IsStepOrEnd ls i None = (e : Expression) (ss : List Step) → after sign.Arrow (left ls i) ≡ None → Reads (steps_from e ss) (left ls i) (got (chain_of e ss) (left ls i))
+abbrev pub IsStepOrEnd : List Tok → ℕ → Option (CodeStep × ℕ) → Type 0
+IsStepOrEnd ls i (Some x) = (e : Expression) (ss : List Step) (o : Outcome) →
+    Reads (steps_from e (ss ++ (step x.0 ∷ []))) (left ls x.1) o →
+    Reads (steps_from e ss) (left ls i) o
+IsStepOrEnd ls i None = (e : Expression) (ss : List Step) → after sign.Arrow (left ls i) ≡ None →
+    Reads (steps_from e ss) (left ls i) (got (chain_of e ss) (left ls i))
 
-abbrev pub AnswersStep : List Lexeme → ℕ → Result (Option (CodeStep × ℕ)) GrammarFault → Type 0
-AnswersStep ls i r = Replies (IsStepOrEnd ls i) ((e : Expression) (ss : List Step) → Reads (steps_from e ss) (left ls i) fail) r
+abbrev pub AnswersStep : List Tok → ℕ → Result (Option (CodeStep × ℕ)) GrammarFault → Type 0
+AnswersStep ls i r = Replies (IsStepOrEnd ls i) ((e : Expression) (ss : List Step) →
+    Reads (steps_from e ss) (left ls i) fail) r
 
 -- behind the bracket that opens a step, and behind `|`: whatever is read behind the step
-abbrev pub AnswersPart : (Expression → List Step → Goal) → List Lexeme → ℕ → Result (CodeStep × ℕ) GrammarFault → Type 0
+abbrev pub AnswersPart : (Expression → List Step → Goal) → List Tok → ℕ →
+    Result (CodeStep × ℕ) GrammarFault → Type 0
 AnswersPart g ls i r = Replies
-    (λ (x : CodeStep × ℕ). (e : Expression) (ss : List Step) (o : Outcome) → Reads (steps_from e (ss ++ (step x.0 ∷ []))) (left ls x.1) o → Reads (g e ss) (left ls i) o)
+    (λ (x : CodeStep × ℕ). (e : Expression) (ss : List Step) (o : Outcome) →
+    Reads (steps_from e (ss ++ (step x.0 ∷ []))) (left ls x.1) o →
+    Reads (g e ss) (left ls i) o)
     ((e : Expression) (ss : List Step) → Reads (g e ss) (left ls i) fail) r
 
-abbrev pub AnswersBracket : List Lexeme → ℕ → Result (CodeStep × ℕ) GrammarFault → Type 0
+abbrev pub AnswersBracket : List Tok → ℕ → Result (CodeStep × ℕ) GrammarFault → Type 0
 AnswersBracket = AnswersPart bracket_from
 
-abbrev pub AnswersPipe : List Lexeme → ℕ → Result (CodeStep × ℕ) GrammarFault → Type 0
+abbrev pub AnswersPipe : List Tok → ℕ → Result (CodeStep × ℕ) GrammarFault → Type 0
 AnswersPipe = AnswersPart pipe_from
 
 -- the name that stands first, and the tokens behind it: a word, or two joined by `::`
@@ -127,21 +160,30 @@ after_colons w r (Some s) = option_map (λ x. (joined w x.0, x.1)) (after_word s
 after_colons w r None = Some (w, r)
 
 abbrev pub after_name : List Tok → Option (List ℕ × List Tok)
-after_name ts = option_and_then (λ x. after_colons x.0 x.1 (after sign.ColonColon x.1)) (after_word ts)
+after_name ts =
+    option_and_then (λ x. after_colons x.0 x.1 (after sign.ColonColon x.1)) (after_word ts)
 
-abbrev pub AnswersName : List Lexeme → ℕ → Result (List ℕ × ℕ) GrammarFault → Type 0
-AnswersName ls i r = Replies (λ (x : List ℕ × ℕ). after_name (left ls i) ≡ Some (x.0, left ls x.1)) (after_name (left ls i) ≡ None) r
+abbrev pub AnswersName : List Tok → ℕ → Result (List ℕ × ℕ) GrammarFault → Type 0
+AnswersName ls i r =
+    Replies (λ (x : List ℕ × ℕ). after_name (left ls i)
+    ≡ Some (x.0, left ls x.1)) (after_name (left ls i) ≡ None) r
 
 -- the keys of a piped call, whatever is read behind the bracket that closes
-abbrev pub AnswersKeys : List Lexeme → ℕ → Result (Vec CodeOrderKey Global × ℕ) GrammarFault → Type 0
+abbrev pub AnswersKeys : List Tok → ℕ → Result (Vec CodeOrderKey Global × ℕ) GrammarFault → Type 0
 AnswersKeys ls i r = Replies
-    (λ (x : Vec CodeOrderKey Global × ℕ). (e : Expression) (ss : List Step) (w : List ℕ) (o : Outcome) →
-    Reads (steps_from e (ss ++ (pipe w (keys_of (keys x.0.items)) ∷ []))) (left ls x.1) o → Reads (keys_from e ss w []) (left ls i) o)
-    ((e : Expression) (ss : List Step) (w : List ℕ) → Reads (keys_from e ss w []) (left ls i) fail) r
+    (λ (x : Vec CodeOrderKey Global × ℕ). (e : Expression) (ss : List Step) (w : List ℕ)
+    (o : Outcome) →
+    Reads (steps_from e (ss ++ (pipe w (keys_of (keys x.0.items)) ∷ []))) (left ls x.1) o →
+    Reads (keys_from e ss w []) (left ls i) o)
+    ((e : Expression) (ss : List Step) (w : List ℕ) →
+    Reads (keys_from e ss w []) (left ls i) fail) r
 
 -- one key, whatever is read behind it
-abbrev pub AnswersKey : List Lexeme → ℕ → Result (CodeOrderKey × ℕ) GrammarFault → Type 0
+abbrev pub AnswersKey : List Tok → ℕ → Result (CodeOrderKey × ℕ) GrammarFault → Type 0
 AnswersKey ls i r = Replies
-    (λ (x : CodeOrderKey × ℕ). (e : Expression) (ss : List Step) (w : List ℕ) (ks : List OrderKey) (o : Outcome) →
-    Reads (next_key e ss w (ks ++ (key x.0 ∷ []))) (left ls x.1) o → Reads (keys_from e ss w ks) (left ls i) o)
-    ((e : Expression) (ss : List Step) (w : List ℕ) (ks : List OrderKey) → Reads (keys_from e ss w ks) (left ls i) fail) r
+    (λ (x : CodeOrderKey × ℕ). (e : Expression) (ss : List Step) (w : List ℕ) (ks : List OrderKey)
+    (o : Outcome) →
+    Reads (next_key e ss w (ks ++ (key x.0 ∷ []))) (left ls x.1) o →
+    Reads (keys_from e ss w ks) (left ls i) o)
+    ((e : Expression) (ss : List Step) (w : List ℕ) (ks : List OrderKey) →
+    Reads (keys_from e ss w ks) (left ls i) fail) r

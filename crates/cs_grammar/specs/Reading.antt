@@ -1,5 +1,5 @@
 -- One step of reading tokens from the left, over what smaller goals give. For private clauses.
-use Rattle.std.specs.Prelude.{◌≡◌, ℕ, zero, suc, ◌+◌, ◌≤◌, List, [], ◌∷◌, ◌++◌, Bool, true, false, Option, Some, None, codes, if◌then◌else◌, nat_eq}
+use Rattle.std.specs.Prelude.{◌≡◌, ℕ, zero, suc, ◌≤◌, List, [], ◌∷◌, ◌++◌, Bool, true, false, Option, Some, None, codes, if◌then◌else◌, nat_eq}
 use Rattle.std.specs.Option.{option_map, option_and_then}
 use Rattle.std.specs.Str.{bytes_eq}
 use Rattle.cs_grammar.specs.declared.level.Level.{Level}
@@ -10,7 +10,7 @@ use Rattle.cs_syntax.specs.declared.tree.BinSign.{BinSign}
 use Rattle.cs_syntax.specs.declared.tree.BinSign.TheVariants as op
 use Rattle.cs_syntax.specs.declared.tree.PreSign.{PreSign}
 use Rattle.cs_syntax.specs.declared.tree.PreSign.TheVariants as pre
-use Rattle.cs_syntax.specs.Expression.{Tok, number_tok, text_tok, param_tok, word_tok, sign_tok, Expression, null_literal, bool_literal, number_literal, text_literal, param, word, this, everything, parent, round, call, array, object_literal, within, between, Step, attr, deref, each, slice, bracket, project, pipe, Entry, Entries, no_entries, keyed, bare, when, spread, Element, element, spread_element, Argument, argument, when_argument, OrderKey, order_key, entries_of, elements_of, arguments_of, keys_of, run_of, chain_of, prefix_of}
+use Rattle.cs_syntax.specs.Expression.{Tok, number_tok, text_tok, param_tok, word_tok, sign_tok, Expression, number_literal, text_literal, param, word, this, everything, parent, round, call, array, object_literal, within, between, Step, attr, deref, each, slice, bracket, project, pipe, Entry, Entries, no_entries, keyed, bare, when, spread, Element, element, spread_element, Argument, argument, when_argument, OrderKey, order_key, entries_of, elements_of, arguments_of, keys_of, run_of, chain_of, prefix_of}
 use Rattle.cs_grammar.specs.Spells.{constant_of, is_keyword, sum_op, product_op, comparison_op, prefix_op, range_of}
 
 -- what is to be read, with what is read of it so far
@@ -199,42 +199,64 @@ joined v w = v ++ (codes "::" ++ w)
 
 module _ (f : Oracle) where
   abbrev pub read_expr_from : Expression → List Tok → Outcome
-  read_expr_from e ts = bind (f (cmp_from e) ts) (λ c r. bind (f (run_from level.And c []) r) (λ d s. f (run_from level.Or d []) s))
+  read_expr_from e ts =
+      bind (f (cmp_from e) ts)
+      (λ c r. bind (f (run_from level.And c []) r) (λ d s. f (run_from level.Or d []) s))
 
   abbrev pub read_in : Expression → List Tok → Outcome
-  read_in e r = bind (f sum r) (λ b s. match_after (after_sign range_of s) (λ x. bind (f sum x.1) (λ c u. got (between e b c x.0) u)) (got (within e b) s))
+  read_in e r =
+      bind (f sum r)
+      (λ b s. match_after (after_sign range_of s)
+      (λ x. bind (f sum x.1) (λ c u. got (between e b c x.0) u)) (got (within e b) s))
 
   abbrev pub read_cmp : Expression → List Tok → Outcome
   read_cmp e ts =
-      match_after (after_sign comparison_op ts) (λ x. bind (f sum x.1) (λ b s. got (run_of e ((x.0, b) ∷ [])) s))
-      (match_after (after_keyword (codes "match") ts) (λ r. bind (f sum r) (λ b s. got (run_of e ((op.Match, b) ∷ [])) s))
+      match_after (after_sign comparison_op ts)
+      (λ x. bind (f sum x.1) (λ b s. got (run_of e ((x.0, b) ∷ [])) s))
+      (match_after (after_keyword (codes "match") ts)
+      (λ r. bind (f sum r) (λ b s. got (run_of e ((op.Match, b) ∷ [])) s))
       (match_after (after_keyword (codes "in") ts) (read_in e) (got e ts)))
 
   abbrev pub read_run : Level → Expression → List (BinSign × Expression) → List Tok → Outcome
-  read_run l e xs ts = match_after (after_sign (op_of l) ts) (λ x. bind (f (operand_of l) x.1) (λ b s. f (run_from l e (xs ++ ((x.0, b) ∷ []))) s)) (got (run_of e xs) ts)
+  read_run l e xs ts =
+      match_after (after_sign (op_of l) ts)
+      (λ x. bind (f (operand_of l) x.1) (λ b s. f (run_from l e (xs
+      ++ ((x.0, b) ∷ []))) s)) (got (run_of e xs) ts)
 
   abbrev pub read_neg : List PreSign → List Tok → Outcome
-  read_neg ps ts = match_after (after sign.Minus ts) (λ r. f (neg_from (ps ++ (pre.Minus ∷ []))) r) (bind (f pow ts) (λ e r. got (prefix_of ps e) r))
+  read_neg ps ts =
+      match_after (after sign.Minus ts) (λ r. f (neg_from (ps
+      ++ (pre.Minus ∷ []))) r) (bind (f pow ts) (λ e r. got (prefix_of ps e) r))
 
   abbrev pub read_pow : Expression → List (BinSign × Expression) → List Tok → Outcome
-  read_pow e xs ts = match_after (after sign.StarStar ts) (λ r. bind (f (pre_from []) r) (λ b s. f (pow_from e (xs ++ ((op.Pow, b) ∷ []))) s)) (got (run_of e xs) ts)
+  read_pow e xs ts =
+      match_after (after sign.StarStar ts)
+      (λ r. bind (f (pre_from []) r) (λ b s. f (pow_from e (xs
+      ++ ((op.Pow, b) ∷ []))) s)) (got (run_of e xs) ts)
 
   abbrev pub read_pre : List PreSign → List Tok → Outcome
-  read_pre ps ts = match_after (after_sign prefix_op ts) (λ x. f (pre_from (ps ++ (x.0 ∷ []))) x.1) (bind (f link ts) (λ e r. got (prefix_of ps e) r))
+  read_pre ps ts =
+      match_after (after_sign prefix_op ts) (λ x. f (pre_from (ps
+      ++ (x.0 ∷ []))) x.1) (bind (f link ts) (λ e r. got (prefix_of ps e) r))
 
   abbrev pub read_call : List ℕ → List Tok → Outcome
-  read_call w r = match_after (after sign.CloseParen r) (λ s. got (call w (arguments_of [])) s) (f (args_from w []) r)
+  read_call w r =
+      match_after (after sign.CloseParen r) (λ s. got (call w (arguments_of [])) s)
+      (f (args_from w []) r)
 
   -- behind a word
   abbrev pub read_word : List ℕ → List Tok → Outcome
   read_word w r =
       match_after (after sign.OpenParen r) (read_call w)
-      (match_after (after sign.ColonColon r) (λ s. match_after (after_word s) (λ x. expect sign.OpenParen x.1 (read_call (joined w x.0))) fail)
+      (match_after (after sign.ColonColon r)
+      (λ s. match_after (after_word s)
+      (λ x. expect sign.OpenParen x.1 (read_call (joined w x.0))) fail)
       (got (plain_word w (constant_of w)) r))
 
   -- behind a sign with which a base begins
   abbrev pub read_sign : Sign → List Tok → Outcome
-  read_sign sign.OpenParen r = bind (f expr r) (λ e t. expect sign.CloseParen t (λ u. got (round e) u))
+  read_sign sign.OpenParen r =
+      bind (f expr r) (λ e t. expect sign.CloseParen t (λ u. got (round e) u))
   read_sign sign.OpenBracket r = f (elements_from []) r
   read_sign sign.OpenBrace r = f (entries_from []) r
   read_sign sign.At r = got this r
@@ -251,49 +273,62 @@ module _ (f : Oracle) where
   read_base (sign_tok x ∷ r) = read_sign x r
 
   abbrev pub read_carets : ℕ → List Tok → Outcome
-  read_carets n ts = match_after (after_caret ts) (λ r. f (carets_from (suc n)) r) (got (parent n) ts)
+  read_carets n ts =
+      match_after (after_caret ts) (λ r. f (carets_from (suc n)) r) (got (parent n) ts)
 
   -- behind the brace that opens a projection
   abbrev pub read_projection : Expression → List Step → List Tok → Outcome
-  read_projection e ss r = bind (f (entries_from []) r) (λ o s. f (steps_from e (ss ++ (project (entries_in o) ∷ []))) s)
+  read_projection e ss r =
+      bind (f (entries_from []) r) (λ o s. f (steps_from e (ss
+      ++ (project (entries_in o) ∷ []))) s)
 
   abbrev pub read_steps : Expression → List Step → List Tok → Outcome
   read_steps e ss ts =
-      match_after (after sign.Dot ts) (λ r. match_after (after_word r) (λ x. f (steps_from e (ss ++ (attr x.0 ∷ []))) x.1) fail)
+      match_after (after sign.Dot ts) (λ r. match_after (after_word r) (λ x. f (steps_from e (ss
+      ++ (attr x.0 ∷ []))) x.1) fail)
       (match_after (after sign.Arrow ts) (λ r. f (arrow_from e (ss ++ (deref ∷ []))) r)
       (match_after (after sign.OpenBracket ts) (λ r. f (bracket_from e ss) r)
       (match_after (after sign.OpenBrace ts) (read_projection e ss)
       (match_after (after sign.Pipe ts) (λ r. f (pipe_from e ss) r) (got (chain_of e ss) ts)))))
 
   abbrev pub read_arrow : Expression → List Step → List Tok → Outcome
-  read_arrow e ss ts = match_after (after_attribute ts) (λ x. f (steps_from e (ss ++ (attr x.0 ∷ []))) x.1) (f (steps_from e ss) ts)
+  read_arrow e ss ts =
+      match_after (after_attribute ts) (λ x. f (steps_from e (ss
+      ++ (attr x.0 ∷ []))) x.1) (f (steps_from e ss) ts)
 
   abbrev pub read_bracket : Expression → List Step → List Tok → Outcome
   read_bracket e ss ts =
       match_after (after sign.CloseBracket ts) (λ r. f (steps_from e (ss ++ (each ∷ []))) r)
       (bind (f sum ts) (λ a r.
       match_after (after_sign range_of r)
-      (λ x. bind (f sum x.1) (λ b t. expect sign.CloseBracket t (λ u. f (steps_from e (ss ++ (slice a b x.0 ∷ []))) u)))
-      (bind (f (expr_from a) r) (λ c t. expect sign.CloseBracket t (λ u. f (steps_from e (ss ++ (bracket c ∷ []))) u)))))
+      (λ x. bind (f sum x.1) (λ b t. expect sign.CloseBracket t (λ u. f (steps_from e (ss
+      ++ (slice a b x.0 ∷ []))) u)))
+      (bind (f (expr_from a) r) (λ c t. expect sign.CloseBracket t (λ u. f (steps_from e (ss
+      ++ (bracket c ∷ []))) u)))))
 
   -- behind the bracket that opens the keys of a piped call
   abbrev pub read_keyed_pipe : Expression → List Step → List ℕ → List Tok → Outcome
-  read_keyed_pipe e ss w r = match_after (after sign.CloseParen r) (λ s. f (steps_from e (ss ++ (pipe w (keys_of []) ∷ []))) s) (f (keys_from e ss w []) r)
+  read_keyed_pipe e ss w r =
+      match_after (after sign.CloseParen r) (λ s. f (steps_from e (ss
+      ++ (pipe w (keys_of []) ∷ []))) s) (f (keys_from e ss w []) r)
 
   abbrev pub read_pipe : Expression → List Step → List Tok → Outcome
   read_pipe e ss ts =
       match_after (after sign.OpenBrace ts) (read_projection e ss)
       (match_after (after_word ts)
       (λ x. match_after (after sign.ColonColon x.1)
-      (λ s. match_after (after_word s) (λ y. expect sign.OpenParen y.1 (read_keyed_pipe e ss (joined x.0 y.0))) fail)
+      (λ s. match_after (after_word s)
+      (λ y. expect sign.OpenParen y.1 (read_keyed_pipe e ss (joined x.0 y.0))) fail)
       (expect sign.OpenParen x.1 (read_keyed_pipe e ss x.0)))
       fail)
 
   abbrev pub read_keys : Expression → List Step → List ℕ → List OrderKey → List Tok → Outcome
   read_keys e ss w ks ts =
       bind (f expr ts) (λ k r.
-      match_after (after_keyword (codes "asc") r) (λ s. f (next_key e ss w (ks ++ (order_key k false ∷ []))) s)
-      (match_after (after_keyword (codes "desc") r) (λ s. f (next_key e ss w (ks ++ (order_key k true ∷ []))) s)
+      match_after (after_keyword (codes "asc") r) (λ s. f (next_key e ss w (ks
+      ++ (order_key k false ∷ []))) s)
+      (match_after (after_keyword (codes "desc") r) (λ s. f (next_key e ss w (ks
+      ++ (order_key k true ∷ []))) s)
       (f (next_key e ss w (ks ++ (order_key k false ∷ []))) r)))
 
   abbrev pub read_next_key : Expression → List Step → List ℕ → List OrderKey → List Tok → Outcome
@@ -303,22 +338,26 @@ module _ (f : Oracle) where
 
   abbrev pub read_arg : List ℕ → List Argument → Expression → List Tok → Outcome
   read_arg w xs e ts =
-      match_after (after sign.FatArrow ts) (λ r. bind (f expr r) (λ v s. f (next_arg w (xs ++ (when_argument e v ∷ []))) s))
+      match_after (after sign.FatArrow ts) (λ r. bind (f expr r) (λ v s. f (next_arg w (xs
+      ++ (when_argument e v ∷ []))) s))
       (f (next_arg w (xs ++ (argument e ∷ []))) ts)
 
   abbrev pub read_next_arg : List ℕ → List Argument → List Tok → Outcome
   read_next_arg w xs ts =
-      match_after (after sign.Comma ts) (λ s. f (args_from w xs) s) (expect sign.CloseParen ts (λ s. got (call w (arguments_of xs)) s))
+      match_after (after sign.Comma ts) (λ s. f (args_from w xs) s)
+      (expect sign.CloseParen ts (λ s. got (call w (arguments_of xs)) s))
 
   abbrev pub read_elements : List Element → List Tok → Outcome
   read_elements xs ts =
       match_after (after sign.CloseBracket ts) (λ r. got (array (elements_of xs)) r)
-      (match_after (after sign.DotDotDot ts) (λ r. bind (f expr r) (λ e s. f (next_element (xs ++ (spread_element e ∷ []))) s))
+      (match_after (after sign.DotDotDot ts) (λ r. bind (f expr r) (λ e s. f (next_element (xs
+      ++ (spread_element e ∷ []))) s))
       (bind (f expr ts) (λ e r. f (next_element (xs ++ (element e ∷ []))) r)))
 
   abbrev pub read_next_element : List Element → List Tok → Outcome
   read_next_element xs ts =
-      match_after (after sign.Comma ts) (λ s. f (elements_from xs) s) (expect sign.CloseBracket ts (λ s. got (array (elements_of xs)) s))
+      match_after (after sign.Comma ts) (λ s. f (elements_from xs) s)
+      (expect sign.CloseBracket ts (λ s. got (array (elements_of xs)) s))
 
   -- behind `...` where an entry stands
   abbrev pub read_spread : List Entry → List Tok → Outcome
@@ -329,9 +368,11 @@ module _ (f : Oracle) where
 
   abbrev pub read_keyed : List Entry → Expression → List Tok → Outcome
   read_keyed xs e r =
-      match_after (after sign.FatArrow r) (λ s. bind (f expr s) (λ v t. f (next_entry (xs ++ (when e v ∷ []))) t))
+      match_after (after sign.FatArrow r) (λ s. bind (f expr s) (λ v t. f (next_entry (xs
+      ++ (when e v ∷ []))) t))
       (match_after (key_of e)
-      (λ k. match_after (after sign.Colon r) (λ s. bind (f expr s) (λ v t. f (next_entry (xs ++ (keyed k v ∷ []))) t)) (f (next_entry (xs ++ (bare e ∷ []))) r))
+      (λ k. match_after (after sign.Colon r) (λ s. bind (f expr s) (λ v t. f (next_entry (xs
+      ++ (keyed k v ∷ []))) t)) (f (next_entry (xs ++ (bare e ∷ []))) r))
       (f (next_entry (xs ++ (bare e ∷ []))) r))
 
   abbrev pub read_entries : List Entry → List Tok → Outcome
@@ -342,7 +383,8 @@ module _ (f : Oracle) where
 
   abbrev pub read_next_entry : List Entry → List Tok → Outcome
   read_next_entry xs ts =
-      match_after (after sign.Comma ts) (λ s. f (entries_from xs) s) (expect sign.CloseBrace ts (λ s. got (object_literal (entries_of xs)) s))
+      match_after (after sign.Comma ts) (λ s. f (entries_from xs) s)
+      (expect sign.CloseBrace ts (λ s. got (object_literal (entries_of xs)) s))
 
   abbrev pub step : Goal → List Tok → Outcome
   step expr ts = bind (f sum ts) (λ e r. f (expr_from e) r)

@@ -7,8 +7,7 @@ ghost use Rattle.cs_grammar.specs.Reading.{base, carets_from, Reads, got};
 ghost use Rattle.cs_grammar.specs.Answers.{Answers, AnswersWord, AnswersCall, AnswersSign, AnswersArgs, AnswersArg, AnswersElements, AnswersElement};
 
 use crate::fault::GrammarFault;
-use crate::lexeme::Lexeme;
-use crate::look::Tokens;
+use crate::look::{Seen, Tokens};
 use crate::make;
 use crate::objects::entries;
 use crate::operators::expression;
@@ -25,11 +24,11 @@ pub fn base(alloc: Global, ts: &Tokens<'_>, at: usize) -> Result<(Box<Expr>, usi
         return Err(GrammarFault::Syntax);
     };
     match first {
-        Lexeme::Number(digits) => Ok((make::number(alloc, digits)?, rest)),
-        Lexeme::Text(source) => Ok((make::text(alloc, source)?, rest)),
-        Lexeme::Param(name) => Ok((make::param(alloc, name)?, rest)),
-        Lexeme::Word(word) => word_base(alloc, word, ts, rest),
-        Lexeme::Sign(sign) => sign_base(alloc, sign, ts, rest),
+        Seen::Number(digits) => Ok((make::number(alloc, digits)?, rest)),
+        Seen::Text(source) => Ok((make::text(alloc, source)?, rest)),
+        Seen::Param(name) => Ok((make::param(alloc, name)?, rest)),
+        Seen::Word(word) => word_base(alloc, word, ts, rest),
+        Seen::Sign(sign) => sign_base(alloc, sign, ts, rest),
     }
 }
 
@@ -153,7 +152,8 @@ fn sign_base(
 // How many `^` there are, dots between them, behind the first.
 fn carets(ts: &Tokens<'_>, at: usize) -> (u32, usize)
     requires { at ≤ length ts.now }
-    ensures read { Reads (carets_from 1) (left ts.now at) (got (parent result.0) (left ts.now result.1)) }
+    ensures read { Reads (carets_from 1) (left ts.now at)
+        (got (parent result.0) (left ts.now result.1)) }
     ensures shorter { (at ≤ result.1) × (result.1 ≤ length ts.now) }
 {
     let mut left = at;

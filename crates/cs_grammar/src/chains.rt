@@ -45,7 +45,8 @@ fn behind_arrow(
     at: usize,
 ) -> Result<(Vec<Step>, usize), NoMemory>
     requires { at ≤ length ts.now }
-    ensures read { IfOk result (λ x. AnswersArrow (steps before.items) ts.now at (steps x.0.items) x.1) }
+    ensures read { IfOk result (λ x. AnswersArrow (steps before.items) ts.now at (steps x.0.items)
+        x.1) }
     ensures shorter { IfOk result (λ x. (at ≤ x.1) × (x.1 ≤ length ts.now)) }
 {
     let mut steps = before;

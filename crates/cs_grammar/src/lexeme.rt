@@ -1,16 +1,28 @@
+// A token by what it is and where in its text it stands.
 use cs_syntax::Sign;
 
-/// A token with its text.
+/// What a token is.
 #[derive(Clone, Copy, Debug, Drop, PartialEq, Eq)]
-pub enum Lexeme<'t> {
-    /// A number as it is written.
-    Number(&'t str),
+pub enum Form {
+    /// A number.
+    Number,
     /// A text with its quotes, its escapes not yet read.
-    Text(&'t str),
-    /// The name of a parameter, without `$`.
-    Param(&'t str),
+    Text,
+    /// A parameter, `$` and its name.
+    Param,
     /// A word.
-    Word(&'t str),
+    Word,
     /// A sign.
     Sign(Sign),
+}
+
+/// A token of a text: its source is the bytes from `from` up to but without `to`.
+#[derive(Clone, Copy, Debug, Drop, PartialEq, Eq)]
+pub struct Lexeme {
+    /// What it is.
+    pub form: Form,
+    /// The place of its first byte.
+    pub from: u32,
+    /// The place behind its last byte.
+    pub to: u32,
 }

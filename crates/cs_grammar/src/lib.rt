@@ -15,5 +15,5 @@ mod whole;
 
 pub use fault::GrammarFault;
 pub use laws::one_expression;
-pub use lexeme::Lexeme;
+pub use lexeme::{Form, Lexeme};
 pub use whole::read;

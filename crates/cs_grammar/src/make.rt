@@ -91,7 +91,8 @@ pub fn round(alloc: Global, inner: Box<Expr>) -> Result<Box<Expr>, NoMemory>
 
 #[tactic(auto, unfolding(cs_syntax::specs::View::expression, cs_syntax::specs::View::arguments, cs_syntax::specs::View::arg))]
 pub fn call(alloc: Global, name: Txt, args: Vec<Arg>) -> Result<Box<Expr>, NoMemory>
-    ensures { IfOk result (λ e. expression e.value ≡ call name (arguments_of (arguments args.items))) }
+    ensures { IfOk result (λ e. expression e.value
+        ≡ call name (arguments_of (arguments args.items))) }
 {
     Ok(Box::new(alloc, Expr::Call { name, args })?)
 }
@@ -105,14 +106,16 @@ pub fn array(alloc: Global, all: Vec<Elem>) -> Result<Box<Expr>, NoMemory>
 
 #[tactic(auto, unfolding(cs_syntax::specs::View::expression, cs_syntax::specs::View::entries, cs_syntax::specs::View::entry))]
 pub fn object(alloc: Global, all: Vec<Entry>) -> Result<Box<Expr>, NoMemory>
-    ensures { IfOk result (λ e. expression e.value ≡ object_literal (entries_of (entries all.items))) }
+    ensures { IfOk result (λ e. expression e.value
+        ≡ object_literal (entries_of (entries all.items))) }
 {
     Ok(Box::new(alloc, Expr::Object(all))?)
 }
 
 #[tactic(auto, unfolding(cs_syntax::specs::View::expression, cs_syntax::specs::View::steps, cs_syntax::specs::View::step))]
 pub fn chain(alloc: Global, base: Box<Expr>, all: Vec<Step>) -> Result<Box<Expr>, NoMemory>
-    ensures { IfOk result (λ e. expression e.value ≡ chain_of (expression base.value) (steps all.items)) }
+    ensures { IfOk result (λ e. expression e.value
+        ≡ chain_of (expression base.value) (steps all.items)) }
 {
     if all.is_empty() {
         Ok(base)
@@ -123,7 +126,8 @@ pub fn chain(alloc: Global, base: Box<Expr>, all: Vec<Step>) -> Result<Box<Expr>
 
 #[tactic(auto, unfolding(cs_syntax::specs::View::expression))]
 pub fn prefix(alloc: Global, signs: Vec<PreSign>, operand: Box<Expr>) -> Result<Box<Expr>, NoMemory>
-    ensures { IfOk result (λ e. expression e.value ≡ prefix_of signs.items (expression operand.value)) }
+    ensures { IfOk result (λ e. expression e.value
+        ≡ prefix_of signs.items (expression operand.value)) }
 {
     if signs.is_empty() {
         Ok(operand)
@@ -138,7 +142,8 @@ pub fn run(
     first: Box<Expr>,
     rest: Vec<(BinSign, Expr)>,
 ) -> Result<Box<Expr>, NoMemory>
-    ensures { IfOk result (λ e. expression e.value ≡ run_of (expression first.value) (operands rest.items)) }
+    ensures { IfOk result (λ e. expression e.value
+        ≡ run_of (expression first.value) (operands rest.items)) }
 {
     if rest.is_empty() {
         Ok(first)
@@ -155,7 +160,8 @@ pub fn pair(
     sign: BinSign,
     right: Box<Expr>,
 ) -> Result<Box<Expr>, NoMemory>
-    ensures { IfOk result (λ e. expression e.value ≡ run_of (expression left.value) ((sign, expression right.value) ∷ [])) }
+    ensures { IfOk result (λ e. expression e.value
+        ≡ run_of (expression left.value) ((sign, expression right.value) ∷ [])) }
 {
     let mut rest = Vec::new(alloc);
     rest.push((sign, Box::into_inner(right)))?;
@@ -164,7 +170,8 @@ pub fn pair(
 
 #[tactic(auto, unfolding(cs_syntax::specs::View::expression))]
 pub fn within(alloc: Global, left: Box<Expr>, right: Box<Expr>) -> Result<Box<Expr>, NoMemory>
-    ensures { IfOk result (λ e. expression e.value ≡ within (expression left.value) (expression right.value)) }
+    ensures { IfOk result (λ e. expression e.value
+        ≡ within (expression left.value) (expression right.value)) }
 {
     Ok(Box::new(alloc, Expr::Within { left, right })?)
 }
@@ -177,7 +184,8 @@ pub fn between(
     to: Box<Expr>,
     closed: bool,
 ) -> Result<Box<Expr>, NoMemory>
-    ensures { IfOk result (λ e. expression e.value ≡ between (expression left.value) (expression from.value) (expression to.value) closed) }
+    ensures { IfOk result (λ e. expression e.value
+        ≡ between (expression left.value) (expression from.value) (expression to.value) closed) }
 {
     Ok(Box::new(
         alloc,
@@ -321,7 +329,8 @@ pub fn is_text(e: &Box<Expr>) -> bool
 #[tactic(auto, unfolding(cs_syntax::specs::View::entry, cs_syntax::specs::View::expression))]
 pub fn keyed(key: Box<Expr>, e: Box<Expr>) -> Entry
     requires { IsSome (key_of (expression key.value)) }
-    ensures { (k : List ℕ) → key_of (expression key.value) ≡ Some k → entry result ≡ keyed k (expression e.value) }
+    ensures { (k : List ℕ) → key_of (expression key.value) ≡ Some k →
+        entry result ≡ keyed k (expression e.value) }
 {
     match Box::into_inner(key) {
         Expr::Text(text) => Entry::Keyed(text, Box::into_inner(e)),

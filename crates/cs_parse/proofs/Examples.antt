@@ -13,15 +13,23 @@ number : verdict (codes " 1 // one") ≡ query (number_literal (codes "1"))
 unfolding verdict tokens_from expression_in read
 number = refl
 
-filter : verdict (codes "*[a == 'b']") ≡ query (chain everything (more_steps (bracket (run (word (codes "a")) (more_operands op.Eq (text_literal (codes "b")) no_operands))) no_steps))
+filter : verdict (codes "*[a == 'b']")
+    ≡ query (chain everything
+    (more_steps (bracket
+    (run (word (codes "a")) (more_operands op.Eq (text_literal (codes "b")) no_operands)))
+    no_steps))
 unfolding verdict tokens_from expression_in read
 filter = refl
 
-order : verdict (codes "$d | order(t desc)") ≡ query (chain (param (codes "d")) (more_steps (pipe (codes "order") (more_keys (order_key (word (codes "t")) true) no_keys)) no_steps))
+order : verdict (codes "$d | order(t desc)")
+    ≡ query (chain (param (codes "d"))
+    (more_steps (pipe (codes "order") (more_keys (order_key (word (codes "t")) true) no_keys))
+    no_steps))
 unfolding verdict tokens_from expression_in read
 order = refl
 
--- `f("é") #`: the place counts bytes, and a place without a token comes before the call of no function
+-- `f("é") #`: the place counts bytes, and a place without a token comes before the call of no
+-- function
 bad : verdict (codes "f(\"" ++ 195 ∷ 169 ∷ codes "\") #") ≡ bad_token 8
 unfolding verdict tokens_from expression_in read
 bad = refl

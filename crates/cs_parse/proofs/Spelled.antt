@@ -1,4 +1,5 @@
--- Enough steps give an outcome, and more steps give the same: so `expression_in` finds what tokens spell.
+-- Enough steps give an outcome, and more steps give the same: so `expression_in` finds what
+-- tokens spell.
 use Rattle.std.proofs.Common.{◌≡◌, ℕ, zero, suc, ◌+◌, ◌*◌, ◌<◌, ◌≤◌, List, [], ◌∷◌, length, refl, arith}
 use Rattle.cs_syntax.specs.Expression.{Tok}
 use Rattle.cs_grammar.specs.Reading.{Goal, expr, Outcome, out, fail, got, read, Reads}
@@ -22,13 +23,19 @@ not_out same_fail h = cc
 not_out (same_got e r l) h = cc
 
 -- reading with enough steps is what reading gives
-reads_enough : (g : Goal) (ts : List Tok) (n : ℕ) → 9 * length ts + rank g < n → Reads g ts (read n g ts)
-reads_enough g ts n d = record { given = record { enough = n; from = λ m l. ended ((read_agrees n m l).agree g ts d) } }
+reads_enough : (g : Goal) (ts : List Tok) (n : ℕ) → 9 * length ts + rank g < n →
+    Reads g ts (read n g ts)
+reads_enough g ts n d =
+    record {
+      given =
+          record { enough = n; from = λ m l. ended ((read_agrees n m l).agree g ts d) };
+    }
 
 ends : (g : Goal) (ts : List Tok) (n : ℕ) → 9 * length ts + rank g < n → read n g ts ≡ out → ⊥
 ends g ts n d = not_out ((read_agrees n n (omega arith)).agree g ts d)
 
-by_outcome : (ts : List Tok) (o : Outcome) → Reads expr ts o → (o ≡ out → ⊥) → IsSpelling ts (whole o)
+by_outcome : (ts : List Tok) (o : Outcome) → Reads expr ts o → (o ≡ out → ⊥) →
+    IsSpelling ts (whole o)
 by_outcome ts out h n = absurd (n refl)
 by_outcome ts fail h n = unread h
 by_outcome ts (got e []) h n = read_spelled h
@@ -36,4 +43,7 @@ by_outcome ts (got e (x ∷ r)) h n = unfinished h
 
 pub is_spelling : (ts : List Tok) → IsSpelling ts (expression_in ts)
 unfolding expression_in
-is_spelling ts = by_outcome ts (read (9 * length ts + 8) expr ts) (reads_enough expr ts (9 * length ts + 8) (omega arith)) (ends expr ts (9 * length ts + 8) (omega arith))
+is_spelling ts =
+    by_outcome ts (read (9 * length ts + 8) expr ts)
+    (reads_enough expr ts (9 * length ts + 8) (omega arith))
+    (ends expr ts (9 * length ts + 8) (omega arith))

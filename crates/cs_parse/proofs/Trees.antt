@@ -1,4 +1,5 @@
--- The trees of small texts, computed: each sign, operator, step and entry once at least, as another
+-- The trees of small texts, computed: each sign, operator, step and entry once at least, as
+-- another
 -- reader of the language has them.
 use Rattle.std.proofs.Common.{◌≡◌, ℕ, List, [], ◌∷◌, true, false, Option, Some, None, refl}
 use Rattle.std.specs.Prelude.{codes}
@@ -53,7 +54,8 @@ levels : verdict (codes "a || b && c == d + e * -f") ≡ query
           run (word (codes "d")) (operands_of ((
             op.Add,
             run
-                (word (codes "e")) (operands_of ((op.Mul, prefix (pre.Minus ∷ []) (word (codes "f"))) ∷ [])),
+                (word (codes "e"))
+                (operands_of ((op.Mul, prefix (pre.Minus ∷ []) (word (codes "f"))) ∷ [])),
           )
               ∷ [])),
         ) ∷ [])),

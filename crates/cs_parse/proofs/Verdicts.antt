@@ -17,17 +17,23 @@ pub lexing_is : (text : List ℕ) → IsLexing text 0 (lexing text)
 lexing_is text = is_lexing (suc (length text)) text 0 (omega arith) (omega arith)
 
 module _ (text : List ℕ) (ts : List Token) (tokens : IsTokens text 0 ts) where
-  faults : (shallow : ¬ (IsTooDeep (meanings text ts))) (e : Expression) → IsSpelling (meanings text ts) (Some e) → (o : Option Fault) → fault e ≡ o → IsRead text (by_fault e o)
+  faults : (shallow : ¬ (IsTooDeep (meanings text ts))) (e : Expression) →
+      IsSpelling (meanings text ts) (Some e) → (o : Option Fault) → fault e ≡ o →
+      IsRead text (by_fault e o)
   faults shallow e h None is = (ts, tokens, (shallow, e, h, (refl, is)))
   faults shallow e h (Some f) is = (ts, tokens, (shallow, e, h, is))
 
-  spelled : (shallow : ¬ (IsTooDeep (meanings text ts))) (o : Option Expression) → IsSpelling (meanings text ts) o → IsRead text (by_expression o)
+  spelled : (shallow : ¬ (IsTooDeep (meanings text ts))) (o : Option Expression) →
+      IsSpelling (meanings text ts) o → IsRead text (by_expression o)
   spelled shallow None h = (ts, tokens, (shallow, h))
   spelled shallow (Some e) h = faults shallow e h (fault e) refl
 
-  by_depth : (b : Bool) → is_deep (meanings text ts) ≡ b → IsRead text (if b then too_deep else by_expression (expression_in (meanings text ts)))
+  by_depth : (b : Bool) → is_deep (meanings text ts) ≡ b →
+      IsRead text (if b then too_deep else by_expression (expression_in (meanings text ts)))
   by_depth true e = (ts, tokens, to_deep (meanings text ts) e)
-  by_depth false e = spelled (λ d. true≢false (sym (from_deep (meanings text ts) d) ∙ e)) (expression_in (meanings text ts)) (is_spelling (meanings text ts))
+  by_depth false e =
+      spelled (λ d. true≢false (sym (from_deep (meanings text ts) d)
+      ∙ e)) (expression_in (meanings text ts)) (is_spelling (meanings text ts))
 
 read_lexing : (text : List ℕ) (l : Lexing) → IsLexing text 0 l → IsRead text (by_lexing text l)
 read_lexing text (lexed ts) h = by_depth text ts h (is_deep (meanings text ts)) refl

@@ -33,7 +33,8 @@ IsTooDeep ts = (n : ℕ) × (count_of closes (take n ts) + 48 < count_of opens (
 -- whether that is so behind fewer than n tokens
 abbrev pub is_deep_within : ℕ → List Tok → Bool
 is_deep_within zero ts = false
-is_deep_within (suc n) ts = nat_lt (count_of closes (take n ts) + 48) (count_of opens (take n ts)) || is_deep_within n ts
+is_deep_within (suc n) ts = nat_lt (count_of closes (take n ts) + 48) (count_of opens (take n ts))
+    || is_deep_within n ts
 
 abbrev pub is_deep : List Tok → Bool
 is_deep ts = is_deep_within (suc (length ts)) ts

@@ -1,4 +1,5 @@
--- The expression that tokens spell as a function: what the grammar's reading from the left gives, in as many steps as it
+-- The expression that tokens spell as a function: what the grammar's reading from the left gives,
+-- in as many steps as it
 -- can take.
 use Rattle.std.specs.Prelude.{◌+◌, ◌*◌, List, [], ◌∷◌, length, Option, Some, None}
 use Rattle.cs_syntax.specs.Expression.{Tok, Expression}
@@ -12,7 +13,8 @@ whole fail = None
 whole (got e []) = Some e
 whole (got e (t ∷ ts)) = None
 
--- the expression that the tokens spell, or none: at most nine steps nest between one token and the next
+-- the expression that the tokens spell, or none: at most nine steps nest between one token and
+-- the next
 unfoldable pub expression_in : List Tok → Option Expression
 expression_in ts = whole (read (9 * length ts + 8) expr ts)
 

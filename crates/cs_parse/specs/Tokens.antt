@@ -1,4 +1,5 @@
--- The tokens of a text as a function: past blanks the longest token at each place, up to the end of the text or to a place
+-- The tokens of a text as a function: past blanks the longest token at each place, up to the end
+-- of the text or to a place
 -- where none begins.
 use Rattle.std.specs.Prelude.{ℕ, zero, suc, nat_lt, if◌then◌else◌, List, [], ◌∷◌, length, Option, Some, None, slice_index}
 use Rattle.cs_syntax.specs.declared.token.Kind.{Kind}
@@ -25,7 +26,8 @@ by_end rest from k (Some to) = token_then (record { kind = k; from = from; to = 
 abbrev pub tokens_at : (ℕ → Lexing) → List ℕ → ℕ → Lexing
 tokens_at rest s from =
     if nat_lt from (length s)
-    then by_end rest from (kind_of (slice_index s from)) (token_end s from (kind_of (slice_index s from)))
+    then by_end rest from (kind_of (slice_index s from))
+    (token_end s from (kind_of (slice_index s from)))
     else lexed []
 
 -- the tokens from a place on, where they are fewer than n

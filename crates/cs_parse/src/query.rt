@@ -1,3 +1,4 @@
+// Queries from their texts.
 ghost use Rattle.std.specs.Prelude.{◌≡◌, ◌<◌, ◌^◌, IfSome, length};
 ghost use Rattle.cs_faults.specs.Found.{told};
 ghost use Rattle.cs_parse.specs.Verdict.{IsRead, faulty, reading, reading_of, verdict};
@@ -40,10 +41,11 @@ fn read_text(alloc: Global, text: &str) -> Result<Query, ParseFault>
 {
     let tokens = tokens(alloc, text)?;
     let lexemes = lexemes(alloc, text, tokens.as_slice())?;
+    drop(tokens);
     if is_too_deep(lexemes.as_slice()) {
         return Err(ParseFault::TooDeep);
     }
-    let expr = read(alloc, lexemes.as_slice())?;
+    let expr = read(alloc, text, lexemes.as_slice())?;
     if let Some(fault) = first_fault(&expr) {
         return Err(owned(alloc, fault));
     }

@@ -1,3 +1,4 @@
+// Small texts, each with what becomes of it.
 use super::*;
 use std::alloc::Global;
 use std::test::Fail;

@@ -8,25 +8,34 @@ use Rattle.cs_syntax.specs.Escapes.{decoded}
 use Rattle.cs_syntax.specs.Signs.{sign_of}
 use Rattle.cs_syntax.specs.Lex.{is_word, is_number, meaning}
 
-of-cond : {A : Type 0} (t : Bool) (x : A) → is_some (cond t (Some x) None) ≡ true → cond t (Some x) None ≡ Some x
+of-cond : {A : Type 0} (t : Bool) (x : A) → is_some (cond t (Some x) None) ≡ true →
+    cond t (Some x) None ≡ Some x
 of-cond true x h = refl
 of-cond false x h = absurd (true≢false (sym h))
 
-of-map : {A B : Type 0} (f : A → B) (o : Option A) → is_some (option_map f o) ≡ true → is_some o ≡ true
+of-map : {A B : Type 0} (f : A → B) (o : Option A) → is_some (option_map f o) ≡ true →
+    is_some o ≡ true
 of-map f None h = h
 of-map f (Some x) h = refl
 
-at-kind : (k j : Kind) (s : List ℕ) → k ≡ j → is_some (meaning k s) ≡ true → is_some (meaning j s) ≡ true
+at-kind : (k j : Kind) (s : List ℕ) → k ≡ j → is_some (meaning k s) ≡ true →
+    is_some (meaning j s) ≡ true
 at-kind k j s e h = subst (λ x. is_some (meaning x s) ≡ true) e h
 
-pub word-meaning : (k : Kind) (s : List ℕ) → k ≡ kind.Word → is_some (meaning k s) ≡ true → meaning k s ≡ Some (word_tok s)
-word-meaning k s e h = ap (λ x. meaning x s) e ∙ of-cond (is_word s) (word_tok s) (at-kind k kind.Word s e h)
+pub word-meaning : (k : Kind) (s : List ℕ) → k ≡ kind.Word → is_some (meaning k s) ≡ true →
+    meaning k s ≡ Some (word_tok s)
+word-meaning k s e h =
+    ap (λ x. meaning x s) e ∙ of-cond (is_word s) (word_tok s) (at-kind k kind.Word s e h)
 
-pub number-meaning : (k : Kind) (s : List ℕ) → k ≡ kind.Number → is_some (meaning k s) ≡ true → meaning k s ≡ Some (number_tok s)
-number-meaning k s e h = ap (λ x. meaning x s) e ∙ of-cond (is_number s) (number_tok s) (at-kind k kind.Number s e h)
+pub number-meaning : (k : Kind) (s : List ℕ) → k ≡ kind.Number → is_some (meaning k s) ≡ true →
+    meaning k s ≡ Some (number_tok s)
+number-meaning k s e h =
+    ap (λ x. meaning x s) e ∙ of-cond (is_number s) (number_tok s) (at-kind k kind.Number s e h)
 
-pub text-meaning : (k : Kind) (s : List ℕ) → k ≡ kind.Text → is_some (meaning k s) ≡ true → is_some (decoded s) ≡ true
+pub text-meaning : (k : Kind) (s : List ℕ) → k ≡ kind.Text → is_some (meaning k s) ≡ true →
+    is_some (decoded s) ≡ true
 text-meaning k s e h = of-map text_tok (decoded s) (at-kind k kind.Text s e h)
 
-pub sign-meaning : (k : Kind) (s : List ℕ) → k ≡ kind.Sign → is_some (meaning k s) ≡ true → is_some (sign_of s) ≡ true
+pub sign-meaning : (k : Kind) (s : List ℕ) → k ≡ kind.Sign → is_some (meaning k s) ≡ true →
+    is_some (sign_of s) ≡ true
 sign-meaning k s e h = of-map sign_tok (sign_of s) (at-kind k kind.Sign s e h)

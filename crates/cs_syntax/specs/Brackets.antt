@@ -1,4 +1,5 @@
--- What stands in the bracket of a step, and the key of an entry without one: GROQ-1.revision1, "Compound expressions" and
+-- What stands in the bracket of a step, and the key of an entry without one: GROQ-1.revision1,
+-- "Compound expressions" and
 -- "Object", as this project's profile has them.
 use Rattle.std.specs.Prelude.{ℕ, List, [], ◌∷◌, Bool, true, false, ◌&&◌, Option, Some, None, if◌then◌else◌}
 use Rattle.cs_syntax.specs.declared.tree.BinSign.{BinSign}
@@ -64,7 +65,8 @@ abbrev pub keep_key : Steps → Bool
 keep_key no_steps = true
 keep_key (more_steps s ss) = keeps_key s && keep_key ss
 
--- the key of an entry that is an expression alone: a word, from which no step takes an attribute or a piped call
+-- the key of an entry that is an expression alone: a word, from which no step takes an attribute
+-- or a piped call
 abbrev pub key_of : Expression → Option (List ℕ)
 key_of (word w) = Some w
 key_of (chain (word w) ss) = if keep_key ss then Some w else None

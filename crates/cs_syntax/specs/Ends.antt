@@ -1,4 +1,5 @@
--- For private clauses: how far each kind of token reaches from a place of a text. Past the end of the
+-- For private clauses: how far each kind of token reaches from a place of a text. Past the end of
+-- the
 -- text the byte is 0, which is in no token but a text.
 use Rattle.std.specs.Prelude.{ℕ, zero, suc, ◌+◌, ◌*◌, Bool, not, ◌&&◌, ◌||◌, ◌==◌, nat_lt, if◌then◌else◌, List, [], ◌∷◌, drop, Option, Some, None, option_map, option_and_then, find, slice_index}
 use Rattle.std.specs.List.{prefix_len, list_any}
@@ -33,12 +34,15 @@ end_or s at from = if nat_lt from (past_digits s from) then past_digits s from e
 
 -- the end of an exponent, or `at` where none stands there
 abbrev pub exponent_end : List ℕ → ℕ → ℕ
-exponent_end s at = if slice_index s at == 101 || slice_index s at == 69 then end_or s at (past_sign s (at + 1)) else at
+exponent_end s at = if slice_index s at == 101 || slice_index s at == 69
+    then end_or s at (past_sign s (at + 1)) else at
 
 -- the end of a fraction and an exponent, of one of them, or `at`
 abbrev pub fraction_end : List ℕ → ℕ → ℕ
 fraction_end s at =
-    if slice_index s at == 46 then (if nat_lt (at + 1) (past_digits s (at + 1)) then exponent_end s (past_digits s (at + 1)) else at)
+    if slice_index s at == 46
+    then (if nat_lt (at + 1) (past_digits s (at + 1))
+    then exponent_end s (past_digits s (at + 1)) else at)
     else exponent_end s at
 
 -- the end of the number whose first digit is at `at`
@@ -49,7 +53,8 @@ number_end s at = fraction_end s (if slice_index s at == 48 then at + 1 else pas
 abbrev pub quoted : ℕ → ℕ → List ℕ → Option ℕ
 quoted q taken [] = None
 quoted q (suc taken) (b ∷ bs) = option_map suc (quoted q taken bs)
-quoted q zero (b ∷ bs) = if b == q then Some 1 else option_and_then (λ p. option_map suc (quoted q p.1 bs)) (piece b bs)
+quoted q zero (b ∷ bs) =
+    if b == q then Some 1 else option_and_then (λ p. option_map suc (quoted q p.1 bs)) (piece b bs)
 
 abbrev pub text_end : List ℕ → ℕ → ℕ → Option ℕ
 text_end s q at = option_map (λ n. at + n) (quoted q 0 (drop at s))
@@ -64,18 +69,22 @@ hex b = if is_digit b 16 then Some (digit_value b) else None
 -- the number of the four hexadecimal digits at `at`
 abbrev pub four_at : List ℕ → ℕ → Option ℕ
 four_at s at =
-    if is_digit (slice_index s at) 16 && is_digit (slice_index s (at + 1)) 16 && is_digit (slice_index s (at + 2)) 16 && is_digit (slice_index s (at + 3)) 16
-    then Some (digit_value (slice_index s at) * 4096 + digit_value (slice_index s (at + 1)) * 256 + digit_value (slice_index s (at + 2)) * 16 + digit_value (slice_index s (at + 3)))
+    if is_digit (slice_index s at) 16 && is_digit (slice_index s (at + 1)) 16
+    && is_digit (slice_index s (at + 2)) 16 && is_digit (slice_index s (at + 3)) 16
+    then Some (digit_value (slice_index s at) * 4096 + digit_value (slice_index s (at + 1)) * 256
+    + digit_value (slice_index s (at + 2)) * 16 + digit_value (slice_index s (at + 3)))
     else None
 
 abbrev pub unit_at : List ℕ → ℕ → Option ℕ
-unit_at s at = if slice_index s at == 92 && slice_index s (at + 1) == 117 then four_at s (at + 2) else None
+unit_at s at = if slice_index s at == 92 && slice_index s (at + 1) == 117 then four_at s (at + 2)
+    else None
 
 -- `\uXXXX` of the number u that ends at `at`, with the low surrogate behind it where it wants one
 abbrev pub by_unit_at : List ℕ → ℕ → ℕ → Option (ℕ × ℕ)
 by_unit_at s at u =
     if is_high_surrogate u
-    then option_and_then (λ v. if is_low_surrogate v then Some (surrogate_pair_char u v, at + 6) else None) (unit_at s at)
+    then option_and_then (λ v. if is_low_surrogate v then Some (surrogate_pair_char u v, at + 6)
+    else None) (unit_at s at)
     else (if is_low_surrogate u then None else Some (u, at))
 
 -- `\u{H}` whose `u` stands at `at`
@@ -84,15 +93,18 @@ braced_at s at = placed at (braced 0 0 (drop (at + 2) s))
 
 -- the escape whose `u` stands at `at`
 abbrev pub unicode_at : List ℕ → ℕ → Option (ℕ × ℕ)
-unicode_at s at = if slice_index s (at + 1) == 123 then braced_at s at else option_and_then (by_unit_at s (at + 5)) (four_at s (at + 1))
+unicode_at s at = if slice_index s (at + 1) == 123 then braced_at s at
+    else option_and_then (by_unit_at s (at + 5)) (four_at s (at + 1))
 
 -- the escape whose `\` stands before `at`
 abbrev pub escape_at : List ℕ → ℕ → Option (ℕ × ℕ)
-escape_at s at = if slice_index s at == 117 then unicode_at s at else option_map (λ c. (c, at + 1)) (letter (slice_index s at))
+escape_at s at = if slice_index s at == 117 then unicode_at s at
+    else option_map (λ c. (c, at + 1)) (letter (slice_index s at))
 
 -- the place behind the byte or the escape at `at`
 abbrev pub piece_end : List ℕ → ℕ → Option ℕ
-piece_end s at = if slice_index s at == 92 then option_map (λ e. e.1) (escape_at s (at + 1)) else Some (at + 1)
+piece_end s at = if slice_index s at == 92 then option_map (λ e. e.1) (escape_at s (at + 1))
+    else Some (at + 1)
 
 -- above each number of d hexadecimal digits
 abbrev pub above : ℕ → ℕ
@@ -133,7 +145,8 @@ three_of a b c = if is_three a b c then Some sign.DotDotDot else None
 
 -- how many bytes the sign at the front has, 0 where none stands there
 abbrev pub sign_len : ℕ → ℕ → ℕ → ℕ
-sign_len a b c = if is_three a b c then 3 else (if is_two a b then 2 else (if is_one a then 1 else 0))
+sign_len a b c =
+    if is_three a b c then 3 else (if is_two a b then 2 else (if is_one a then 1 else 0))
 
 abbrev pub sign_end : List ℕ → ℕ → Option ℕ
 sign_end s at =

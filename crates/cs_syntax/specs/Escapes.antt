@@ -1,4 +1,5 @@
--- What a text token means: GROQ-1.revision1 "String", as this project's profile has it. A text stands
+-- What a text token means: GROQ-1.revision1 "String", as this project's profile has it. A text
+-- stands
 -- between two `"` or two `'`, and holds any character but that quote and `\`, and escapes.
 use Rattle.std.specs.Prelude.{ℕ, zero, suc, ◌+◌, ◌*◌, Bool, ◌&&◌, ◌||◌, ◌==◌, nat_lt, if◌then◌else◌, List, [], ◌∷◌, ◌++◌, drop, Option, Some, None, option_map, option_and_then, find, encode_utf8}
 use Rattle.std.specs.Char.{digit_value, is_digit}
@@ -9,9 +10,13 @@ use lib.Utf8.{scalar}
 abbrev pub is_quote : ℕ → Bool
 is_quote b = b == 34 || b == 39
 
--- the escapes of one letter, with their characters: `"` `'` `\` `/` as themselves, and `b` `f` `n` `r` `t`
+-- the escapes of one letter, with their characters: `"` `'` `\` `/` as themselves, and `b` `f`
+-- `n` `r` `t`
 abbrev pub letters : List (ℕ × ℕ)
-letters = (34, 34) ∷ (39, 39) ∷ (92, 92) ∷ (47, 47) ∷ (98, 8) ∷ (102, 12) ∷ (110, 10) ∷ (114, 13) ∷ (116, 9) ∷ []
+letters = (34, 34) ∷ (39, 39) ∷ (92, 92) ∷ (47, 47) ∷ (98, 8) ∷ (102, 12) ∷ (110, 10) ∷ (
+  114,
+  13,
+) ∷ (116, 9) ∷ []
 
 abbrev pub letter : ℕ → Option ℕ
 letter b = option_map (λ row. row.1) (find (λ row. row.0 == b) letters)
@@ -20,7 +25,8 @@ letter b = option_map (λ row. row.1) (find (λ row. row.0 == b) letters)
 abbrev pub four_digits : List ℕ → Option ℕ
 four_digits (a ∷ b ∷ c ∷ d ∷ bs) =
     if is_digit a 16 && is_digit b 16 && is_digit c 16 && is_digit d 16
-    then Some (digit_value a * 4096 + digit_value b * 256 + digit_value c * 16 + digit_value d) else None
+    then Some (digit_value a * 4096 + digit_value b * 256 + digit_value c * 16 + digit_value d)
+    else None
 four_digits bs = None
 
 -- the number of a `\uXXXX` at the front
@@ -30,12 +36,14 @@ unit bs = None
 
 -- A reading of an escape is its character, and how many bytes behind its `\` it has.
 
--- `\uXXXX` of the number u, before the bytes `more`: a high surrogate wants a low one behind it, and a
+-- `\uXXXX` of the number u, before the bytes `more`: a high surrogate wants a low one behind it,
+-- and a
 -- low one alone is no escape
 abbrev pub by_unit : ℕ → List ℕ → Option (ℕ × ℕ)
 by_unit u more =
     if is_high_surrogate u
-    then option_and_then (λ v. if is_low_surrogate v then Some (surrogate_pair_char u v, 11) else None) (unit more)
+    then option_and_then (λ v. if is_low_surrogate v then Some (surrogate_pair_char u v, 11)
+    else None) (unit more)
     else (if is_low_surrogate u then None else Some (u, 5))
 
 -- behind `\u{` and d digits of the number n: digits up to six in all, and `}`, of a scalar value
@@ -48,17 +56,21 @@ braced n d (b ∷ bs) =
 -- behind `\u`
 abbrev pub unicode : List ℕ → Option (ℕ × ℕ)
 unicode [] = None
-unicode (b ∷ bs) = if b == 123 then braced 0 0 bs else option_and_then (λ u. by_unit u (drop 4 (b ∷ bs))) (four_digits (b ∷ bs))
+unicode (b ∷ bs) =
+    if b == 123 then braced 0 0 bs
+    else option_and_then (λ u. by_unit u (drop 4 (b ∷ bs))) (four_digits (b ∷ bs))
 
 -- behind `\`
 abbrev pub escape : List ℕ → Option (ℕ × ℕ)
 escape [] = None
 escape (b ∷ bs) = if b == 117 then unicode bs else option_map (λ c. (c, 1)) (letter b)
 
--- what the byte b stands for, or the escape that begins with it, and how many of the bytes behind it
+-- what the byte b stands for, or the escape that begins with it, and how many of the bytes behind
+-- it
 -- belong to it
 abbrev pub piece : ℕ → List ℕ → Option (List ℕ × ℕ)
-piece b bs = if b == 92 then option_map (λ e. (encode_utf8 e.0, e.1)) (escape bs) else Some (b ∷ [], 0)
+piece b bs = if b == 92 then option_map (λ e. (encode_utf8 e.0, e.1)) (escape bs)
+    else Some (b ∷ [], 0)
 
 -- where the quote ends the source, nothing follows it
 abbrev pub ended : List ℕ → Option (List ℕ)

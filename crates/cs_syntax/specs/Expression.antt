@@ -6,7 +6,8 @@ use Rattle.cs_syntax.specs.declared.sign.Sign.{Sign}
 use Rattle.cs_syntax.specs.declared.tree.BinSign.{BinSign}
 use Rattle.cs_syntax.specs.declared.tree.PreSign.{PreSign}
 
--- a token: a number as written, a text with its escapes read, the name of a parameter, a word, a sign
+-- a token: a number as written, a text with its escapes read, the name of a parameter, a word, a
+-- sign
 pub data Tok : Type 0 where
   number_tok : List ℕ → Tok
   text_tok : List ℕ → Tok

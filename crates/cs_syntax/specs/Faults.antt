@@ -1,5 +1,7 @@
--- The faults of an expression, in the order of the text: what the grammar spells and this project's profile refuses. The
--- first of them is the one that is told. An expression's faults are those at its first token and those behind it: between
+-- The faults of an expression, in the order of the text: what the grammar spells and this
+-- project's profile refuses. The
+-- first of them is the one that is told. An expression's faults are those at its first token and
+-- those behind it: between
 -- the two stands the fault of a bare entry without a determinable key.
 use Rattle.std.specs.Prelude.{ℕ, List, [], ◌∷◌, ◌++◌, Bool, ◌&&◌, ◌||◌, codes, if◌then◌else◌, Option, Some, None}
 use Rattle.std.specs.Str.{bytes_eq}
@@ -10,7 +12,8 @@ use Rattle.cs_syntax.specs.Brackets.{is_position, is_text, is_constant, key_of}
 use Rattle.cs_syntax.specs.Functions.{Arity, exactly, arity_of, accepts, is_left_out}
 use Rattle.cs_syntax.specs.Numbers.{has_exponent, has_fraction, is_wide}
 
--- a form or function that the profile leaves out, by its name; a function that there is not; a call with a wrong number of
+-- a form or function that the profile leaves out, by its name; a function that there is not; a
+-- call with a wrong number of
 -- arguments, or with `=>` where none may stand; a bare entry whose key is not determinable
 pub data Fault : Type 0 where
   unsupported : List ℕ → Fault
@@ -58,7 +61,8 @@ pipe_faults name ks = if is_left_out name then unsupported name ∷ []
     else if bytes_eq name (codes "order") then order_faults name ks
     else unknown_function name ∷ []
 
--- an element or an attribute is taken by a position or a text alone, and by nothing that is computed of these
+-- an element or an attribute is taken by a position or a text alone, and by nothing that is
+-- computed of these
 abbrev pub bracket_faults : Expression → List Fault
 bracket_faults e = if is_position e || is_text e then []
     else if is_constant e then unsupported (codes "constant") ∷ []
@@ -66,7 +70,8 @@ bracket_faults e = if is_position e || is_text e then []
 
 -- both ends of a slice are positions
 abbrev pub slice_faults : Expression → Expression → List Fault
-slice_faults from to = if is_position from && is_position to then [] else unsupported (codes "slice-bounds") ∷ []
+slice_faults from to = if is_position from && is_position to then []
+    else unsupported (codes "slice-bounds") ∷ []
 
 abbrev pub key_faults : Option (List ℕ) → List Fault
 key_faults (Some k) = []
@@ -98,18 +103,22 @@ abbrev mutual
   behind_first (prefix signs e) = at_first e ++ behind_first e
   behind_first (run e rest) = behind_first e ++ in_operands rest
   behind_first (within e right) = behind_first e ++ (at_right right ++ behind_first right)
-  behind_first (between e from to closed) = behind_first e ++ ((at_first from ++ behind_first from) ++ (at_first to ++ behind_first to))
+  behind_first (between e from to closed) =
+      behind_first e ++ ((at_first from ++ behind_first from) ++ (at_first to ++ behind_first to))
   behind_first _ = []
 
   pub in_operands : Operands → List Fault
   in_operands no_operands = []
-  in_operands (more_operands o e rest) = (operator_faults o ++ (at_first e ++ behind_first e)) ++ in_operands rest
+  in_operands (more_operands o e rest) = (operator_faults o ++ (at_first e ++ behind_first e))
+      ++ in_operands rest
 
   pub in_step : Step → List Fault
   in_step (attr w) = []
   in_step deref = []
   in_step each = []
-  in_step (slice from to closed) = slice_faults from to ++ ((at_first from ++ behind_first from) ++ (at_first to ++ behind_first to))
+  in_step (slice from to closed) =
+      slice_faults from to
+      ++ ((at_first from ++ behind_first from) ++ (at_first to ++ behind_first to))
   in_step (bracket e) = bracket_faults e ++ (at_first e ++ behind_first e)
   in_step (project es) = in_entries es
   in_step (pipe name ks) = pipe_faults name ks ++ in_keys ks
@@ -118,7 +127,8 @@ abbrev mutual
   in_steps no_steps = []
   in_steps (more_steps s ss) = in_step s ++ in_steps ss
 
-  -- a bare entry without a key has this fault at its first token, behind those that its expression has there
+  -- a bare entry without a key has this fault at its first token, behind those that its
+  -- expression has there
   pub in_entry : Entry → List Fault
   in_entry (keyed k e) = at_first e ++ behind_first e
   in_entry (bare e) = (at_first e ++ key_faults (key_of e)) ++ behind_first e
@@ -139,7 +149,8 @@ abbrev mutual
 
   pub in_argument : Argument → List Fault
   in_argument (argument e) = at_first e ++ behind_first e
-  in_argument (when_argument c e) = (at_first c ++ behind_first c) ++ (at_first e ++ behind_first e)
+  in_argument (when_argument c e) =
+      (at_first c ++ behind_first c) ++ (at_first e ++ behind_first e)
 
   pub in_arguments : Arguments → List Fault
   in_arguments no_arguments = []

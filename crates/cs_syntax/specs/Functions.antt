@@ -1,4 +1,5 @@
--- The functions of the query language, and the numbers of their arguments: GROQ-1.revision1, "Functions" and
+-- The functions of the query language, and the numbers of their arguments: GROQ-1.revision1,
+-- "Functions" and
 -- "Namespaces", as this project's profile has them.
 use Rattle.std.specs.Prelude.{ℕ, ◌+◌, List, [], ◌∷◌, Bool, true, false, ◌&&◌, ◌||◌, Option, option_map, codes, if◌then◌else◌, nat_eq, nat_le, drop}
 use Rattle.std.specs.List.{list_any, starts_with}
@@ -6,21 +7,41 @@ use Rattle.std.specs.Str.{bytes_eq}
 use Rattle.cs_table.specs.Row.{row_of}
 use Rattle.cs_syntax.specs.Expression.{argument, when_argument, Arguments, no_arguments, more_arguments}
 
--- so many arguments; so many or more; pairs `condition => value`, and then at most one value for no condition met
+-- so many arguments; so many or more; pairs `condition => value`, and then at most one value for
+-- no condition met
 pub data Arity : Type 0 where
   exactly : ℕ → Arity
   at_least : ℕ → Arity
   pairs_and_default : Arity
 
--- the functions by the names that they are called by: one without a namespace has `global::` in front or not
+-- the functions by the names that they are called by: one without a namespace has `global::` in
+-- front or not
 abbrev pub functions : List (List ℕ × Arity)
-functions = (codes "array::compact", exactly 1) ∷ (codes "array::join", exactly 2) ∷ (codes "array::unique", exactly 1)
+functions = (codes "array::compact", exactly 1) ∷ (codes "array::join", exactly 2) ∷ (
+  codes
+      "array::unique",
+  exactly 1,
+)
     ∷ (codes "coalesce", at_least 0) ∷ (codes "count", exactly 1) ∷ (codes "defined", exactly 1)
-    ∷ (codes "global::coalesce", at_least 0) ∷ (codes "global::count", exactly 1) ∷ (codes "global::defined", exactly 1)
+    ∷ (codes "global::coalesce", at_least 0) ∷ (codes "global::count", exactly 1) ∷ (
+      codes
+          "global::defined",
+      exactly 1,
+    )
     ∷ (codes "global::length", exactly 1) ∷ (codes "global::references", at_least 1)
-    ∷ (codes "global::select", pairs_and_default) ∷ (codes "global::string", exactly 1) ∷ (codes "length", exactly 1)
-    ∷ (codes "math::max", exactly 1) ∷ (codes "math::min", exactly 1) ∷ (codes "math::sum", exactly 1)
-    ∷ (codes "references", at_least 1) ∷ (codes "select", pairs_and_default) ∷ (codes "string", exactly 1)
+    ∷ (codes "global::select", pairs_and_default) ∷ (codes "global::string", exactly 1) ∷ (
+      codes
+          "length",
+      exactly 1,
+    )
+    ∷ (codes "math::max", exactly 1) ∷ (codes "math::min", exactly 1) ∷ (
+      codes "math::sum",
+      exactly 1,
+    )
+    ∷ (codes "references", at_least 1) ∷ (codes "select", pairs_and_default) ∷ (
+      codes "string",
+      exactly 1,
+    )
     ∷ (codes "string::split", exactly 2) ∷ (codes "string::startsWith", exactly 2) ∷ []
 
 -- the arity of the function of the name, if it is one
@@ -52,12 +73,14 @@ accepts pairs_and_default xs = pairs_come_first xs
 
 -- functions of the standard that the profile leaves out
 abbrev pub left_out : List (List ℕ)
-left_out = codes "round" ∷ codes "lower" ∷ codes "upper" ∷ codes "dateTime" ∷ codes "identity" ∷ codes "now"
+left_out = codes "round" ∷ codes "lower" ∷ codes "upper" ∷ codes "dateTime" ∷ codes
+    "identity" ∷ codes "now"
     ∷ codes "before" ∷ codes "after" ∷ codes "score" ∷ codes "boost" ∷ codes "math::avg" ∷ []
 
 -- namespaces of the standard that the profile leaves out whole
 abbrev pub namespaces_left_out : List (List ℕ)
-namespaces_left_out = codes "pt::" ∷ codes "geo::" ∷ codes "sanity::" ∷ codes "delta::" ∷ codes "diff::" ∷ []
+namespaces_left_out =
+    codes "pt::" ∷ codes "geo::" ∷ codes "sanity::" ∷ codes "delta::" ∷ codes "diff::" ∷ []
 
 -- the name without `global::` in front
 abbrev pub without_global : List ℕ → List ℕ

@@ -1,5 +1,7 @@
--- The tokens of a text: GROQ-1.revision1 "Syntax", as this project's profile has it. A text is the list
--- of its bytes. Between tokens stand blanks and comments, and each token is the longest at its place.
+-- The tokens of a text: GROQ-1.revision1 "Syntax", as this project's profile has it. A text is
+-- the list
+-- of its bytes. Between tokens stand blanks and comments, and each token is the longest at its
+-- place.
 use Rattle.std.specs.Prelude.{◌≡◌, ℕ, suc, ◌+◌, ◌-◌, ◌<◌, ◌≤◌, Bool, true, false, not, ◌&&◌, ◌||◌, ◌==◌, if◌then◌else◌, List, [], ◌∷◌, length, take, drop, filter_map, Option, Some, None, option_map, IsSome, slice_index, IsCharBoundary, ⊤}
 use Rattle.std.specs.List.{list_all}
 use Rattle.std.specs.Char.{is_ascii_digit, is_ascii_alphabetic}
@@ -56,7 +58,8 @@ follows_whole (b ∷ bs) = if b == 46 then some_digits_then ends_number bs else 
 -- `0`, or a digit from 1 to 9 and digits; and what may follow them
 abbrev pub is_number : List ℕ → Bool
 is_number [] = false
-is_number (b ∷ bs) = if b == 48 then follows_whole bs else is_ascii_digit b && digits_then follows_whole bs
+is_number (b ∷ bs) = if b == 48 then follows_whole bs else is_ascii_digit b
+    && digits_then follows_whole bs
 
 -- the name behind a `$`
 abbrev pub param_name : List ℕ → Option (List ℕ)
@@ -79,7 +82,8 @@ is_blank b = b == 32 || b == 9 || b == 10 || b == 13
 abbrev pub opens_comment : List ℕ → Bool
 opens_comment s = slice_index s 0 == 47 && slice_index s 1 == 47
 
--- how many bytes of blanks and comments stand at the front, where a comment is open or not: a comment
+-- how many bytes of blanks and comments stand at the front, where a comment is open or not: a
+-- comment
 -- is open from its `//` up to a newline
 abbrev pub blank_from : Bool → List ℕ → ℕ
 blank_from open_comment [] = 0
@@ -108,7 +112,8 @@ NoToken s = (kind : Kind) (n : ℕ) → meaning kind (take n s) ≡ None
 abbrev pub Reads : List ℕ → ℕ → List Token → ℕ → Type 0
 Reads s at [] end = at ≡ end
 Reads s at (t ∷ ts) end =
-    (t.from ≡ past_blank s at) × IsLongest (drop t.from s) t.kind (t.to - t.from) × Reads s t.to ts end
+    (t.from ≡ past_blank s at) × IsLongest (drop t.from s) t.kind (t.to - t.from)
+    × Reads s t.to ts end
 
 -- from `at` on the text is these tokens, and nothing but blanks follows
 pub record IsTokens (s : List ℕ) (at : ℕ) (ts : List Token) : Type 0 where
@@ -116,7 +121,8 @@ pub record IsTokens (s : List ℕ) (at : ℕ) (ts : List Token) : Type 0 where
   pub reads : Reads s at ts end
   pub no_more : past_blank s end ≡ length s
 
--- after some tokens, read from `at` on, and after blanks, no token begins at `bad` and the text has not ended
+-- after some tokens, read from `at` on, and after blanks, no token begins at `bad` and the text
+-- has not ended
 pub record IsBadAt (s : List ℕ) (at bad : ℕ) : Type 0 where
   pub tokens : List Token
   pub end : ℕ
@@ -129,7 +135,8 @@ pub record IsBadAt (s : List ℕ) (at bad : ℕ) : Type 0 where
 abbrev pub source : List ℕ → Token → List ℕ
 source s t = take (t.to - t.from) (drop t.from s)
 
--- the token has bytes, its ends stand between characters of the text, and its source means something
+-- the token has bytes, its ends stand between characters of the text, and its source means
+-- something
 pub record IsTokenOf (s : List ℕ) (t : Token) : Type 0 where
   pub not_empty : t.from < t.to
   pub begins : IsCharBoundary s t.from

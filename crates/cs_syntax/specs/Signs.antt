@@ -6,11 +6,29 @@ use Rattle.cs_syntax.specs.declared.sign.Sign.TheVariants.{FatArrow, EqEq, Ne, L
 
 -- each sign as it is written, in the order of the bytes
 abbrev pub signs : List (List ℕ × Sign)
-signs = (codes "!", Not) ∷ (codes "!=", Ne) ∷ (codes "%", Percent) ∷ (codes "&&", AndAnd) ∷ (codes "(", OpenParen) ∷ (codes ")", CloseParen)
-    ∷ (codes "*", Star) ∷ (codes "**", StarStar) ∷ (codes "+", Plus) ∷ (codes ",", Comma) ∷ (codes "-", Minus) ∷ (codes "->", Arrow)
-    ∷ (codes ".", Dot) ∷ (codes "..", DotDot) ∷ (codes "...", DotDotDot) ∷ (codes "/", Slash) ∷ (codes ":", Colon) ∷ (codes "::", ColonColon)
-    ∷ (codes "<", Lt) ∷ (codes "<=", Le) ∷ (codes "==", EqEq) ∷ (codes "=>", FatArrow) ∷ (codes ">", Gt) ∷ (codes ">=", Ge)
-    ∷ (codes "@", At) ∷ (codes "[", OpenBracket) ∷ (codes "]", CloseBracket) ∷ (codes "^", Caret) ∷ (codes "{", OpenBrace)
+signs = (codes "!", Not) ∷ (codes "!=", Ne) ∷ (codes "%", Percent) ∷ (codes "&&", AndAnd) ∷ (
+  codes
+      "(",
+  OpenParen,
+) ∷ (codes ")", CloseParen)
+    ∷ (codes "*", Star) ∷ (codes "**", StarStar) ∷ (codes "+", Plus) ∷ (codes ",", Comma) ∷ (
+      codes
+          "-",
+      Minus,
+    ) ∷ (codes "->", Arrow)
+    ∷ (codes ".", Dot) ∷ (codes "..", DotDot) ∷ (codes "...", DotDotDot) ∷ (
+      codes "/",
+      Slash,
+    ) ∷ (codes ":", Colon) ∷ (codes "::", ColonColon)
+    ∷ (codes "<", Lt) ∷ (codes "<=", Le) ∷ (codes "==", EqEq) ∷ (codes "=>", FatArrow) ∷ (
+      codes
+          ">",
+      Gt,
+    ) ∷ (codes ">=", Ge)
+    ∷ (codes "@", At) ∷ (codes "[", OpenBracket) ∷ (codes "]", CloseBracket) ∷ (
+      codes "^",
+      Caret,
+    ) ∷ (codes "{", OpenBrace)
     ∷ (codes "|", Pipe) ∷ (codes "||", OrOr) ∷ (codes "}", CloseBrace) ∷ []
 
 -- the sign that is written so

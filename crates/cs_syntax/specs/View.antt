@@ -57,22 +57,28 @@ step_step (Step-F.Project es) = project (entries_of es.items)
 step_step (Step-F.Pipe name keys) = pipe name (keys_of keys.items)
 
 unfoldable pub expression : Expr → Expression
-expression = fold-Expr Argument Element Entry Expression Step OrderKey arg_step elem_step entry_step expr_step step_step order_key_step
+expression = fold-Expr Argument Element Entry Expression Step OrderKey arg_step elem_step
+    entry_step expr_step step_step order_key_step
 
 unfoldable pub step : CodeStep → Step
-step = fold-Step Argument Element Entry Expression Step OrderKey arg_step elem_step entry_step expr_step step_step order_key_step
+step = fold-Step Argument Element Entry Expression Step OrderKey arg_step elem_step entry_step
+    expr_step step_step order_key_step
 
 unfoldable pub entry : CodeEntry → Entry
-entry = fold-Entry Argument Element Entry Expression Step OrderKey arg_step elem_step entry_step expr_step step_step order_key_step
+entry = fold-Entry Argument Element Entry Expression Step OrderKey arg_step elem_step entry_step
+    expr_step step_step order_key_step
 
 unfoldable pub elem : Elem → Element
-elem = fold-Elem Argument Element Entry Expression Step OrderKey arg_step elem_step entry_step expr_step step_step order_key_step
+elem = fold-Elem Argument Element Entry Expression Step OrderKey arg_step elem_step entry_step
+    expr_step step_step order_key_step
 
 unfoldable pub arg : Arg → Argument
-arg = fold-Arg Argument Element Entry Expression Step OrderKey arg_step elem_step entry_step expr_step step_step order_key_step
+arg = fold-Arg Argument Element Entry Expression Step OrderKey arg_step elem_step entry_step
+    expr_step step_step order_key_step
 
 unfoldable pub key : CodeOrderKey → OrderKey
-key = fold-OrderKey Argument Element Entry Expression Step OrderKey arg_step elem_step entry_step expr_step step_step order_key_step
+key = fold-OrderKey Argument Element Entry Expression Step OrderKey arg_step elem_step entry_step
+    expr_step step_step order_key_step
 
 -- the lists of a tree
 unfoldable pub operands : List (BinSign × Expr) → List (BinSign × Expression)

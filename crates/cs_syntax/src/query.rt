@@ -1,3 +1,4 @@
+// Queries: expressions without a fault.
 ghost use Rattle.std.specs.Prelude.{◌≡◌, None, true};
 ghost use Rattle.cs_value.specs.Tree.{null as null_tree};
 ghost use Rattle.cs_value.specs.View.{tree};
@@ -10,7 +11,8 @@ use cs_value::Val;
 
 /// A query: an expression that has no fault. Contracts speak of it by its expression.
 ///
-/// It keeps the null that `@` is outside of all scopes, so that an evaluation can lend it for as long
+/// It keeps the null that `@` is outside of all scopes, so that an evaluation can lend it for as
+/// long
 /// as it lends parts of the query.
 #[derive(Drop)]
 pub struct Query {

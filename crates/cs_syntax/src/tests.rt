@@ -1,3 +1,4 @@
+// Tokens of small texts, and what they mean.
 ghost use Rattle.cs_syntax.specs.Lex.{IsTokenOf};
 
 use super::*;
@@ -66,92 +67,96 @@ fn meanings(alloc: Global, text: &str) -> Result<String, Fail> {
     Ok(shown)
 }
 
+// Texts, each with its tokens.
+static LONGEST: [(&str, &str); 11] = [
+    ("", ""),
+    (" \t\r\n//", ""),
+    ("a//b\nc //\rd\ne/ /f //", "Wa Wc We S/ S/ Wf"),
+    (
+        "* ** *** *[0] ... .... ..... a..b",
+        "S* S** S** S* S* S[ N0 S] S... S... S. S... S.. Wa S.. Wb",
+    ),
+    (
+        "=> == != ! <=> >= && ||| -> --> :: :::",
+        "S=> S== S!= S! S<= S> S>= S&& S|| S| S-> S- S-> S:: S:: S:",
+    ),
+    (
+        "a@^%+-(),{}<>:",
+        "Wa S@ S^ S% S+ S- S( S) S, S{ S} S< S> S:",
+    ),
+    (
+        "1 0 01 00 1.5 1. 1.e5 1..2 1...2 1.5.5",
+        "N1 N0 N0 N1 N0 N0 N1.5 N1 S. N1 S. We5 N1 S.. N2 N1 S... N2 N1.5 S. N5",
+    ),
+    (
+        "1e5 1E+5 1e-05 1e 1e+ 1e+x 1.5e5 1.5e 0x1 1a",
+        "N1e5 N1E+5 N1e-05 N1 We N1 We S+ N1 We S+ Wx N1.5e5 N1.5 We N0 Wx1 N1 Wa",
+    ),
+    (
+        "a _a1 a_ $a $a1$b $_ a$b nullin 1in[1]",
+        "Wa W_a1 Wa_ P$a P$a1 P$b P$_ Wa P$b Wnullin N1 Win S[ N1 S]",
+    ),
+    (
+        "\"\" '' \"a\"'b' \"'\" '\"' \"\\\"\" \"é//\n\" \"//\"//",
+        "T\"\" T'' T\"a\" T'b' T\"'\" T'\"' T\"\\\"\" T\"é//\n\" T\"//\"",
+    ),
+    (
+        "\"\\u0041\" \"\\u{1F600}\" \"\\uD83D\\uDE00\"",
+        "T\"\\u0041\" T\"\\u{1F600}\" T\"\\uD83D\\uDE00\"",
+    ),
+];
+
 #[test]
 fn reads_the_longest_tokens(rt: HostRuntime) -> Result<(), Fail> {
-    let cases = [
-        ("", ""),
-        (" \t\r\n//", ""),
-        ("a//b\nc //\rd\ne/ /f //", "Wa Wc We S/ S/ Wf"),
-        (
-            "* ** *** *[0] ... .... ..... a..b",
-            "S* S** S** S* S* S[ N0 S] S... S... S. S... S.. Wa S.. Wb",
-        ),
-        (
-            "=> == != ! <=> >= && ||| -> --> :: :::",
-            "S=> S== S!= S! S<= S> S>= S&& S|| S| S-> S- S-> S:: S:: S:",
-        ),
-        (
-            "a@^%+-(),{}<>:",
-            "Wa S@ S^ S% S+ S- S( S) S, S{ S} S< S> S:",
-        ),
-        (
-            "1 0 01 00 1.5 1. 1.e5 1..2 1...2 1.5.5",
-            "N1 N0 N0 N1 N0 N0 N1.5 N1 S. N1 S. We5 N1 S.. N2 N1 S... N2 N1.5 S. N5",
-        ),
-        (
-            "1e5 1E+5 1e-05 1e 1e+ 1e+x 1.5e5 1.5e 0x1 1a",
-            "N1e5 N1E+5 N1e-05 N1 We N1 We S+ N1 We S+ Wx N1.5e5 N1.5 We N0 Wx1 N1 Wa",
-        ),
-        (
-            "a _a1 a_ $a $a1$b $_ a$b nullin 1in[1]",
-            "Wa W_a1 Wa_ P$a P$a1 P$b P$_ Wa P$b Wnullin N1 Win S[ N1 S]",
-        ),
-        (
-            "\"\" '' \"a\"'b' \"'\" '\"' \"\\\"\" \"é//\n\" \"//\"//",
-            "T\"\" T'' T\"a\" T'b' T\"'\" T'\"' T\"\\\"\" T\"é//\n\" T\"//\"",
-        ),
-        (
-            "\"\\u0041\" \"\\u{1F600}\" \"\\uD83D\\uDE00\"",
-            "T\"\\u0041\" T\"\\u{1F600}\" T\"\\uD83D\\uDE00\"",
-        ),
-    ];
-    for (text, wanted) in cases {
+    for (text, wanted) in LONGEST {
         let found = sources(rt.alloc(), text)?;
         assert_eq!(rt; found.as_str(), wanted, "of {text}");
     }
     Ok(())
 }
 
+// Texts, each with its first place without a token.
+static BAD_PLACES: [(&str, &str); 35] = [
+    ("#", "bad 0"),
+    ("a #", "bad 2"),
+    ("é", "bad 0"),
+    ("aé", "bad 1"),
+    ("\" ", "bad 0"),
+    ("\"a", "bad 0"),
+    ("'a\"", "bad 0"),
+    ("\"\\\"", "bad 0"),
+    ("\"\\a\"", "bad 0"),
+    ("\"\\u004\"", "bad 0"),
+    ("\"\\uD83D\"", "bad 0"),
+    ("\"\\uDE00\"", "bad 0"),
+    ("\"\\uD83D\\u0041\"", "bad 0"),
+    ("\"\\uD83D\\u{DE00}\"", "bad 0"),
+    ("\"\\u{}\"", "bad 0"),
+    ("\"\\u{0000041}\"", "bad 0"),
+    ("\"\\u{110000}\"", "bad 0"),
+    ("\"\\u{D800}\"", "bad 0"),
+    ("\"\\u{12\"", "bad 0"),
+    ("a \"\\x\"", "bad 2"),
+    ("=", "bad 0"),
+    ("a = b", "bad 2"),
+    ("&", "bad 0"),
+    ("1 & 2", "bad 2"),
+    ("$", "bad 0"),
+    ("$ a", "bad 0"),
+    ("$1", "bad 0"),
+    ("a ; b", "bad 2"),
+    ("// a\n#", "bad 5"),
+    (" \x0b", "bad 1"),
+    ("~", "bad 0"),
+    ("`", "bad 0"),
+    ("?", "bad 0"),
+    ("\"a\" \"b", "bad 4"),
+    ("1.5é", "bad 3"),
+];
+
 #[test]
 fn finds_the_first_bad_place(rt: HostRuntime) -> Result<(), Fail> {
-    let cases = [
-        ("#", "bad 0"),
-        ("a #", "bad 2"),
-        ("é", "bad 0"),
-        ("aé", "bad 1"),
-        ("\" ", "bad 0"),
-        ("\"a", "bad 0"),
-        ("'a\"", "bad 0"),
-        ("\"\\\"", "bad 0"),
-        ("\"\\a\"", "bad 0"),
-        ("\"\\u004\"", "bad 0"),
-        ("\"\\uD83D\"", "bad 0"),
-        ("\"\\uDE00\"", "bad 0"),
-        ("\"\\uD83D\\u0041\"", "bad 0"),
-        ("\"\\uD83D\\u{DE00}\"", "bad 0"),
-        ("\"\\u{}\"", "bad 0"),
-        ("\"\\u{0000041}\"", "bad 0"),
-        ("\"\\u{110000}\"", "bad 0"),
-        ("\"\\u{D800}\"", "bad 0"),
-        ("\"\\u{12\"", "bad 0"),
-        ("a \"\\x\"", "bad 2"),
-        ("=", "bad 0"),
-        ("a = b", "bad 2"),
-        ("&", "bad 0"),
-        ("1 & 2", "bad 2"),
-        ("$", "bad 0"),
-        ("$ a", "bad 0"),
-        ("$1", "bad 0"),
-        ("a ; b", "bad 2"),
-        ("// a\n#", "bad 5"),
-        (" \x0b", "bad 1"),
-        ("~", "bad 0"),
-        ("`", "bad 0"),
-        ("?", "bad 0"),
-        ("\"a\" \"b", "bad 4"),
-        ("1.5é", "bad 3"),
-    ];
-    for (text, wanted) in cases {
+    for (text, wanted) in BAD_PLACES {
         let found = sources(rt.alloc(), text)?;
         assert_eq!(rt; found.as_str(), wanted, "of {text}");
     }

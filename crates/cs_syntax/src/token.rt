@@ -1,3 +1,4 @@
+// The tokens of a text.
 ghost use Rattle.std.specs.Prelude.{◌≡◌, ◌^◌, ◌<◌, All, IfErr, IfOk, Some, length, vec_len};
 ghost use Rattle.cs_syntax.specs.declared.token.Kind.TheVariants as kind;
 ghost use Rattle.cs_syntax.specs.Expression.{param_tok};

@@ -1,3 +1,5 @@
+// The syntax tree of a query.
+
 use cs_value::Txt;
 
 /// A binary operator as it is written.

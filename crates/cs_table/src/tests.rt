@@ -1,4 +1,4 @@
-//! Each row of a table is found, and no other.
+// Tables of a few rows.
 use super::*;
 
 #[derive(Clone, Copy)]

@@ -99,7 +99,9 @@ decreases-operators::sum l = 16 * (length l.ts.now - l.at) + 6
 abbrev pub invariant-bases::arguments-loop-all : goal.invariant-bases::arguments-loop-all
 invariant-bases::arguments-loop-all l = record {
   from : l.at ≤ l.left;
-  reads : (w : List ℕ) (o : Outcome) → Reads (args_from w (arguments l.all.items)) (left l.ts l.left) o → Reads (args_from w []) (left l.ts l.at) o;
+  reads : (w : List ℕ) (o : Outcome) →
+      Reads (args_from w (arguments l.all.items)) (left l.ts l.left) o →
+      Reads (args_from w []) (left l.ts l.at) o;
 }
 
 abbrev pub decreases-bases::arguments-loop-all : goal.decreases-bases::arguments-loop-all
@@ -108,7 +110,8 @@ decreases-bases::arguments-loop-all l = length l.ts - l.left
 abbrev pub invariant-bases::elements-loop-rest : goal.invariant-bases::elements-loop-rest
 invariant-bases::elements-loop-rest l = record {
   from : l.at ≤ l.left;
-  reads : (o : Outcome) → Reads (elements_from (elements l.all.items)) (left l.ts l.left) o → Reads (elements_from []) (left l.ts l.at) o;
+  reads : (o : Outcome) → Reads (elements_from (elements l.all.items)) (left l.ts l.left) o →
+      Reads (elements_from []) (left l.ts l.at) o;
 }
 
 abbrev pub decreases-bases::elements-loop-rest : goal.decreases-bases::elements-loop-rest
@@ -118,7 +121,9 @@ abbrev pub invariant-chains::chain-loop-after_arrow : goal.invariant-chains::cha
 invariant-chains::chain-loop-after_arrow l = record {
   from : l.after_first ≤ l.left;
   to : l.left ≤ length l.ts;
-  reads : (o : Outcome) → Reads (steps_from (expression l.first.value) (steps l.steps.items)) (left l.ts l.left) o → Reads (steps_from (expression l.first.value) []) (left l.ts l.after_first) o;
+  reads : (o : Outcome) →
+      Reads (steps_from (expression l.first.value) (steps l.steps.items)) (left l.ts l.left) o →
+      Reads (steps_from (expression l.first.value) []) (left l.ts l.after_first) o;
 }
 
 abbrev pub decreases-chains::chain-loop-after_arrow : goal.decreases-chains::chain-loop-after_arrow
@@ -127,7 +132,9 @@ decreases-chains::chain-loop-after_arrow l = length l.ts - l.left
 abbrev pub invariant-chains::keys-loop-all : goal.invariant-chains::keys-loop-all
 invariant-chains::keys-loop-all l = record {
   from : l.at ≤ l.left;
-  reads : (e : Expression) (ss : List Step) (w : List ℕ) (o : Outcome) → Reads (keys_from e ss w (keys l.all.items)) (left l.ts l.left) o → Reads (keys_from e ss w []) (left l.ts l.at) o;
+  reads : (e : Expression) (ss : List Step) (w : List ℕ) (o : Outcome) →
+      Reads (keys_from e ss w (keys l.all.items)) (left l.ts l.left) o →
+      Reads (keys_from e ss w []) (left l.ts l.at) o;
 }
 
 abbrev pub decreases-chains::keys-loop-all : goal.decreases-chains::keys-loop-all
@@ -136,7 +143,8 @@ decreases-chains::keys-loop-all l = length l.ts - l.left
 abbrev pub invariant-objects::entries-loop-rest : goal.invariant-objects::entries-loop-rest
 invariant-objects::entries-loop-rest l = record {
   from : l.at ≤ l.left;
-  reads : (o : Outcome) → Reads (entries_from (entries l.all.items)) (left l.ts l.left) o → Reads (entries_from []) (left l.ts l.at) o;
+  reads : (o : Outcome) → Reads (entries_from (entries l.all.items)) (left l.ts l.left) o →
+      Reads (entries_from []) (left l.ts l.at) o;
 }
 
 abbrev pub decreases-objects::entries-loop-rest : goal.decreases-objects::entries-loop-rest
@@ -146,7 +154,10 @@ abbrev pub invariant-operators::left_run-loop-sign : goal.invariant-operators::l
 invariant-operators::left_run-loop-sign l = record {
   from : l.at ≤ l.left;
   to : l.left ≤ length l.ts;
-  reads : (o : Outcome) → Reads (run_from l.level (expression l.first.value) (operands l.operands.items)) (left l.ts l.left) o → Reads (run_from l.level (expression l.first.value) []) (left l.ts l.at) o;
+  reads : (o : Outcome) →
+      Reads (run_from l.level (expression l.first.value) (operands l.operands.items))
+      (left l.ts l.left) o →
+      Reads (run_from l.level (expression l.first.value) []) (left l.ts l.at) o;
 }
 
 abbrev pub decreases-operators::left_run-loop-sign : goal.decreases-operators::left_run-loop-sign
@@ -155,7 +166,8 @@ decreases-operators::left_run-loop-sign l = length l.ts - l.left
 abbrev pub invariant-operators::negation-loop-rest : goal.invariant-operators::negation-loop-rest
 invariant-operators::negation-loop-rest l = record {
   from : l.at ≤ l.left;
-  reads : (o : Outcome) → Reads (neg_from l.signs.items) (left l.ts l.left) o → Reads (neg_from []) (left l.ts l.at) o;
+  reads : (o : Outcome) → Reads (neg_from l.signs.items) (left l.ts l.left) o →
+      Reads (neg_from []) (left l.ts l.at) o;
 }
 
 abbrev pub decreases-operators::negation-loop-rest : goal.decreases-operators::negation-loop-rest
@@ -165,7 +177,9 @@ abbrev pub invariant-operators::power-loop-after_sign : goal.invariant-operators
 invariant-operators::power-loop-after_sign l = record {
   from : l.after_first ≤ l.left;
   to : l.left ≤ length l.ts;
-  reads : (o : Outcome) → Reads (pow_from (expression l.first.value) (operands l.operands.items)) (left l.ts l.left) o → Reads (pow_from (expression l.first.value) []) (left l.ts l.after_first) o;
+  reads : (o : Outcome) →
+      Reads (pow_from (expression l.first.value) (operands l.operands.items)) (left l.ts l.left)
+      o → Reads (pow_from (expression l.first.value) []) (left l.ts l.after_first) o;
 }
 
 abbrev pub decreases-operators::power-loop-after_sign : goal.decreases-operators::power-loop-after_sign
@@ -174,7 +188,8 @@ decreases-operators::power-loop-after_sign l = length l.ts - l.left
 abbrev pub invariant-operators::prefixed-loop-sign : goal.invariant-operators::prefixed-loop-sign
 invariant-operators::prefixed-loop-sign l = record {
   from : l.at ≤ l.left;
-  reads : (o : Outcome) → Reads (pre_from l.signs.items) (left l.ts l.left) o → Reads (pre_from []) (left l.ts l.at) o;
+  reads : (o : Outcome) → Reads (pre_from l.signs.items) (left l.ts l.left) o →
+      Reads (pre_from []) (left l.ts l.at) o;
 }
 
 abbrev pub decreases-operators::prefixed-loop-sign : goal.decreases-operators::prefixed-loop-sign

@@ -6,4 +6,5 @@ use Rattle.cs_faults.proofs.calls.check_call.Goals as goal
 
 pub returns-in-None : goal.returns-in-None
 returns-in-None c = ap Some c.no_function.ensures
-    ∙ sym (call_of_no_function c.args.name.now (arguments_of (map arg c.args.args.now)) (sym c.in-None.ensures))
+    ∙ sym (call_of_no_function c.args.name.now (arguments_of (map arg c.args.args.now))
+    (sym c.in-None.ensures))

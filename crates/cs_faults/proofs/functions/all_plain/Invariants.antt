@@ -5,4 +5,5 @@ use Rattle.cs_syntax.specs.View.{arg}
 use Rattle.cs_faults.proofs.functions.all_plain.Given as goal
 
 abbrev pub invariant-loop-argument : goal.invariant-loop-argument
-invariant-loop-argument l = all_plain (arguments_of (map arg l.args)) ≡ all_plain (arguments_of (map arg (drop l.argument-index l.args)))
+invariant-loop-argument l = all_plain (arguments_of (map arg l.args))
+    ≡ all_plain (arguments_of (map arg (drop l.argument-index l.args)))

@@ -8,4 +8,5 @@ each : All (λ (row : List ℕ × Arity). arity_of row.0 ≡ Some row.1) functio
 each = search rules
 
 pub returns : goal.returns
-returns c = λ row there. All-contains (λ (row : List ℕ × Arity). arity_of row.0 ≡ Some row.1) functions row each there
+returns c = λ row there. All-contains (λ (row : List ℕ × Arity). arity_of row.0
+    ≡ Some row.1) functions row each there

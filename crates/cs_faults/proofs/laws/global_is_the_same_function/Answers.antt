@@ -9,4 +9,5 @@ each = search rules
 
 pub returns : goal.returns
 returns c = λ row there.
-    All-contains (λ (row : List ℕ × Arity). arity_of (without_global row.0) ≡ Some row.1) functions row each there
+    All-contains (λ (row : List ℕ × Arity). arity_of (without_global row.0)
+    ≡ Some row.1) functions row each there

@@ -8,6 +8,9 @@ use Rattle.cs_faults.proofs.walk.+check_first.Goals as goal
 
 pub returns-in-Call : goal.returns-in-Call
 returns-in-Call t c = c.check_call.ensures
-    ∙ ap (λ (s : List ℕ). first_of (call_faults s (arguments_of (map arg c.deref.result.now)))) c.as_str-in-Call.ensures
-    ∙ ap (λ (xs : List Arg). first_of (call_faults c.in-Call.name (arguments_of (map arg xs)))) c.deref.ensures.value
-    ∙ sym (ap (λ e. first_of (at_first e)) (ap expression c.in-Call.is ∙ expression_call c.in-Call.name c.in-Call.args))
+    ∙ ap (λ (s : List ℕ). first_of (call_faults s (arguments_of (map arg c.deref.result.now))))
+    c.as_str-in-Call.ensures
+    ∙ ap (λ (xs : List Arg). first_of (call_faults c.in-Call.name (arguments_of (map arg xs))))
+    c.deref.ensures.value
+    ∙ sym (ap (λ e. first_of (at_first e)) (ap expression c.in-Call.is
+    ∙ expression_call c.in-Call.name c.in-Call.args))

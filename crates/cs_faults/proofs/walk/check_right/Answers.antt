@@ -8,6 +8,9 @@ use Rattle.cs_faults.proofs.walk.check_right.Goals as goal
 
 pub returns-in-Call : goal.returns-in-Call
 returns-in-Call c = c.check_right_call.ensures
-    ∙ ap (λ (s : List ℕ). first_of (right_call_faults s (arguments_of (map arg c.deref.result.now)))) c.as_str.ensures
-    ∙ ap (λ (xs : List Arg). first_of (right_call_faults c.in-Call.name (arguments_of (map arg xs)))) c.deref.ensures.value
-    ∙ sym (ap (λ e. first_of (at_right e)) (ap expression c.in-Call.is ∙ expression_call c.in-Call.name c.in-Call.args))
+    ∙ ap (λ (s : List ℕ). first_of
+    (right_call_faults s (arguments_of (map arg c.deref.result.now)))) c.as_str.ensures
+    ∙ ap (λ (xs : List Arg). first_of
+    (right_call_faults c.in-Call.name (arguments_of (map arg xs)))) c.deref.ensures.value
+    ∙ sym (ap (λ e. first_of (at_right e)) (ap expression c.in-Call.is
+    ∙ expression_call c.in-Call.name c.in-Call.args))

@@ -8,8 +8,14 @@ loop-rest-preserved c =
     record {
       from = omega (arith, c.in-Some.ensures.next.0);
       to = c.in-Some.ensures.next.1;
-      few = omega (arith, c.in-Some.ensures.next.0, c.loop-rest.invariant.few, c.loop-rest.invariant.from);
-      reads = λ o h. c.loop-rest.invariant.reads o (reads_caret_more _ (sym c.in-Some.ensures.same) h);
+      few = omega (
+        arith,
+        c.in-Some.ensures.next.0,
+        c.loop-rest.invariant.few,
+        c.loop-rest.invariant.from,
+      );
+      reads = λ o h. c.loop-rest.invariant.reads o
+          (reads_caret_more _ (sym c.in-Some.ensures.same) h);
     }
 
 pub returns-clause-read : goal.returns-clause-read

@@ -8,7 +8,8 @@ invariant-loop-rest l = record {
   from : l.at ≤ l.left;
   to : l.left ≤ length l.ts;
   few : 2 * l.levels ≤ l.left - l.at + 2;
-  reads : (o : Outcome) → Reads (carets_from l.levels) (left l.ts l.left) o → Reads (carets_from 1) (left l.ts l.at) o;
+  reads : (o : Outcome) → Reads (carets_from l.levels) (left l.ts l.left) o →
+      Reads (carets_from 1) (left l.ts l.at) o;
 }
 
 abbrev pub decreases-loop-rest : goal.decreases-loop-rest

@@ -3,4 +3,5 @@ use Rattle.cs_parse.specs.Verdict.{reading}
 use Rattle.cs_parse.proofs.query.parse.Goals as goal
 
 pub returns : goal.returns
-returns c = IfSome_then (reading c.read_text.result) c.read_text.ensures (λ r h. (c.reading_is_verdict.ensures c.args.text.now r).0 h)
+returns c = IfSome_then (reading c.read_text.result) c.read_text.ensures
+    (λ r h. (c.reading_is_verdict.ensures c.args.text.now r).0 h)

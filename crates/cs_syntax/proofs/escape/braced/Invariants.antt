@@ -5,7 +5,8 @@ use Rattle.cs_syntax.proofs.escape.braced.Given as goal
 
 abbrev pub invariant-loop-digits : goal.invariant-loop-digits
 invariant-loop-digits l = record {
-  same : placed l.at (braced l.number l.digits (drop (l.at + 2 + l.digits) l.bytes)) ≡ braced_at l.bytes l.at;
+  same : placed l.at (braced l.number l.digits (drop (l.at + 2 + l.digits) l.bytes))
+      ≡ braced_at l.bytes l.at;
   small : l.number < above l.digits;
   few : l.digits ≤ 6;
   to : l.at + 2 + l.digits ≤ length l.bytes;

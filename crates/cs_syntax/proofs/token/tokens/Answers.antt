@@ -10,13 +10,15 @@ use Rattle.cs_syntax.proofs.token.tokens.Goals.{In-Some}
 found : (c : In-Some) → Found c.args.text.now c.loop-from.from c.kind_of-kind.result c.in-Some.to
 found c =
     let same = c.as_bytes-bytes.ensures.value in
-    found-at c.args.text.now _ c.loop-from.from _ _ same (omega (arith, ap length same)) c.kind_of-kind.ensures c.in-Some.ensures
+    found-at c.args.text.now _ c.loop-from.from _ _ same (omega (arith, ap length same))
+    c.kind_of-kind.ensures c.in-Some.ensures
 
 pub returns-in_default-clause-fault : goal.returns-in_default-clause-fault
 returns-in_default-clause-fault c =
     let same = c.as_bytes-bytes.ensures.value in
     let size = ap length same in
-    let none = missing-at c.args.text.now _ c.loop-from.from _ same (omega arith) c.kind_of-kind.ensures c.in_default.ensures in record {
+    let none = missing-at c.args.text.now _ c.loop-from.from _ same (omega arith)
+    c.kind_of-kind.ensures c.in_default.ensures in record {
       tokens = c.loop-from.found.items;
       end = c.loop-from.end;
       reads = c.loop-from.invariant.reads;
@@ -26,7 +28,8 @@ returns-in_default-clause-fault c =
     }
 
 pub overflow_cast-to : goal.overflow_cast-to
-overflow_cast-to c = let f = found (goal.at.overflow_cast-to c).In-Some in omega (arith, f.within, c.requires)
+overflow_cast-to c = let f = found (goal.at.overflow_cast-to c).In-Some in
+    omega (arith, f.within, c.requires)
 
 pub past_blank-from-requires-in-loop-from : goal.past_blank-from-requires-in-loop-from
 past_blank-from-requires-in-loop-from c =
@@ -43,21 +46,34 @@ pub loop-from-preserved : goal.loop-from-preserved
 loop-from-preserved c =
     let f = found (goal.at.loop-from-preserved c).In-Some in
     let s = c.args.text.now in
-    let t : Token = record { kind = c.kind_of-kind.result; from = c.loop-from.from; to = c.in-Some.to } in
+    let t : Token = record {
+      kind = c.kind_of-kind.result;
+      from = c.loop-from.from;
+      to =
+          c.in-Some.to;
+    } in
     let same = c.as_bytes-bytes.ensures.value in
     let size = ap length same in record {
-      reads = subst (λ (ts : List Token). Reads s 0 ts c.in-Some.to) (sym c.in_ok-push.ensures.items) (reads-push s 0 c.loop-from.found.items c.loop-from.end t c.loop-from.invariant.reads c.loop-from.invariant.place f.longest);
+      reads = subst (λ (ts : List Token). Reads s 0 ts c.in-Some.to)
+          (sym c.in_ok-push.ensures.items)
+          (reads-push s 0 c.loop-from.found.items c.loop-from.end t c.loop-from.invariant.reads
+          c.loop-from.invariant.place f.longest);
       place = search (rules, c.past_blank-from-in-loop-from.ensures.same, same);
       to = omega (arith, c.past_blank-from-in-loop-from.ensures.to);
     }
 
 pub returns-clause-each : goal.returns-clause-each
-returns-clause-each c = each-token c.args.text.now 0 c.loop-from.found.items c.loop-from.end c.utf8.text c.loop-from.invariant.reads
+returns-clause-each c =
+    each-token c.args.text.now 0 c.loop-from.found.items c.loop-from.end c.utf8.text
+    c.loop-from.invariant.reads
 
 pub returns-clause-ascend : goal.returns-clause-ascend
-returns-clause-ascend c = reads-ascend c.args.text.now 0 c.loop-from.found.items c.loop-from.end c.loop-from.invariant.reads
+returns-clause-ascend c =
+    reads-ascend c.args.text.now 0 c.loop-from.found.items c.loop-from.end
+    c.loop-from.invariant.reads
 
 pub returns-clause-count : goal.returns-clause-count
 returns-clause-count c =
-    let n = reads-count c.args.text.now 0 c.loop-from.found.items c.loop-from.end c.loop-from.invariant.reads (omega arith) in
+    let n = reads-count c.args.text.now 0 c.loop-from.found.items c.loop-from.end
+    c.loop-from.invariant.reads (omega arith) in
     omega (arith, n.0, n.1, c.requires, c.loop-from.found.ok.0)
