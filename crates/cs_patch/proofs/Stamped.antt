@@ -75,23 +75,24 @@ stamped-body ps tx moment body shallow created =
     let e = stamped tx moment (object ps) in
     let b = three true (has_id (object ps)) (has_type (object ps)) body in
     let id : attribute (codes "_id") e ≡ find (codes "_id") ps =
-      unstamped (codes "_id") tx moment ps refl in
+    unstamped (codes "_id") tx moment ps refl in
     let type : attribute (codes "_type") e ≡ find (codes "_type") ps =
-      unstamped (codes "_type") tx moment ps refl in
+    unstamped (codes "_type") tx moment ps refl in
     let made : attribute (codes "_createdAt") e ≡ find (codes "_createdAt") ps =
-      unstamped (codes "_createdAt") tx moment ps refl in
-    (whole e (record {
-      body = all_three (is_object e) (has_id e) (has_type e) refl
-        (ap (λ a. passes is_id (option_and_then as_text a)) id ∙ b.1)
-        (ap (λ a. passes (λ s. nat_lt 0 (length s)) (option_and_then as_text a)) type ∙ b.2);
-      shallow =
-        shallow-put (codes "_updatedAt") moment (put (codes "_rev") (text tx) ps)
-          (shallow-put (codes "_rev") tx ps shallow);
-      rev = ap (λ a. is_some (option_and_then as_text a)) (revised tx moment ps);
-      created = ap (λ a. is_some (option_and_then as_text a)) made ∙ created;
-      updated = ap (λ a. is_some (option_and_then as_text a)) (updated tx moment ps);
-    }),
-    ap (λ a. unwrap_or (option_and_then as_text a) []) id)
+    unstamped (codes "_createdAt") tx moment ps refl in (
+      whole e (record {
+        body = all_three (is_object e) (has_id e) (has_type e) refl
+            (ap (λ a. passes is_id (option_and_then as_text a)) id ∙ b.1)
+            (ap (λ a. passes (λ s. nat_lt 0 (length s)) (option_and_then as_text a)) type ∙ b.2);
+        shallow =
+            shallow-put (codes "_updatedAt") moment (put (codes "_rev") (text tx) ps)
+            (shallow-put (codes "_rev") tx ps shallow);
+        rev = ap (λ a. is_some (option_and_then as_text a)) (revised tx moment ps);
+        created = ap (λ a. is_some (option_and_then as_text a)) made ∙ created;
+        updated = ap (λ a. is_some (option_and_then as_text a)) (updated tx moment ps);
+      }),
+      ap (λ a. unwrap_or (option_and_then as_text a) []) id,
+    )
 
 stamped_document : (d : Tree) (ps : Pairs) (tx moment : List ℕ) → is_document d ≡ true
     → Kept d (object ps)
@@ -101,14 +102,18 @@ stamped_document d ps tx moment h k =
     let p = parts d h in
     let b = three (is_object d) (has_id d) (has_type d) p.body in
     let s = stamped-body ps tx moment
-      (all_three true (has_id (object ps)) (has_type (object ps)) refl
-        (ap (λ a. passes is_id (option_and_then as_text a)) (k.keeps.same (codes "_id") refl) ∙ b.1)
-        (ap (λ a. passes (λ s. nat_lt 0 (length s)) (option_and_then as_text a))
-          (k.keeps.same (codes "_type") refl) ∙ b.2))
-      (k.shallow p.shallow)
-      (ap (λ a. is_some (option_and_then as_text a)) (k.keeps.same (codes "_createdAt") refl)
-        ∙ p.created) in
-    (s.0, s.1 ∙ ap (λ a. unwrap_or (option_and_then as_text a) []) (k.keeps.same (codes "_id") refl))
+    (all_three true (has_id (object ps)) (has_type (object ps)) refl
+    (ap (λ a. passes is_id (option_and_then as_text a)) (k.keeps.same (codes "_id") refl) ∙
+    b.1)
+    (ap (λ a. passes (λ s. nat_lt 0 (length s)) (option_and_then as_text a))
+    (k.keeps.same (codes "_type") refl) ∙ b.2))
+    (k.shallow p.shallow)
+    (ap (λ a. is_some (option_and_then as_text a)) (k.keeps.same (codes "_createdAt") refl)
+    ∙ p.created) in (
+      s.0,
+      s.1 ∙ ap (λ a. unwrap_or (option_and_then as_text a) []) (k.keeps.same (codes "_id")
+          refl),
+    )
 
 is_object_of : (d : Tree) → is_document d ≡ true → is_object d ≡ true
 is_object_of d h = (three (is_object d) (has_id d) (has_type d) (parts d h).body).0

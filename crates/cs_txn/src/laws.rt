@@ -13,8 +13,8 @@ pub fn commits_keep_datasets()
     fits_within_and_clean();
 }
 
-/// The changes of an accepted transaction lead from the dataset before to the one after, and the two
-/// sides of each differ.
+/// The changes of an accepted transaction lead from the dataset before to the one after, and the
+/// two sides of each differ.
 pub fn commits_are_their_changes()
     ensures { CommitsAreTheirChanges }
 {
