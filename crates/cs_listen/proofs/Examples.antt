@@ -1,6 +1,6 @@
 -- Which texts may be listened to, and what listeners hear of changes, computed.
-use Rattle.std.proofs.Common.{◌≡◌, ℕ, pos, negsuc, List, [], ◌∷◌, ◌++◌, Bool, true, false, Option, Some, None, is_some, codes, refl}
-use Rattle.cs_value.specs.Tree.{Tree, null, boolean, integer, text, list, object, trees, Pairs, no_pairs, pairs}
+use Rattle.std.proofs.Common.{◌≡◌, ℕ, pos, List, [], ◌∷◌, ◌++◌, Bool, true, false, Option, Some, None, is_some, codes, refl}
+use Rattle.cs_value.specs.Tree.{Tree, integer, text, list, object, trees, Pairs, no_pairs, pairs}
 use Rattle.cs_syntax.specs.Expression.{Expression}
 use Rattle.cs_grammar.specs.Reading.{read}
 use Rattle.cs_parse.specs.Spelling.{expression_in}

@@ -1,16 +1,16 @@
 -- A plain predicate has neither `*` nor `->`.
-use Rattle.std.proofs.Common.{◌≡◌, Bool, true, false, cond, ◌&&◌, List, [], ◌∷◌, refl, ap, sym, ◌∙◌, Option, Some, None, option_map, option_and_then}
+use Rattle.std.proofs.Common.{◌≡◌, Bool, true, false, cond, ◌&&◌, List, [], ◌∷◌, refl, ap, sym, ◌∙◌, Option, Some, None, option_map}
 use Rattle.std.specs.Prelude.{is_some, ◌||◌, ℕ}
-use Rattle.cs_syntax.specs.Expression.{Expression, null_literal, bool_literal, number_literal, text_literal, param, word, this, everything, round, call, array, chain, prefix, run, within, between, Operands, no_operands, more_operands, Step, attr, bracket, Steps, no_steps, more_steps, Element, element, spread_element, Elements, no_elements, more_elements, Arguments, no_arguments, more_arguments, argument, when_argument}
+use Rattle.cs_syntax.specs.Expression.{Expression, null_literal, bool_literal, number_literal, text_literal, param, word, this, everything, round, call, array, chain, prefix, run, within, between, Operands, no_operands, more_operands, attr, bracket, Steps, no_steps, more_steps, element, spread_element, Elements, no_elements, more_elements, Arguments, no_arguments, more_arguments, argument, when_argument}
 use Rattle.cs_syntax.specs.Faults.{is_path}
 use Rattle.cs_syntax.specs.declared.tree.PreSign.{PreSign}
 use Rattle.cs_syntax.specs.declared.tree.PreSign.TheVariants as front
-use Rattle.cs_plan.specs.Simple.{is_quiet, is_filter, quiet_operands, quiet_argument, quiet_arguments, quiet_element, quiet_elements, quiet_step, quiet_steps}
-use Rattle.cs_plan.specs.Steps.{names_of, name_of}
+use Rattle.cs_plan.specs.Simple.{is_quiet, is_filter, quiet_operands, quiet_arguments, quiet_elements, quiet_steps}
+use Rattle.cs_plan.specs.Steps.{names_of}
 use Rattle.cs_func.specs.declared.function.Function.TheVariants.{Count, Length, Defined, StartsWith}
-use Rattle.cs_parts.specs.Operators.{Callee, coalescing, selecting, referring, applying, callee}
+use Rattle.cs_parts.specs.Operators.{Callee, referring, applying, callee}
 use Rattle.cs_parts.proofs.Silent.{both-true}
-use Rattle.cs_listen.specs.Plain.{is_word, is_negative, is_measure, is_operand, is_one, are_operands, are_some, are_two, is_test, are_elements, are_some_elements, is_container, is_compared, is_comparison, is_junction, all_not, is_plain, are_joined, filter_in, filter_alone, listened_filter}
+use Rattle.cs_listen.specs.Plain.{is_word, is_negative, is_measure, is_operand, is_one, are_operands, are_some, are_two, is_test, are_elements, are_some_elements, is_container, is_compared, is_comparison, is_junction, all_not, is_plain, are_joined, filter_alone, listened_filter}
 
 pub both : (a b : Bool) → a ≡ true → b ≡ true → (a && b) ≡ true
 both a b h g = rw (h, g) refl

@@ -7,11 +7,11 @@ use Rattle.cs_syntax.specs.declared.tree.BinSign.TheVariants as sign
 use Rattle.cs_syntax.specs.declared.tree.PreSign.{PreSign}
 use Rattle.cs_syntax.specs.declared.tree.PreSign.TheVariants as front
 use Rattle.cs_syntax.specs.Faults.{is_path}
-use Rattle.cs_syntax.specs.Expression.{Expression, null_literal, bool_literal, number_literal, text_literal, param, word, this, everything, round, call, array, chain, prefix, run, within, between, Operands, no_operands, more_operands, Step, bracket, Steps, no_steps, more_steps, Element, element, spread_element, Elements, no_elements, more_elements, Arguments, no_arguments, more_arguments, argument, when_argument}
+use Rattle.cs_syntax.specs.Expression.{Expression, null_literal, bool_literal, number_literal, text_literal, param, word, this, everything, round, call, array, chain, prefix, run, within, between, Operands, no_operands, more_operands, Step, bracket, Steps, no_steps, more_steps, element, spread_element, Elements, no_elements, more_elements, Arguments, no_arguments, more_arguments, argument, when_argument}
 use Rattle.cs_func.specs.declared.function.Function.TheVariants.{Count, Length, Defined, StartsWith}
 use Rattle.cs_plan.specs.Simple.{is_filter}
 use Rattle.cs_plan.specs.Steps.{names_of, number_of}
-use Rattle.cs_parts.specs.Operators.{Callee, coalescing, selecting, referring, applying, callee}
+use Rattle.cs_parts.specs.Operators.{Callee, referring, applying, callee}
 
 -- An expression is a word alone.
 abbrev pub is_word : Expression → Bool

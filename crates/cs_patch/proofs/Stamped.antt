@@ -1,17 +1,16 @@
 -- The document that a patch comes to, once its operations are done.
-use Rattle.std.proofs.Common.{◌≡◌, ℕ, ℤ, List, [], ◌∷◌, ◌++◌, map, Bool, true, false, ◌&&◌, ◌||◌, Option, Some, None, option_map, option_to_list, length, nat_lt, is_some, option_and_then, unwrap_or, bytes_eq, codes, refl, sym, ap, subst, ◌∙◌}
+use Rattle.std.proofs.Common.{◌≡◌, ℕ, List, [], ◌∷◌, ◌++◌, map, Bool, true, false, ◌&&◌, Option, Some, None, option_map, option_to_list, length, nat_lt, is_some, option_and_then, unwrap_or, bytes_eq, codes, refl, sym, ap, subst, ◌∙◌}
 use Rattle.cs_value.specs.Tree.{Tree, null, boolean, integer, text, list, object, Pairs}
 use Rattle.cs_value.specs.Pairs.{attribute, find, put}
 use Rattle.cs_value.specs.Id.{is_id}
 use Rattle.cs_value.specs.Words.{is_object, as_text}
 use Rattle.cs_view.specs.Document.{passes, is_document, is_shallow, is_body, has_id, has_type, has_text, id_of, rev_of}
 use Rattle.cs_view.proofs.Booleans.{or-left, or-right}
-use Rattle.cs_view.proofs.Documents.{Parts, parts, whole}
+use Rattle.cs_view.proofs.Documents.{parts, whole}
 use Rattle.cs_patch.specs.Laws.{is_stamp}
-use Rattle.cs_patch.specs.Operations.{Outcome, document, refused, and_then, Insertion, set_path, set_missing_path, unset_path, inc_path, dec_path}
+use Rattle.cs_patch.specs.Operations.{Outcome, document, and_then, Insertion, set_path, set_missing_path, unset_path, inc_path, dec_path}
 use Rattle.cs_patch.specs.Patched.{Patch, paths, in_turn, maybe_insert, operations, stamped, revision_refusal, worked, patched}
 use Rattle.cs_patch.proofs.Fixed.{other-put, same-put, shallow-put}
-use Rattle.cs_patch.proofs.Kept.{Keeps}
 use Rattle.cs_patch.proofs.Worked.{AreRead, Kept, refusing, then_is, same_document, operations-kept}
 
 -- what a patched document was before its stamps
