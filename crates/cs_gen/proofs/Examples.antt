@@ -1,10 +1,10 @@
 -- Small generated scripts, computed, and the summary of some replies.
-use Rattle.std.proofs.Common.{◌≡◌, ℕ, pos, List, [], ◌∷◌, ◌++◌, None, Some, length, codes, refl}
+use Rattle.std.proofs.Common.{◌≡◌, ℕ, pos, [], ◌∷◌, ◌++◌, None, Some, length, codes, refl}
 use Rattle.std.specs.Fmt.{digits}
 use Rattle.cs_value.specs.Tree.{Tree, integer, null, object, pairs}
 use Rattle.cs_reply.specs.Refusal.{no_key}
 use Rattle.cs_reply.specs.Reply.{found, live, welcome, committed, event, appear, refused}
-use Rattle.cs_gen.specs.Generated.{generated, created_line, deleted_line}
+use Rattle.cs_gen.specs.Generated.{generated, created_line}
 use Rattle.cs_gen.specs.Summary.{summary}
 
 abbrev whole : ℕ → Tree

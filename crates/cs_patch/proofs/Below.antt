@@ -1,15 +1,15 @@
 -- The targets of a path that is written as a text lie below the document itself.
-use Rattle.std.proofs.Common.{◌≡◌, ℕ, List, [], ◌∷◌, ◌++◌, map, reverse, filter, Bool, true, false, ◌&&◌, ◌||◌, not, cond, Option, Some, None, refl, sym, ap, subst, ◌∙◌}
+use Rattle.std.proofs.Common.{◌≡◌, ℕ, List, [], ◌∷◌, ◌++◌, map, reverse, filter, Bool, true, false, ◌&&◌, ◌||◌, not, cond, Some, None, refl, sym, ap, subst, ◌∙◌}
 use Rattle.std.proofs.lemmas.List.{reverse-reverse}
 use Rattle.std.specs.List.{list_any, list_all}
 use Rattle.cs_value.specs.Tree.{Tree}
-use Rattle.cs_jsonmatch.specs.Path.{Step, Path}
+use Rattle.cs_jsonmatch.specs.Path.{Path}
 use Rattle.cs_jsonmatch.specs.Grammar.{IsPath, first_name, first_bracket, first_deep_name, first_deep_bracket, next_name, next_bracket, next_deep_name, next_deep_bracket}
 use Rattle.cs_jsonmatch.specs.Places.{Location, Trail, parts, trails, leads, places}
-use Rattle.cs_jsonmatch.specs.Verdict.{PathReading, spelled, IsPathRead, path_verdict}
+use Rattle.cs_jsonmatch.specs.Verdict.{spelled, IsPathRead, path_verdict}
 use Rattle.cs_jsonmatch.specs.declared.places.Part.TheVariants.{Name}
 use Rattle.cs_patch.specs.Within.{at, Reach, present, absent, blocked, reach, is_inside}
-use Rattle.cs_patch.specs.Targets.{if_some, plain_name, cut, run_of, prefix_of, Target, location, target_by, targets_from, outermost, made_targets, place_targets}
+use Rattle.cs_patch.specs.Targets.{if_some, plain_name, cut, run_of, prefix_of, Target, location, target_by, targets_from, made_targets, place_targets}
 use Rattle.cs_view.proofs.Booleans.{and-left, and-right, both}
 use Rattle.cs_patch.proofs.Kept.{is_below}
 

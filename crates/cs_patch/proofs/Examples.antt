@@ -1,9 +1,9 @@
 -- What patches make of small documents, computed.
-use Rattle.std.proofs.Common.{◌≡◌, ℕ, zero, suc, ℤ, pos, negsuc, List, [], ◌∷◌, ◌++◌, true, false, Option, Some, None, codes, refl}
-use Rattle.cs_value.specs.Tree.{Tree, null, boolean, integer, text, list, object, trees, pairs}
+use Rattle.std.proofs.Common.{◌≡◌, ℕ, zero, suc, ℤ, pos, negsuc, List, [], ◌∷◌, Option, Some, None, codes, refl}
+use Rattle.cs_value.specs.Tree.{Tree, null, integer, text, list, object, trees, pairs}
 use Rattle.cs_jsonmatch.specs.Verdict.{path_verdict}
 use Rattle.cs_patch.specs.Inserted.{Side, before, after, replace}
-use Rattle.cs_patch.specs.Operations.{Outcome, document, refused, revision, no_path, not_number, overflow, not_array, immutable, too_deep, Insertion}
+use Rattle.cs_patch.specs.Operations.{document, refused, revision, no_path, not_number, overflow, not_array, immutable, too_deep, Insertion}
 use Rattle.cs_patch.specs.Patched.{Patch, patched}
 
 abbrev whole : ℕ → Tree
@@ -648,9 +648,128 @@ each_on_the_one_before :
 unfolding path_verdict
 each_on_the_one_before = refl
 
+-- an absent target inside a target that is there is dropped, and not made
+inside_a_target_nothing_is_made :
+    patched (setting_missing ((codes "..a.b", whole 1) ∷ []))
+    (doc ((codes "a", obj ((codes "b", obj ((codes "a", obj []) ∷ [])) ∷ [])) ∷ []))
+    (codes "t2")
+    (codes "m2")
+    ≡ document
+    (patched_doc ((codes "a", obj ((codes "b", obj ((codes "a", obj []) ∷ [])) ∷ [])) ∷ []))
+unfolding path_verdict
+inside_a_target_nothing_is_made = refl
+
+-- a parent inside another is dropped, and not asked to be a list
+inside_a_parent_nothing_is_asked :
+    patched (inserting before (codes "a..[*][0]") (whole 7 ∷ []))
+    (doc ((codes "a", items (items (items (whole 1 ∷ []) ∷ []) ∷ [])) ∷ []))
+    (codes "t2")
+    (codes "m2")
+    ≡ document
+    (patched_doc
+    ((codes "a", items (items (whole 7 ∷ items (whole 1 ∷ []) ∷ []) ∷ [])) ∷ []))
+unfolding path_verdict
+inside_a_parent_nothing_is_asked = refl
+
 -- a text that is no path, with the place of its fault
 a_text_is_no_path :
     patched (setting ((codes "a[", whole 1) ∷ [])) (doc []) (codes "t2") (codes "m2")
     ≡ refused (no_path (codes "a[") 2)
 unfolding path_verdict
 a_text_is_no_path = refl
+
+-- what `setIfMissing` makes is there for `set`
+made_before_it_is_set :
+    patched
+    (record {
+      if_revision = None;
+      set_if_missing = (codes "a", obj ((codes "b", whole 1) ∷ [])) ∷ [];
+      set = (codes "a.c", whole 2) ∷ [];
+      unset = [];
+      inc = [];
+      dec = [];
+      insert = None;
+    })
+    (doc [])
+    (codes "t2")
+    (codes "m2")
+    ≡ document
+    (patched_doc ((codes "a", obj ((codes "b", whole 1) ∷ (codes "c", whole 2) ∷ [])) ∷ []))
+unfolding path_verdict
+made_before_it_is_set = refl
+
+-- what `set` puts is removed by `unset`
+set_before_it_is_removed :
+    patched
+    (record {
+      if_revision = None;
+      set_if_missing = [];
+      set = (codes "a", whole 1) ∷ [];
+      unset = codes "a" ∷ [];
+      inc = [];
+      dec = [];
+      insert = None;
+    })
+    (doc [])
+    (codes "t2")
+    (codes "m2")
+    ≡ document (patched_doc [])
+unfolding path_verdict
+set_before_it_is_removed = refl
+
+-- what `unset` removes is not counted
+removed_before_it_is_counted :
+    patched
+    (record {
+      if_revision = None;
+      set_if_missing = [];
+      set = [];
+      unset = codes "a" ∷ [];
+      inc = (codes "a", pos 1) ∷ [];
+      dec = [];
+      insert = None;
+    })
+    (doc ((codes "a", text (codes "x")) ∷ []))
+    (codes "t2")
+    (codes "m2")
+    ≡ document (patched_doc [])
+unfolding path_verdict
+removed_before_it_is_counted = refl
+
+-- `inc` passes the greatest number before `dec` comes
+added_before_it_is_subtracted :
+    patched
+    (record {
+      if_revision = None;
+      set_if_missing = [];
+      set = [];
+      unset = [];
+      inc = (codes "a", pos 1) ∷ [];
+      dec = (codes "a", pos 1) ∷ [];
+      insert = None;
+    })
+    (doc ((codes "a", whole 9223372036854775807) ∷ []))
+    (codes "t2")
+    (codes "m2")
+    ≡ refused (overflow (codes "a"))
+unfolding path_verdict
+added_before_it_is_subtracted = refl
+
+-- items that `insert` puts are not counted
+counted_before_it_is_put :
+    patched
+    (record {
+      if_revision = None;
+      set_if_missing = [];
+      set = [];
+      unset = [];
+      inc = [];
+      dec = (codes "a[*]", pos 1) ∷ [];
+      insert = Some (record { side = after; path = codes "a[-1]"; items = whole 5 ∷ [] });
+    })
+    (doc ((codes "a", items (whole 3 ∷ [])) ∷ []))
+    (codes "t2")
+    (codes "m2")
+    ≡ document (patched_doc ((codes "a", items (whole 2 ∷ whole 5 ∷ [])) ∷ []))
+unfolding path_verdict
+counted_before_it_is_put = refl

@@ -1,18 +1,16 @@
 -- A patch leaves the attributes that only the store writes, and the document an object.
-use Rattle.std.proofs.Common.{◌≡◌, ℕ, List, [], ◌∷◌, ◌++◌, map, reverse, filter, Bool, true, false, ◌&&◌, ◌||◌, not, cond, Option, Some, None, bytes_eq, codes, refl, sym, ap, subst, ◌∙◌}
+use Rattle.std.proofs.Common.{◌≡◌, ℕ, List, [], ◌∷◌, ◌++◌, map, Bool, true, false, cond, Some, None, bytes_eq, refl, sym, ap, ◌∙◌}
 use Rattle.std.proofs.lemmas.Slice.Eq.{bytes_eq-Decides}
-use Rattle.std.specs.List.{list_any, list_all}
-use Rattle.cs_value.specs.Tree.{Tree, null, boolean, integer, text, list, object, Pairs, no_pairs}
-use Rattle.cs_value.specs.Pairs.{attribute, find, put}
+use Rattle.std.specs.List.{list_any}
+use Rattle.cs_value.specs.Tree.{Tree, null, boolean, integer, text, list, object}
+use Rattle.cs_value.specs.Pairs.{attribute, find}
 use Rattle.cs_value.specs.Words.{is_object}
-use Rattle.cs_view.specs.Document.{is_shallow}
 use Rattle.cs_jsonmatch.specs.Places.{Location}
 use Rattle.cs_jsonmatch.specs.declared.places.Part.{Part}
 use Rattle.cs_jsonmatch.specs.declared.places.Part.TheVariants.{Name, Pos}
 use Rattle.cs_patch.specs.Within.{update, changed, removed, drop_member, given, at_name, object_pairs}
 use Rattle.cs_patch.specs.Inserted.{Side, insert_into}
-use Rattle.cs_patch.specs.Targets.{if_some, Target, location}
-use Rattle.cs_patch.specs.Operations.{Refusal, immutable, Outcome, document, refused, and_then, first_refusal, fixed, fixed_at, or_else, each, bounded, at_targets}
+use Rattle.cs_patch.specs.Operations.{immutable, fixed, fixed_at}
 use Rattle.cs_jsonmatch.specs.Path.{Step}
 use Rattle.cs_patch.proofs.Fixed.{other-put, other-without, other-update}
 

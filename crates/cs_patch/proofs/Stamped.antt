@@ -1,17 +1,16 @@
 -- The document that a patch comes to, once its operations are done.
-use Rattle.std.proofs.Common.{◌≡◌, ℕ, ℤ, List, [], ◌∷◌, ◌++◌, map, Bool, true, false, ◌&&◌, ◌||◌, Option, Some, None, option_map, option_to_list, length, nat_lt, is_some, option_and_then, unwrap_or, bytes_eq, codes, refl, sym, ap, subst, ◌∙◌}
+use Rattle.std.proofs.Common.{◌≡◌, ℕ, List, [], ◌∷◌, ◌++◌, map, Bool, true, false, ◌&&◌, Option, Some, None, option_map, option_to_list, length, nat_lt, is_some, option_and_then, unwrap_or, bytes_eq, codes, refl, sym, ap, subst, ◌∙◌}
 use Rattle.cs_value.specs.Tree.{Tree, null, boolean, integer, text, list, object, Pairs}
 use Rattle.cs_value.specs.Pairs.{attribute, find, put}
 use Rattle.cs_value.specs.Id.{is_id}
 use Rattle.cs_value.specs.Words.{is_object, as_text}
 use Rattle.cs_view.specs.Document.{passes, is_document, is_shallow, is_body, has_id, has_type, has_text, id_of, rev_of}
 use Rattle.cs_view.proofs.Booleans.{or-left, or-right}
-use Rattle.cs_view.proofs.Documents.{Parts, parts, whole}
+use Rattle.cs_view.proofs.Documents.{parts, whole}
 use Rattle.cs_patch.specs.Laws.{is_stamp}
-use Rattle.cs_patch.specs.Operations.{Outcome, document, refused, and_then, Insertion, set_path, set_missing_path, unset_path, inc_path, dec_path}
+use Rattle.cs_patch.specs.Operations.{Outcome, document, and_then, Insertion, set_path, set_missing_path, unset_path, inc_path, dec_path}
 use Rattle.cs_patch.specs.Patched.{Patch, paths, in_turn, maybe_insert, operations, stamped, revision_refusal, worked, patched}
 use Rattle.cs_patch.proofs.Fixed.{other-put, same-put, shallow-put}
-use Rattle.cs_patch.proofs.Kept.{Keeps}
 use Rattle.cs_patch.proofs.Worked.{AreRead, Kept, refusing, then_is, same_document, operations-kept}
 
 -- what a patched document was before its stamps
@@ -103,13 +102,26 @@ stamped_document d ps tx moment h k =
     let b = three (is_object d) (has_id d) (has_type d) p.body in
     let s = stamped-body ps tx moment
     (all_three true (has_id (object ps)) (has_type (object ps)) refl
+<<<<<<< HEAD
     (ap (λ a. passes is_id (option_and_then as_text a)) (k.keeps.same (codes "_id") refl) ∙ b.1)
+=======
+    (ap (λ a. passes is_id (option_and_then as_text a)) (k.keeps.same (codes "_id") refl) ∙
+    b.1)
+>>>>>>> h4/main
     (ap (λ a. passes (λ s. nat_lt 0 (length s)) (option_and_then as_text a))
     (k.keeps.same (codes "_type") refl) ∙ b.2))
     (k.shallow p.shallow)
     (ap (λ a. is_some (option_and_then as_text a)) (k.keeps.same (codes "_createdAt") refl)
+<<<<<<< HEAD
     ∙ p.created) in
     (s.0, s.1 ∙ ap (λ a. unwrap_or (option_and_then as_text a) []) (k.keeps.same (codes "_id") refl))
+=======
+    ∙ p.created) in (
+      s.0,
+      s.1 ∙ ap (λ a. unwrap_or (option_and_then as_text a) []) (k.keeps.same (codes "_id")
+          refl),
+    )
+>>>>>>> h4/main
 
 is_object_of : (d : Tree) → is_document d ≡ true → is_object d ≡ true
 is_object_of d h = (three (is_object d) (has_id d) (has_type d) (parts d h).body).0

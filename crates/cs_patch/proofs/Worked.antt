@@ -1,23 +1,16 @@
 -- What a patch leaves, operation by operation, and the document that it comes to.
-use Rattle.std.proofs.Common.{◌≡◌, ℕ, ℤ, ◌+ℤ◌, ◌-ℤ◌, List, [], ◌∷◌, ◌++◌, map, reverse, Bool, true, false, ◌&&◌, cond, Option, Some, None, is_some, option_and_then, codes, refl, sym, ap, subst, ◌∙◌}
+use Rattle.std.proofs.Common.{◌≡◌, ℕ, ℤ, ◌+ℤ◌, ◌-ℤ◌, List, [], ◌∷◌, map, reverse, Bool, true, false, cond, Option, Some, None, refl, subst}
 use Rattle.std.specs.List.{list_all}
-use Rattle.cs_value.specs.Tree.{Tree, null, boolean, integer, text, list, object, Pairs}
-use Rattle.cs_value.specs.Pairs.{attribute, find, put}
-use Rattle.cs_value.specs.Id.{is_id}
-use Rattle.cs_value.specs.Words.{is_object, as_text, text_at}
-use Rattle.cs_view.specs.Document.{is_document, is_shallow, is_body, has_id, has_type, has_text, id_of, rev_of}
-use Rattle.cs_view.proofs.Booleans.{and-left, and-right, both}
-use Rattle.cs_view.proofs.Documents.{Parts, parts, whole}
+use Rattle.cs_value.specs.Tree.{Tree, text}
+use Rattle.cs_view.specs.Document.{is_shallow}
+use Rattle.cs_view.proofs.Booleans.{and-left, and-right}
 use Rattle.cs_jsonmatch.specs.Path.{Step, Path}
-use Rattle.cs_jsonmatch.specs.Places.{Location}
 use Rattle.cs_jsonmatch.specs.Verdict.{PathReading, spelled, bad_path, IsPathRead, path_verdict}
 use Rattle.cs_jsonmatch.specs.declared.places.Part.TheVariants.{Name}
-use Rattle.cs_patch.specs.Within.{changed, removed, given}
-use Rattle.cs_patch.specs.Inserted.{Side, insert_into, is_misplaced}
+use Rattle.cs_patch.specs.Inserted.{Side, is_misplaced}
 use Rattle.cs_patch.specs.Targets.{if_some, Target, location, made_targets, place_targets}
-use Rattle.cs_patch.specs.Operations.{Refusal, Outcome, document, refused, not_array, too_deep, and_then, first_refusal, fixed_at, or_else, number_refusal, list_refusal, fixed_check, missing_check, number_check, list_check, set_at, set_missing_at, unset_at, recount, count_at, insert_at, each, bounded, at_targets, set_by, set_missing_by, unset_by, count_by, insert_at_parents, insert_last, insert_by, by_reading, along, set_path, set_missing_path, unset_path, inc_path, dec_path, Insertion, insert_path}
-use Rattle.cs_patch.specs.Patched.{Patch, in_turn, maybe_insert, operations, stamped, revision_refusal, worked, patched}
-use Rattle.cs_patch.proofs.Fixed.{other-put, same-put, shallow-put}
+use Rattle.cs_patch.specs.Operations.{Refusal, Outcome, document, refused, not_array, too_deep, and_then, first_refusal, fixed_at, or_else, number_refusal, list_refusal, fixed_check, missing_check, number_check, list_check, set_at, set_missing_at, unset_at, recount, count_at, insert_at, each, bounded, at_targets, set_by, set_missing_by, unset_by, count_by, insert_at_parents, insert_last, insert_by, by_reading, along, set_path, set_missing_path, unset_path, inc_path, dec_path, Insertion}
+use Rattle.cs_patch.specs.Patched.{Patch, in_turn, maybe_insert, operations}
 use Rattle.cs_patch.proofs.Kept.{Keeps, keeps, keeps_on, set-keeps, changed-keeps, removed-keeps, inserted-keeps}
 use Rattle.cs_patch.proofs.Below.{starts, is_under, is_placed, spelled-starts, made-below, place-below}
 

@@ -1,12 +1,13 @@
 -- The laws of patches.
-use Rattle.std.specs.Prelude.{◌≡◌, ℕ, ℤ, List, [], ◌∷◌, Bool, true, false, ◌||◌, Some, bytes_eq, codes}
+use Rattle.std.specs.Prelude.{◌≡◌, ℕ, ℤ, List, [], ◌∷◌, reverse, Bool, true, false, ◌||◌, Some, bytes_eq, codes}
 use Rattle.cs_value.specs.Tree.{Tree, text}
 use Rattle.cs_value.specs.Pairs.{attribute}
 use Rattle.cs_view.specs.Document.{is_document, is_shallow, id_of}
-use Rattle.cs_jsonmatch.specs.Path.{Path}
+use Rattle.cs_jsonmatch.specs.Path.{Step, Path}
 use Rattle.cs_jsonmatch.specs.Verdict.{spelled, path_verdict}
 use Rattle.cs_patch.specs.Targets.{made_targets, place_targets}
-use Rattle.cs_patch.specs.Operations.{document, set_path, set_missing_path, unset_path, inc_path, dec_path}
+use Rattle.cs_patch.specs.Inserted.{is_misplaced}
+use Rattle.cs_patch.specs.Operations.{document, set_path, set_missing_path, unset_path, inc_path, dec_path, Insertion, insert_path}
 use Rattle.cs_patch.specs.Patched.{Patch, paths, patched}
 
 -- a patched document is a document with the same id
@@ -44,3 +45,14 @@ NoTargetsNoChange =
     × (place_targets p d ≡ []
     → (unset_path path d ≡ document d)
     × ((m : ℤ) → (inc_path (path, m) d ≡ document d) × (dec_path (path, m) d ≡ document d)))
+
+-- `insert` leaves the document where its path's last step may stand there, and there are no parents
+abbrev pub NoParentsNoChange : Type 0
+NoParentsNoChange =
+    (i : Insertion) (p parents : Path) (s : Step) (d : Tree)
+    → path_verdict i.path ≡ spelled p
+    → reverse p ≡ s ∷ parents
+    → is_misplaced s ≡ false
+    → is_shallow d ≡ true
+    → place_targets (reverse parents) d ≡ []
+    → insert_path i d ≡ document d

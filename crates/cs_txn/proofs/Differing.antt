@@ -1,5 +1,5 @@
 -- The sides of each change between two datasets differ.
-use Rattle.std.proofs.Common.{◌≡◌, ◌≢◌, ℕ, List, [], ◌∷◌, true, Option, Some, None, refl, sym, ap, ◌∙◌}
+use Rattle.std.proofs.Common.{◌≡◌, ◌≢◌, ℕ, List, [], ◌∷◌, Option, Some, None, sym, ap, ◌∙◌}
 use Rattle.std.specs.FinMap.Entries.{find}
 use Rattle.cs_value.specs.Tree.{Tree}
 use Rattle.cs_view.specs.Dataset.{id_cmp, At}

@@ -1,16 +1,16 @@
 -- Transactions computed over small datasets, each from the JSON of its body.
-use Rattle.std.proofs.Common.{◌≡◌, ℕ, suc, zero, pos, negsuc, List, [], ◌∷◌, true, false, Option, Some, None, Result, Ok, Err, codes, refl}
+use Rattle.std.proofs.Common.{◌≡◌, ℕ, suc, zero, pos, List, [], ◌∷◌, true, Option, Some, None, Ok, Err, codes, refl}
 use Rattle.std.specs.Fmt.{digits}
 use Rattle.cs_value.specs.Tree.{Tree, null, boolean, integer, text, list, object, trees, pairs}
-use Rattle.cs_syntax.specs.Faults.{unsupported, unknown_function, arity, no_key}
+use Rattle.cs_syntax.specs.Faults.{unknown_function}
 use Rattle.cs_jsonmatch.specs.Verdict.{path_verdict}
 use Rattle.cs_grammar.specs.Reading.{read}
 use Rattle.cs_parse.specs.Spelling.{expression_in}
 use Rattle.cs_parse.specs.Tokens.{tokens_from}
-use Rattle.cs_parse.specs.Verdict.{verdict, bad_token, too_deep, no_syntax, faulty}
+use Rattle.cs_parse.specs.Verdict.{verdict, bad_token, no_syntax, faulty}
 use Rattle.cs_txn.specs.Body.{Body, no_command, bad_id, transaction, body_of}
 use Rattle.cs_txn.specs.Commit.{commit}
-use Rattle.cs_txn.specs.Transaction.{Transaction, Cause, bad_document, deep_document, exists, diff, bad_path, no_query, not_documents, missing, revision, immutable, not_number, overflow, not_array, dangling, Outcome}
+use Rattle.cs_txn.specs.Transaction.{Cause, bad_document, deep_document, exists, diff, bad_path, no_query, not_documents, missing, revision, immutable, not_number, overflow, not_array, dangling, Outcome}
 
 abbrev whole : ℕ → Tree
 whole n = integer (pos n)

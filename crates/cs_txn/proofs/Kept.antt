@@ -1,26 +1,25 @@
 -- Mutations lead from datasets to datasets.
 use Rattle.std.proofs.Common.{◌≡◌, ℕ, ◌+◌, ◌≤◌, List, [], ◌∷◌, length, nat_lt, Bool, true, false, ◌&&◌, cond, is_some, Option, Some, None, option_and_then, Result, Ok, Err, codes, refl, sym, ap, subst, ◌∙◌}
 use Rattle.std.specs.List.{list_all}
-use Rattle.cs_value.specs.Tree.{Tree, null, boolean, integer, text, list, object, Pairs}
-use Rattle.cs_value.specs.Pairs.{attribute, find, put}
+use Rattle.cs_value.specs.Tree.{Tree, text, object, Pairs}
+use Rattle.cs_value.specs.Pairs.{put}
 use Rattle.cs_value.specs.Id.{is_id}
 use Rattle.cs_value.specs.Words.{is_object, as_text}
 use Rattle.cs_view.specs.Document.{passes, is_document, is_body, is_shallow, has_id, has_type, has_text, id_of}
-use Rattle.cs_view.specs.Dataset.{At, keyed, id_cmp, same_id, ascending, is_dataset, stands, with_doc, without}
+use Rattle.cs_view.specs.Dataset.{At, same_id, ascending, is_dataset, stands, with_doc, without}
 use Rattle.cs_view.proofs.Booleans.{and-left, and-right}
 use Rattle.cs_view.proofs.Datasets.{dataset-placed}
 use Rattle.cs_docs.specs.Limits.{most_documents}
 use Rattle.cs_docs.specs.References.{clean}
 use Rattle.cs_docs.specs.Verdict.{Verdict, fits, full, dangles, verdict}
 use Rattle.cs_docs.specs.Laws.{FitsWithinAndClean}
-use Rattle.cs_parse.specs.Verdict.{Reading, verdict as reading_of}
 use Rattle.cs_patch.specs.Laws.{PatchedIsADocument}
 use Rattle.cs_patch.specs.Operations as patch
 use Rattle.cs_patch.specs.Patched.{Patch, paths, first_fault, patched, stamped}
 use Rattle.cs_patch.proofs.Fixed.{other-put, same-put, shallow-put}
 use Rattle.cs_patch.proofs.Stamped.{pairs_of, stamped-body}
-use Rattle.cs_txn.specs.Transaction.{Aim, one, asked, Action, create, replace, if_none, remove, change, Cause, bad_document, deep_document, exists, diff, Refused, Transaction, Outcome}
-use Rattle.cs_txn.specs.Install.{with_text, with_created, entered, with_made_id}
+use Rattle.cs_txn.specs.Transaction.{Aim, one, asked, Action, create, replace, if_none, remove, change, Cause, bad_document, deep_document, exists, diff, Transaction, Outcome}
+use Rattle.cs_txn.specs.Install.{entered, with_made_id}
 use Rattle.cs_txn.specs.Mutated.{Attempt, and_then, installed, created, replaced, kept_or_created, without_all, deleted, cause_of, by_outcome, patched_there, patched_at, patched_all, patched_by, by_fault, edited, done, at_index, mutated, found}
 use Rattle.cs_txn.specs.Commit.{and_then as commit_then, folded, held, commit}
 

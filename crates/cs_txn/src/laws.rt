@@ -14,8 +14,7 @@ pub fn commits_keep_datasets()
 }
 
 /// The changes of an accepted transaction lead from the dataset before to the one after, and the
-/// two
-/// sides of each differ.
+/// two sides of each differ.
 pub fn commits_are_their_changes()
     ensures { CommitsAreTheirChanges }
 {
