@@ -102,26 +102,13 @@ stamped_document d ps tx moment h k =
     let b = three (is_object d) (has_id d) (has_type d) p.body in
     let s = stamped-body ps tx moment
     (all_three true (has_id (object ps)) (has_type (object ps)) refl
-<<<<<<< HEAD
     (ap (λ a. passes is_id (option_and_then as_text a)) (k.keeps.same (codes "_id") refl) ∙ b.1)
-=======
-    (ap (λ a. passes is_id (option_and_then as_text a)) (k.keeps.same (codes "_id") refl) ∙
-    b.1)
->>>>>>> h4/main
     (ap (λ a. passes (λ s. nat_lt 0 (length s)) (option_and_then as_text a))
     (k.keeps.same (codes "_type") refl) ∙ b.2))
     (k.shallow p.shallow)
     (ap (λ a. is_some (option_and_then as_text a)) (k.keeps.same (codes "_createdAt") refl)
-<<<<<<< HEAD
     ∙ p.created) in
     (s.0, s.1 ∙ ap (λ a. unwrap_or (option_and_then as_text a) []) (k.keeps.same (codes "_id") refl))
-=======
-    ∙ p.created) in (
-      s.0,
-      s.1 ∙ ap (λ a. unwrap_or (option_and_then as_text a) []) (k.keeps.same (codes "_id")
-          refl),
-    )
->>>>>>> h4/main
 
 is_object_of : (d : Tree) → is_document d ≡ true → is_object d ≡ true
 is_object_of d h = (three (is_object d) (has_id d) (has_type d) (parts d h).body).0
