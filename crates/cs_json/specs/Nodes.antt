@@ -6,7 +6,8 @@ use Rattle.cs_json.specs.declared.node.Node.{Node, fold-Node}
 use Rattle.cs_json.specs.declared.node.Member.{Member, fold-Member}
 use Rattle.cs_json.specs.declared.node.Node.TheOpen.{Node-F, Member-F}
 
--- one level, with each part already seen as its tree; an object has its attributes in the order in which they are named
+-- one level, with each part already seen as its tree; an object has its attributes in the order in
+-- which they are named
 abbrev pub node_step : Node-F Tree (List ℕ × Tree) → Tree
 node_step (Node-F.Value v) = tree v.now
 node_step (Node-F.Values vs) = list (trees (map (λ v. tree v.now) vs.items))

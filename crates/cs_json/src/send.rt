@@ -28,7 +28,8 @@ fn send<S: Serializer>(val: &Val, out: &mut S) -> Result<(), S::Error>
 }
 
 fn send_number<S: Serializer>(n: i64, out: &mut S) -> Result<(), S::Error>
-    ensures { OnOk result (SendsValue (number (of_integer n)) (S.written out.old) (S.written out.new)) }
+    ensures { OnOk result
+        (SendsValue (number (of_integer n)) (S.written out.old) (S.written out.new)) }
 {
     if n < 0 { out.i64(n) } else { out.u64(n as u64) }
 }
@@ -75,7 +76,8 @@ pub(crate) fn send_node<S: Serializer>(node: &Node<'_>, out: &mut S) -> Result<(
 }
 
 fn send_values<S: Serializer>(vals: &Vec<&Val>, out: &mut S) -> Result<(), S::Error>
-    ensures { OnOk result (SendsValue (array (items_of (trees (map (λ v. tree v.now) vals.now.items))))
+    ensures { OnOk result
+        (SendsValue (array (items_of (trees (map (λ v. tree v.now) vals.now.items))))
         (S.written out.old) (S.written out.new)) }
 {
     out.begin_seq(Some(vals.len()))?;
@@ -99,7 +101,8 @@ fn send_nodes<S: Serializer>(nodes: &Vec<Node<'_>>, out: &mut S) -> Result<(), S
 
 #[cycle(send_node)]
 fn send_members<S: Serializer>(members: &Vec<Member<'_>>, out: &mut S) -> Result<(), S::Error>
-    ensures { OnOk result (SendsValue (object_data (members_of (pairs (map member_pair members.now.items))))
+    ensures { OnOk result
+        (SendsValue (object_data (members_of (pairs (map member_pair members.now.items))))
         (S.written out.old) (S.written out.new)) }
 {
     out.begin_map(Some(members.len()))?;
