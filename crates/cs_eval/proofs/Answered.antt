@@ -16,15 +16,15 @@ use Rattle.cs_syntax.specs.declared.tree.Step as step_code
 use Rattle.cs_plan.specs.Filters.{key_in}
 use Rattle.cs_plan.specs.Simple.{is_condition}
 use Rattle.cs_plan.specs.Steps.{Bracketed, bracketed, condition}
-use Rattle.cs_parts.specs.declared.join.Way.{Way}
-use Rattle.cs_parts.specs.declared.join.Kind.{Kind}
-use Rattle.cs_parts.specs.declared.join.Entrance.{Entrance}
-use Rattle.cs_parts.specs.Joining.{list_of, form, kind, way, entrance, entered, onward}
-use Rattle.cs_parts.specs.Operators.{is_true}
-use Rattle.cs_parts.specs.Values.{value, filtered, in_bracket, rest_value, step_value}
-use Rattle.cs_parts.specs.Looked.{looked, run_looked, rest_looked, step_looked, entered_looked, onward_looked, filter_looked, is_everything}
-use Rattle.cs_parts.proofs.Sound.{filter-within, filter-value}
-use Rattle.cs_parts.proofs.TrueKey.{true-has_key}
+use Rattle.cs_meaning.specs.declared.join.Way.{Way}
+use Rattle.cs_meaning.specs.declared.join.Kind.{Kind}
+use Rattle.cs_meaning.specs.declared.join.Entrance.{Entrance}
+use Rattle.cs_meaning.specs.Joining.{list_of, form, kind, way, entrance, entered, onward}
+use Rattle.cs_meaning.specs.Operators.{is_true}
+use Rattle.cs_meaning.specs.Values.{value, filtered, in_bracket, rest_value, step_value}
+use Rattle.cs_meaning.specs.Looked.{looked, run_looked, rest_looked, step_looked, entered_looked, onward_looked, filter_looked, is_everything}
+use Rattle.cs_meaning.proofs.Sound.{filter-within, filter-value}
+use Rattle.cs_meaning.proofs.TrueKey.{true-has_key}
 use Rattle.cs_parts.specs.Kinds.{kinds_of, first_kind}
 use Rattle.cs_parts.specs.Turns.{turn, is_end}
 use Rattle.cs_eval.specs.Starts.{once, once_looked, start_value, start_looked, enter_value, enter_looked}

@@ -14,9 +14,9 @@ use Rattle.cs_parts.specs.declared.calls.Callee.{Callee as CodeCallee}
 use Rattle.cs_parts.specs.declared.calls.Callee.TheVariants.{Coalesce, Select, References, Values}
 use Rattle.cs_func.specs.declared.function.Function.{Function}
 use Rattle.cs_plan.specs.Steps.{in_scope}
-use Rattle.cs_parts.specs.Operators.{is_true, Callee, callee, called, references, applied, in_list_or_path, in_path, sole}
-use Rattle.cs_parts.specs.Values.{value, argument_value, arguments_values, coalesced, selected, path_pattern}
-use Rattle.cs_parts.specs.Looked.{looked, arguments_looked, argument_looked, coalesced_looked, selected_looked, called_looked}
+use Rattle.cs_meaning.specs.Operators.{is_true, Callee, callee, called, references, applied, in_list_or_path, in_path, sole}
+use Rattle.cs_meaning.specs.Values.{value, argument_value, arguments_values, coalesced, selected, path_pattern}
+use Rattle.cs_meaning.specs.Looked.{looked, arguments_looked, argument_looked, coalesced_looked, selected_looked, called_looked}
 use Rattle.cs_eval.specs.Choosing.{chosen, chosen_looked}
 use Rattle.cs_eval.specs.Weight.{weight, argument_weight, arguments_weight}
 

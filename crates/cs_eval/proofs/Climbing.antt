@@ -13,16 +13,16 @@ use Rattle.cs_view.specs.declared.key.Key.{Key}
 use Rattle.cs_view.specs.declared.key.Key.TheVariants.{All}
 use Rattle.cs_syntax.specs.Expression.{Step, Steps, no_steps, more_steps, steps_of}
 use Rattle.cs_parts.specs.declared.item.Item.{Item}
-use Rattle.cs_parts.specs.declared.join.Kind.{Kind}
-use Rattle.cs_parts.specs.declared.join.Way.{Way}
-use Rattle.cs_parts.specs.declared.join.Way.TheVariants.{Through, Over, After, Ends}
-use Rattle.cs_parts.specs.declared.join.Entrance.{Entrance}
-use Rattle.cs_parts.specs.declared.join.Entrance.TheVariants.{Whole, Mapped, Flat}
-use Rattle.cs_parts.specs.Joining.{as_list, list_of, spread, mapped, flattened, form, kind, way}
-use Rattle.cs_parts.specs.Joining.{entrance, entered, onward}
-use Rattle.cs_parts.specs.Looked.{each_looked, rest_looked}
+use Rattle.cs_meaning.specs.declared.join.Kind.{Kind}
+use Rattle.cs_meaning.specs.declared.join.Way.{Way}
+use Rattle.cs_meaning.specs.declared.join.Way.TheVariants.{Through, Over, After, Ends}
+use Rattle.cs_meaning.specs.declared.join.Entrance.{Entrance}
+use Rattle.cs_meaning.specs.declared.join.Entrance.TheVariants.{Whole, Mapped, Flat}
+use Rattle.cs_meaning.specs.Joining.{as_list, list_of, flat_elements, mapped, flattened, form, kind, way}
+use Rattle.cs_meaning.specs.Joining.{entrance, entered, onward}
+use Rattle.cs_meaning.specs.Looked.{each_looked, rest_looked}
 use Rattle.cs_parts.specs.Parts.{got, item}
-use Rattle.cs_parts.specs.Values.{rest_value, step_value}
+use Rattle.cs_meaning.specs.Values.{rest_value, step_value}
 use Rattle.cs_parts.specs.Turns.{turn, is_end}
 use Rattle.cs_eval.specs.Starts.{once}
 use Rattle.cs_eval.specs.Levels.{steps_in, Fits, added, results, one_by_one, level_list}
@@ -462,15 +462,15 @@ mapped_results f [] = refl
 mapped_results f (t ∷ ts) = ap (λ (us : List Tree). f t ∷ us) (mapped_results f ts)
 
 joined_results : (f : Tree → Tree) (ts : List Tree)
-    → results true f ts ≡ flat_map spread (map f ts)
+    → results true f ts ≡ flat_map flat_elements (map f ts)
 joined_results f [] = refl
-joined_results f (t ∷ ts) = ap (λ (us : List Tree). spread (f t) ++ us) (joined_results f ts)
+joined_results f (t ∷ ts) = ap (λ (us : List Tree). flat_elements (f t) ++ us) (joined_results f ts)
 
 pub opened_value : (joins : Bool) (f : Tree → Tree) (v : Tree) (ts : List Tree)
     → as_list v ≡ Some ts → list_of (results joins f ts) ≡ one_by_one joins f v
 opened_value true f v ts h = ap list_of (joined_results f ts)
     ∙ sym (ap
-    (λ (o : Option (List Tree)). option_map_or (λ us. list_of (flat_map spread (map f us))) o
+    (λ (o : Option (List Tree)). option_map_or (λ us. list_of (flat_map flat_elements (map f us))) o
     null) h)
 opened_value false f v ts h = ap list_of (mapped_results f ts)
     ∙ sym (ap (λ (o : Option (List Tree)). option_map_or (λ us. list_of (map f us)) o null) h)
@@ -478,7 +478,7 @@ opened_value false f v ts h = ap list_of (mapped_results f ts)
 pub unopened_value : (joins : Bool) (f : Tree → Tree) (v : Tree) → as_list v ≡ None
     → null ≡ one_by_one joins f v
 unopened_value true f v h = sym
-    (ap (λ (o : Option (List Tree)). option_map_or (λ us. list_of (flat_map spread (map f us))) o
+    (ap (λ (o : Option (List Tree)). option_map_or (λ us. list_of (flat_map flat_elements (map f us))) o
     null) h)
 unopened_value false f v h = sym
     (ap (λ (o : Option (List Tree)). option_map_or (λ us. list_of (map f us)) o null) h)

@@ -5,15 +5,15 @@ use Rattle.cs_value.specs.Tree.{Tree, null, boolean, integer, text, list, object
 use Rattle.cs_value.specs.Words.{is_object}
 use Rattle.cs_view.specs.declared.key.Key.{Key}
 use Rattle.cs_syntax.specs.Expression.{Step, steps_of}
-use Rattle.cs_parts.specs.declared.join.Way.{Way}
-use Rattle.cs_parts.specs.declared.join.Way.TheVariants.{Through, Over, After, Ends}
-use Rattle.cs_parts.specs.declared.join.Entrance.{Entrance}
+use Rattle.cs_meaning.specs.declared.join.Way.{Way}
+use Rattle.cs_meaning.specs.declared.join.Way.TheVariants.{Through, Over, After, Ends}
+use Rattle.cs_meaning.specs.declared.join.Entrance.{Entrance}
 use Rattle.std.proofs.Common.{Option, Some, None}
 use Rattle.std.specs.Option.{option_map_or}
-use Rattle.cs_parts.specs.Values.{filtered}
-use Rattle.cs_parts.specs.Joining.{as_list, list_of, spread, flattened, mapped, entered, onward, kind}
-use Rattle.cs_parts.specs.Looked.{onward_looked, entered_looked, each_looked}
-use Rattle.cs_parts.specs.Values.{projected}
+use Rattle.cs_meaning.specs.Values.{filtered}
+use Rattle.cs_meaning.specs.Joining.{as_list, list_of, flat_elements, flattened, mapped, entered, onward, kind}
+use Rattle.cs_meaning.specs.Looked.{onward_looked, entered_looked, each_looked}
+use Rattle.cs_meaning.specs.Values.{projected}
 use Rattle.cs_parts.specs.Kinds.{kinds_of, first_kind}
 use Rattle.cs_parts.specs.Turns.{turn, is_end, is_over_way}
 use Rattle.cs_eval.specs.Starts.{once, once_looked}
@@ -94,11 +94,11 @@ mapped_list f v xs h = ap (λ (o : Option (List Tree)). option_map_or (λ ts. li
 pub mapped_other : (f : Tree → Tree) (v : Tree) → as_list v ≡ None → mapped f v ≡ null
 mapped_other f v h = ap (λ (o : Option (List Tree)). option_map_or (λ ts. list_of (map f ts)) o null) h
 
-pub flattened_list : (f : Tree → Tree) (v : Tree) (xs : List Tree) → as_list v ≡ Some xs → flattened f v ≡ list_of (flat_map spread (map f xs))
-flattened_list f v xs h = ap (λ (o : Option (List Tree)). option_map_or (λ ts. list_of (flat_map spread (map f ts))) o null) h
+pub flattened_list : (f : Tree → Tree) (v : Tree) (xs : List Tree) → as_list v ≡ Some xs → flattened f v ≡ list_of (flat_map flat_elements (map f xs))
+flattened_list f v xs h = ap (λ (o : Option (List Tree)). option_map_or (λ ts. list_of (flat_map flat_elements (map f ts))) o null) h
 
 pub flattened_other : (f : Tree → Tree) (v : Tree) → as_list v ≡ None → flattened f v ≡ null
-flattened_other f v h = ap (λ (o : Option (List Tree)). option_map_or (λ ts. list_of (flat_map spread (map f ts))) o null) h
+flattened_other f v h = ap (λ (o : Option (List Tree)). option_map_or (λ ts. list_of (flat_map flat_elements (map f ts))) o null) h
 
 pub filtered_list : (p : Tree → Bool) (v : Tree) (xs : List Tree) → as_list v ≡ Some xs → filtered p v ≡ list_of (filter p xs)
 filtered_list p v xs h = ap (λ (o : Option (List Tree)). option_map_or (λ ts. list_of (filter p ts)) o null) h

@@ -11,15 +11,15 @@ use Rattle.cs_syntax.specs.declared.tree.Expr.{Expr, the_lemmas}
 use Rattle.cs_syntax.specs.declared.tree.Expr as code
 use Rattle.cs_syntax.specs.declared.tree.Step.{Step as CodeStep}
 use Rattle.cs_plan.specs.Filters.{key_in}
-use Rattle.cs_plan.specs.Simple.{is_simple, is_simple_rest, quiet_step, quiet_steps, are_tail_steps, key_of}
-use Rattle.cs_parts.specs.Hits.{is_hit, hits, tail, cost}
-use Rattle.cs_parts.specs.Joining.{list_of}
-use Rattle.cs_parts.specs.Looked.{query_looked, starts_with_filter}
-use Rattle.cs_parts.specs.Operators.{is_true}
-use Rattle.cs_parts.specs.Values.{value, pipes_value, query_value}
-use Rattle.cs_parts.proofs.Simple.{simple-looked, simple-tail}
-use Rattle.cs_parts.proofs.Sound.{filter-within}
-use Rattle.cs_parts.proofs.TrueKey.{true-has_key}
+use Rattle.cs_plan.specs.Simple.{is_simple, is_simple_rest, quiet_step, quiet_steps, are_tail_steps, query_key}
+use Rattle.cs_meaning.specs.Hits.{is_hit, hits, tail, cost}
+use Rattle.cs_meaning.specs.Joining.{list_of}
+use Rattle.cs_meaning.specs.Looked.{query_looked, starts_with_filter}
+use Rattle.cs_meaning.specs.Operators.{is_true}
+use Rattle.cs_meaning.specs.Values.{value, pipes_value, query_value}
+use Rattle.cs_meaning.proofs.Simple.{simple-looked, simple-tail}
+use Rattle.cs_meaning.proofs.Sound.{filter-within}
+use Rattle.cs_meaning.proofs.TrueKey.{true-has_key}
 use Rattle.cs_eval.specs.Starts.{enter_value}
 
 pub expression_chain : (base : Box Expr Global) (ss : Vec CodeStep Global) → expression (code.Chain base ss) ≡ chain (expression base.value) (steps_of (map step ss.items))
@@ -44,7 +44,7 @@ answer_at_root : (docs : List Tree) (params : Pairs) (f : Expression) (later : S
 answer_at_root docs params f later k found h is-k is-found =
     let e = star f later in
     ap (λ (ds : List Tree). tail e params (hits e params ds)) (is-found ∙ ap (λ (x : Key). Sel x docs) is-k)
-    ∙ (ap (tail e params) (sym (filter-within (is_hit e params) (has (key_of e params)) (λ d t. true-has_key [] params f (null ∷ []) d t) docs)) ∙ sym (simple-tail e params docs h))
+    ∙ (ap (tail e params) (sym (filter-within (is_hit e params) (has (query_key e params)) (λ d t. true-has_key [] params f (null ∷ []) d t) docs)) ∙ sym (simple-tail e params docs h))
 
 pub simple_answer : (docs : List Tree) (params : Pairs) (scope : List Tree) (e f : Expression) (later : Steps) (k : Key) (found : List Tree) → is_simple e ≡ true → e ≡ chain everything (more_steps (bracket f) later) → scope ≡ null ∷ []
     → k ≡ key_in f scope params → found ≡ Sel k docs
@@ -53,8 +53,8 @@ simple_answer docs params scope e f later k found h is root is-k is-found =
     ap (λ (s : List Tree). pipes_value [] params later s (enter_value [] params later s (list_of (filter (λ x. is_true (value [] params f (x ∷ s))) found)))) root
     ∙ (answer_at_root docs params f later k found (sym (ap is_simple is) ∙ h) (is-k ∙ ap (λ (s : List Tree). key_in f s params) root) is-found ∙ ap (query_value docs params) (sym is))
 
-is_key : (params : Pairs) (scope : List Tree) (e f : Expression) (later : Steps) (k : Key) → e ≡ chain everything (more_steps (bracket f) later) → scope ≡ null ∷ [] → k ≡ key_in f scope params → k ≡ key_of e params
-is_key params scope e f later k is root is-k = is-k ∙ (ap (λ (s : List Tree). key_in f s params) root ∙ sym (ap (λ x. key_of x params) is))
+is_key : (params : Pairs) (scope : List Tree) (e f : Expression) (later : Steps) (k : Key) → e ≡ chain everything (more_steps (bracket f) later) → scope ≡ null ∷ [] → k ≡ key_in f scope params → k ≡ query_key e params
+is_key params scope e f later k is root is-k = is-k ∙ (ap (λ (s : List Tree). key_in f s params) root ∙ sym (ap (λ x. query_key x params) is))
 
 pub simple_keys : (docs : List Tree) (params : Pairs) (scope : List Tree) (e f : Expression) (later : Steps) (k : Key) → is_simple e ≡ true → e ≡ chain everything (more_steps (bracket f) later) → scope ≡ null ∷ [] → k ≡ key_in f scope params
     → k ∷ [] ≡ query_looked docs params e

@@ -3,14 +3,15 @@ use Rattle.std.specs.Prelude.{List, [], Option, Some, None, if◌then◌else◌}
 use Rattle.cs_value.specs.Tree.{Tree, Pairs}
 use Rattle.cs_syntax.specs.Expression.{Expression, Argument, argument, when_argument}
 use Rattle.cs_view.specs.declared.key.Key.{Key}
-use Rattle.cs_parts.specs.Looked.{looked}
-use Rattle.cs_parts.specs.Operators.{is_true}
-use Rattle.cs_parts.specs.Values.{value}
+use Rattle.cs_meaning.specs.Looked.{looked}
+use Rattle.cs_meaning.specs.Operators.{is_true}
+use Rattle.cs_meaning.specs.Values.{value}
 
 -- its expression where it has no condition, or one that is true
 abbrev pub chosen : List Tree → Pairs → Argument → List Tree → Option Expression
 chosen docs params (argument e) scope = Some e
-chosen docs params (when_argument c e) scope = if is_true (value docs params c scope) then Some e else None
+chosen docs params (when_argument c e) scope = if is_true (value docs params c scope) then Some e
+    else None
 
 -- what its condition looks up
 abbrev pub chosen_looked : List Tree → Pairs → Argument → List Tree → List Key

@@ -6,7 +6,7 @@ use Rattle.std.specs.Vec.Iter.{into_iter_items}
 use Rattle.cs_value.specs.Tree.{Tree}
 use Rattle.cs_syntax.specs.Expression.{Steps, steps_of}
 use Rattle.cs_syntax.specs.View.{step}
-use Rattle.cs_parts.specs.Joining.{as_list, list_of, mapped, flattened, spread}
+use Rattle.cs_meaning.specs.Joining.{as_list, list_of, mapped, flattened, flat_elements}
 use Rattle.cs_parts.specs.Kinds.{kinds_of}
 use Rattle.cs_parts.specs.Parts.{got, item}
 use Rattle.cs_eval.specs.Weight.{steps_weight}
@@ -27,7 +27,7 @@ Fits n r = (r.kinds.now ≡ kinds_of (map step r.steps.now)) × (steps_weight (s
 
 -- what one result adds to those of a list: its elements where lists are joined, else itself
 abbrev pub added : Bool → Tree → List Tree
-added true v = spread v
+added true v = flat_elements v
 added false v = v ∷ []
 
 -- what the elements of a list give one by one

@@ -3,13 +3,13 @@ use Rattle.std.specs.Prelude.{Bool, true, false, List, [], ◌∷◌}
 use Rattle.cs_value.specs.Tree.{Tree, Pairs}
 use Rattle.cs_syntax.specs.Expression.{Steps, no_steps, more_steps}
 use Rattle.cs_view.specs.declared.key.Key.{Key}
-use Rattle.cs_parts.specs.declared.join.Way.{Way}
-use Rattle.cs_parts.specs.declared.join.Way.TheVariants.{Through, Over, After, Ends}
-use Rattle.cs_parts.specs.declared.join.Entrance.{Entrance}
-use Rattle.cs_parts.specs.declared.join.Entrance.TheVariants.{Whole, Mapped, Flat}
-use Rattle.cs_parts.specs.Joining.{mapped, form, kind, way, entrance}
-use Rattle.cs_parts.specs.Values.{rest_value, step_value}
-use Rattle.cs_parts.specs.Looked.{rest_looked, each_looked}
+use Rattle.cs_meaning.specs.declared.join.Way.{Way}
+use Rattle.cs_meaning.specs.declared.join.Way.TheVariants.{Through, Over, After, Ends}
+use Rattle.cs_meaning.specs.declared.join.Entrance.{Entrance}
+use Rattle.cs_meaning.specs.declared.join.Entrance.TheVariants.{Whole, Mapped, Flat}
+use Rattle.cs_meaning.specs.Joining.{mapped, form, kind, way, entrance}
+use Rattle.cs_meaning.specs.Values.{rest_value, step_value}
+use Rattle.cs_meaning.specs.Looked.{rest_looked, each_looked}
 use Rattle.cs_eval.specs.declared.levels.Reached.{Reached}
 use Rattle.cs_eval.specs.declared.levels.Reached.TheVariants.{End, Each}
 use Rattle.cs_parts.specs.Parts.{got}

@@ -4,8 +4,8 @@ ghost use Rattle.cs_value.specs.View.{fields};
 ghost use Rattle.cs_syntax.specs.Expression.{arguments_of, call as call_node};
 ghost use Rattle.cs_syntax.specs.View.{expression, arg as argument_of};
 ghost use Rattle.cs_view.specs.Scopes.{scope};
-ghost use Rattle.cs_parts.specs.Values.{value as value_of, argument_value, arguments_values, coalesced, selected};
-ghost use Rattle.cs_parts.specs.Looked.{looked, argument_looked, arguments_looked, coalesced_looked, selected_looked};
+ghost use Rattle.cs_meaning.specs.Values.{value as value_of, argument_value, arguments_values, coalesced, selected};
+ghost use Rattle.cs_meaning.specs.Looked.{looked, argument_looked, arguments_looked, coalesced_looked, selected_looked};
 ghost use Rattle.cs_parts.specs.Parts.{got};
 ghost use Rattle.cs_eval.specs.Choosing.{chosen, chosen_looked};
 

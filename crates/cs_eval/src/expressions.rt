@@ -5,10 +5,10 @@ ghost use Rattle.cs_value.specs.View.{tree, fields};
 ghost use Rattle.cs_syntax.specs.Expression.{operands_of, entries_of, elements_of, arguments_of, between as between_node, within as within_node};
 ghost use Rattle.cs_syntax.specs.View.{expression, operands, entry as entry_of, elem as element_of, arg as argument_of};
 ghost use Rattle.cs_view.specs.Scopes.{scope};
-ghost use Rattle.cs_parts.specs.Joining.{list_of};
-ghost use Rattle.cs_parts.specs.Operators.{operated, decides, operator, in_path, sole};
-ghost use Rattle.cs_parts.specs.Values.{value as value_of, run_value, arguments_values, element_values, elements_values, entry_pairs, entries_pairs};
-ghost use Rattle.cs_parts.specs.Looked.{looked, run_looked, arguments_looked, element_looked, elements_looked, entry_looked, entries_looked};
+ghost use Rattle.cs_meaning.specs.Joining.{list_of};
+ghost use Rattle.cs_meaning.specs.Operators.{operated, decides, operator_of, in_path, sole};
+ghost use Rattle.cs_meaning.specs.Values.{value as value_of, run_value, arguments_values, element_values, elements_values, entry_pairs, entries_pairs};
+ghost use Rattle.cs_meaning.specs.Looked.{looked, run_looked, arguments_looked, element_looked, elements_looked, entry_looked, entries_looked};
 ghost use Rattle.cs_parts.specs.Parts.{got, item};
 
 use crate::calls::{arguments, call};
@@ -138,7 +138,7 @@ fn operate<'s, S: Source<C>, C>(
 ) -> Result<Got<'s>, NoMemory>
     ensures value { IfOk result (λ g. got g ≡ operated sign (item left.entry) (value_of (S.docs
         source.now) (fields params.now) (expression expr.now) (scope frame.now))) }
-    ensures keys { OnOk result (keys.new ≡ keys.old ++ (if decides (operator sign) (item
+    ensures keys { OnOk result (keys.new ≡ keys.old ++ (if decides (operator_of sign) (item
         left.entry) then [] else looked (S.docs source.now) (fields params.now) (expression
         expr.now) (scope frame.now))) }
 {

@@ -1,7 +1,7 @@
 //! The open levels of a chain. A list whose elements go through a rest one by one waits here for
 //! what becomes of them, so that a chain of any length takes no more of the stack.
 ghost use Rattle.std.specs.Prelude.{◌≡◌, ◌∷◌, ◌++◌, [], IfOk, map};
-ghost use Rattle.cs_parts.specs.Joining.{as_list};
+ghost use Rattle.cs_meaning.specs.Joining.{as_list};
 ghost use Rattle.cs_parts.specs.Parts.{got, item};
 ghost use Rattle.cs_eval.specs.Levels.{added, one_by_one, level_list, reached_value, task_value, waiting, waiting_of, levels_waiting, reached_waiting, task_waiting, Ended, Kept, SameValue};
 ghost use Rattle.std.specs.Vec.Iter.{into_iter_items};
@@ -135,7 +135,7 @@ fn with<'s, 'k>(
         mut out,
     } = level;
     if joins {
-        append(&mut out, spread(alloc, value)?)?;
+        append(&mut out, flat_elements(alloc, value)?)?;
     } else {
         push(&mut out, settle(alloc, value)?)?;
     }

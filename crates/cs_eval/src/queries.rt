@@ -8,12 +8,12 @@ ghost use Rattle.cs_syntax.specs.View.{expression, step as step_of};
 ghost use Rattle.cs_view.specs.Scopes.{scope};
 ghost use Rattle.cs_view.specs.View.{doc as document};
 ghost use Rattle.cs_plan.specs.Simple.{is_simple};
-ghost use Rattle.cs_parts.specs.Hits.{is_hit, tail, cost};
-ghost use Rattle.cs_parts.specs.Joining.{list_of};
-ghost use Rattle.cs_parts.specs.Looked.{query_looked};
-ghost use Rattle.cs_parts.specs.Operators.{is_true};
+ghost use Rattle.cs_meaning.specs.Hits.{is_hit, tail, cost};
+ghost use Rattle.cs_meaning.specs.Joining.{list_of};
+ghost use Rattle.cs_meaning.specs.Looked.{query_looked};
+ghost use Rattle.cs_meaning.specs.Operators.{is_true};
 ghost use Rattle.cs_parts.specs.Parts.{got};
-ghost use Rattle.cs_parts.specs.Values.{value as value_of, pipes_value, query_value};
+ghost use Rattle.cs_meaning.specs.Values.{value as value_of, pipes_value, query_value};
 ghost use Rattle.cs_eval.specs.Starts.{enter_value};
 
 use crate::chains::{enter, pipes};

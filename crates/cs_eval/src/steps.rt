@@ -7,10 +7,10 @@ ghost use Rattle.cs_syntax.specs.Expression.{entries_of, keys_of, pipe};
 ghost use Rattle.cs_syntax.specs.View.{expression, step as step_of, entry as entry_of, key as order_key_of};
 ghost use Rattle.cs_view.specs.Scopes.{scope};
 ghost use Rattle.cs_plan.specs.Steps.{bracketed};
-ghost use Rattle.cs_parts.specs.Operators.{is_true as is_true_tree};
-ghost use Rattle.cs_parts.specs.Values.{value as value_of, entries_pairs, step_value, keys_values, projected, filtered, in_bracket};
-ghost use Rattle.cs_parts.specs.Looked.{looked, entries_looked, step_looked, each_looked, bracket_looked, keys_looked};
-ghost use Rattle.cs_parts.specs.Ordered.{ordered, ranked, directions};
+ghost use Rattle.cs_meaning.specs.Operators.{is_true as is_true_tree};
+ghost use Rattle.cs_meaning.specs.Values.{value as value_of, entries_pairs, step_value, keys_values, projected, filtered, in_bracket};
+ghost use Rattle.cs_meaning.specs.Looked.{looked, entries_looked, step_looked, each_looked, bracket_looked, keys_looked};
+ghost use Rattle.cs_meaning.specs.Ordered.{ordered, ranked, directions};
 ghost use Rattle.cs_parts.specs.Ranked.{ranked as ranked_of};
 ghost use Rattle.cs_parts.specs.Parts.{got, item};
 

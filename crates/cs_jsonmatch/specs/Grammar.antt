@@ -1,7 +1,7 @@
 -- How a path is written: this project's profile of the paths of Sanity's patches ("JSONMatch"). Texts are lists of bytes; a
 -- relation between a text and what it spells has one case for each alternative, and grows at its right end.
 use Rattle.std.specs.Prelude.{Option, Some, None, ◌≡◌, ◌⊎◌, ℕ, ◌<◌, ◌≤◌, ◌+◌, ◌*◌, ◌-◌, ℤ, pos, neg_ℤ, List, [], ◌∷◌, ◌++◌, length, take, Bool, true, false, cond, nat_eq, ◌||◌}
-use Rattle.cs_value.specs.Id.{between}
+use Rattle.cs_value.specs.Id.{is_between}
 use Rattle.cs_value.specs.Tree.{Tree, null, boolean, integer, text}
 use Rattle.cs_jsonmatch.specs.Path.{Item, position, range, every, named, meets, step, Path}
 use Rattle.cs_jsonmatch.specs.declared.class.Class.{Class}
@@ -34,8 +34,8 @@ sign_class b =
 -- The class of a byte: a letter of ASCII or `_`, a digit, either quote, or a sign; the others have none of these.
 abbrev pub class : ℕ → Class
 class b =
-    cond (between 97 122 b || between 65 90 b || nat_eq b 95) Letter
-    (cond (between 48 57 b) Digit
+    cond (is_between 97 122 b || is_between 65 90 b || nat_eq b 95) Letter
+    (cond (is_between 48 57 b) Digit
     (cond (nat_eq b 34 || nat_eq b 39) Quote (sign_class b)))
 
 -- Name = (letter | "_") (letter | digit | "_")*

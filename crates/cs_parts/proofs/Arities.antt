@@ -7,7 +7,7 @@ use Rattle.cs_func.specs.Lists.{count}
 use Rattle.cs_func.specs.Texts.{size}
 use Rattle.cs_func.specs.declared.function.Function.{Function}
 use Rattle.cs_func.specs.declared.function.Function.TheVariants.{Join, Split, StartsWith}
-use Rattle.cs_parts.specs.Joining.{list_of}
+use Rattle.cs_meaning.specs.Joining.{list_of}
 
 pub one_of_two : (f : Function) (x : Tree) → has_two f ≡ true → value f x None ≡ null
 one_of_two Join x h = refl

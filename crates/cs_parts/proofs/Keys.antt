@@ -4,7 +4,7 @@ use Rattle.std.specs.Ordering.{ordering_then}
 use Rattle.cs_value.specs.Tree.{Tree, null}
 use Rattle.cs_value.specs.View.{tree}
 use Rattle.cs_value.specs.declared.val.Val.{Val}
-use Rattle.cs_parts.specs.Ordered.{compared, by_keys}
+use Rattle.cs_meaning.specs.Ordered.{compared, by_keys}
 
 first_at : (p : ℕ) (xs : List Tree) → get_or (drop p xs) 0 null ≡ get_or xs p null
 first_at zero xs = refl

@@ -1,17 +1,10 @@
-pub mod Agree
 pub mod Arities
-pub mod Constants
 pub mod Digits
 pub mod ListPlaces
 pub mod Keys
 pub mod Places
 pub mod Shapes
 pub mod Shown
-pub mod Silent
-pub mod Simple
 pub mod Slices
-pub mod Sorting
 pub mod Sorts
-pub mod Sound
 pub mod Trees
-pub mod TrueKey

@@ -5,7 +5,7 @@ use Rattle.std.proofs.lemmas.List.{drop-take, drop_min, length-take-le, drop-map
 use Rattle.std.specs.List.{take-map}
 use Rattle.std.specs.Prelude.{unwrap_or}
 use Rattle.cs_value.specs.Tree.{Tree, null}
-use Rattle.cs_parts.specs.Positions.{clamped, counted, behind, place_in, element_at}
+use Rattle.cs_meaning.specs.Positions.{clamped, counted, behind, place_in, element_at}
 use Rattle.cs_parts.specs.Brackets.{signed_place, is_back}
 
 is_front_then : (back : Bool) (w : ℕ) → is_back back w ≡ false → signed_place back w ≡ pos w

@@ -9,8 +9,8 @@ use Rattle.cs_view.specs.Keys.{Sel}
 use Rattle.cs_view.specs.declared.key.Key.TheVariants.{All}
 use Rattle.cs_syntax.specs.Expression.{Expression, bracket}
 use Rattle.cs_plan.specs.Steps.{bracketed}
-use Rattle.cs_parts.specs.Joining.{form, bracket_form}
-use Rattle.cs_parts.specs.Operators.{spread_into}
+use Rattle.cs_meaning.specs.Joining.{form, bracket_form}
+use Rattle.cs_meaning.specs.Operators.{spread_into}
 use Rattle.cs_ops.specs.Arithmetic.{merged}
 
 pub reversed : {A : Type 0} → List A → List A

@@ -12,7 +12,7 @@ use Rattle.cs_syntax.specs.declared.tree.Expr as code
 use Rattle.cs_syntax.specs.declared.tree.OrderKey.{OrderKey}
 use Rattle.cs_syntax.specs.declared.tree.Step.{Step as CodeStep}
 use Rattle.cs_syntax.specs.declared.tree.Step as step_code
-use Rattle.cs_parts.specs.Ordered.{directions}
+use Rattle.cs_meaning.specs.Ordered.{directions}
 
 pub expression_call : (name : List ℕ) (args : Vec Arg Global) → expression (code.Call name args) ≡ call name (arguments_of (map arg args.items))
 unfolding expression arg

@@ -8,8 +8,8 @@ use Rattle.cs_value.specs.declared.val.Val.{Val}
 use Rattle.cs_value.specs.declared.val.Val as val
 use Rattle.cs_value.specs.declared.val.Fields.{Fields}
 use Rattle.cs_value.proofs.Views.{tree-List, tree-Obj, members-trees}
-use Rattle.cs_parts.specs.Joining.{list_of}
-use Rattle.cs_parts.specs.Positions.{clamped, counted, behind, between, place_in, element, element_at, sliced}
+use Rattle.cs_meaning.specs.Joining.{list_of}
+use Rattle.cs_meaning.specs.Positions.{clamped, counted, behind, elements_between, place_in, element, element_at, sliced}
 use Rattle.cs_parts.proofs.ListPlaces.{element_there, element_gone, placed_inside, between_places, range_of, clamped_inside}
 
 as_many : {A : Type 0} (f : A → Tree) (xs : List A) → length (map f xs) ≡ length xs
@@ -47,16 +47,16 @@ pub element_of_object : (z : ℤ) (f : Fields) → element z (tree (val.Obj f)) 
 element_of_object z f = ap (element z) (tree-Obj f)
 
 -- slices
-pub sliced_of_parts : (i j : ℤ) (closed : Bool) (ts : List Tree) → sliced (Some i) (Some j) closed (list_of ts) ≡ list_of (between i j closed ts)
-sliced_of_parts i j closed ts = ap (λ (us : List Tree). list_of (between i j closed us)) (members-trees ts)
+pub sliced_of_parts : (i j : ℤ) (closed : Bool) (ts : List Tree) → sliced (Some i) (Some j) closed (list_of ts) ≡ list_of (elements_between i j closed ts)
+sliced_of_parts i j closed ts = ap (λ (us : List Tree). list_of (elements_between i j closed us)) (members-trees ts)
 
-pub sliced_of_list : (i j : ℤ) (closed : Bool) (v : Vec Val Global) → sliced (Some i) (Some j) closed (tree (val.List v)) ≡ list_of (between i j closed (map tree v.items))
+pub sliced_of_list : (i j : ℤ) (closed : Bool) (v : Vec Val Global) → sliced (Some i) (Some j) closed (tree (val.List v)) ≡ list_of (elements_between i j closed (map tree v.items))
 sliced_of_list i j closed v = ap (sliced (Some i) (Some j) closed) (tree-List v) ∙ sliced_of_parts i j closed (map tree v.items)
 
 pub sliced_of_object : (i j : ℤ) (closed : Bool) (f : Fields) → sliced (Some i) (Some j) closed (tree (val.Obj f)) ≡ null
 sliced_of_object i j closed f = ap (sliced (Some i) (Some j) closed) (tree-Obj f)
 
-pub between_map : {A : Type 0} (f : A → Tree) (i j : ℤ) (closed : Bool) (xs : List A) → map f (between i j closed xs) ≡ between i j closed (map f xs)
+pub between_map : {A : Type 0} (f : A → Tree) (i j : ℤ) (closed : Bool) (xs : List A) → map f (elements_between i j closed xs) ≡ elements_between i j closed (map f xs)
 between_map f i j closed xs =
     let n = length xs in
     sym (drop-map f (clamped n (counted n i)) (take (clamped n (behind closed (counted n j))) xs))
@@ -64,7 +64,7 @@ between_map f i j closed xs =
     ∙ ap (λ (m : ℕ). drop (clamped m (counted m i)) (take (clamped m (behind closed (counted m j))) (map f xs))) (sym (as_many f xs)))
 
 pub items_between : {A : Type 0} (xs : List A) (n s e : ℕ) (i j : ℤ) (closed : Bool) → n ≡ length xs → s ≡ clamped n (behind false (counted n i)) → e ≡ clamped n (behind closed (counted n j))
-    → drop (min s e) (take e xs) ≡ between i j closed xs
+    → drop (min s e) (take e xs) ≡ elements_between i j closed xs
 items_between xs n s e i j closed is-n is-s is-e =
     let inside : e ≤ length xs = omega (arith, is-n, is-e, clamped_inside n (behind closed (counted n j))) in
     between_places xs s e inside
@@ -72,7 +72,7 @@ items_between xs n s e i j closed is-n is-s is-e =
     ∙ ap (λ (m : ℕ). drop (clamped m (counted m i)) (take (clamped m (behind closed (counted m j))) xs)) is-n))
 
 pub lent_between : {A : Type 0} (f : A → Tree) (xs : List A) (n s e : ℕ) (i j : ℤ) (closed : Bool) → n ≡ length xs → s ≡ clamped n (behind false (counted n i)) → e ≡ clamped n (behind closed (counted n j))
-    → map f (slice_range xs (min s e) e) ≡ between i j closed (map f xs)
+    → map f (slice_range xs (min s e) e) ≡ elements_between i j closed (map f xs)
 lent_between f xs n s e i j closed is-n is-s is-e =
     range_of f xs (min s e) e (omega arith) ∙ items_between (map f xs) n s e i j closed (is-n ∙ sym (as_many f xs)) is-s is-e
 

@@ -12,8 +12,8 @@ use Rattle.cs_value.specs.declared.val.Val.{Val, the_lemmas}
 use Rattle.cs_value.specs.declared.val.Val as val
 use Rattle.cs_value.specs.declared.val.Fields.{Fields}
 use Rattle.cs_value.proofs.Views.{tree-List, tree-Obj, members-trees}
-use Rattle.cs_parts.specs.Joining.{as_list, list_of, of_list, spread}
-use Rattle.cs_parts.specs.Operators.{reference_of, reference_in, targets}
+use Rattle.cs_meaning.specs.Joining.{as_list, list_of, of_list, flat_elements}
+use Rattle.cs_meaning.specs.Operators.{reference_of, reference_in, targets}
 use Rattle.cs_plan.specs.Steps.{field}
 
 pub tree_of_null : tree val.Null ≡ null
@@ -34,14 +34,14 @@ as_list_of_list v = ap as_list (tree-List v) ∙ as_list_of (map tree v.items)
 pub as_list_of_object : (f : Fields) → as_list (tree (val.Obj f)) ≡ None
 as_list_of_object f = ap as_list (tree-Obj f)
 
-pub spread_of_parts : (ts : List Tree) → spread (list_of ts) ≡ ts
+pub spread_of_parts : (ts : List Tree) → flat_elements (list_of ts) ≡ ts
 spread_of_parts ts = members-trees ts
 
-pub spread_of_list : (v : Vec Val Global) → spread (tree (val.List v)) ≡ map tree v.items
-spread_of_list v = ap spread (tree-List v) ∙ spread_of_parts (map tree v.items)
+pub spread_of_list : (v : Vec Val Global) → flat_elements (tree (val.List v)) ≡ map tree v.items
+spread_of_list v = ap flat_elements (tree-List v) ∙ spread_of_parts (map tree v.items)
 
-pub spread_of_object : (f : Fields) → spread (tree (val.Obj f)) ≡ tree (val.Obj f) ∷ []
-spread_of_object f = ap spread (tree-Obj f) ∙ sym (ap (λ t. t ∷ []) (tree-Obj f))
+pub spread_of_object : (f : Fields) → flat_elements (tree (val.Obj f)) ≡ tree (val.Obj f) ∷ []
+spread_of_object f = ap flat_elements (tree-Obj f) ∙ sym (ap (λ t. t ∷ []) (tree-Obj f))
 
 pub each_of_parts : (ts : List Tree) → of_list list_of (list_of ts) ≡ list_of ts
 each_of_parts ts = ap list_of (members-trees ts)

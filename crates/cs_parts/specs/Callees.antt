@@ -2,7 +2,7 @@
 use Rattle.std.specs.Prelude.{Option, Some, None, if◌then◌else◌}
 use Rattle.cs_syntax.specs.Expression.{Expression, call, Arguments}
 use Rattle.cs_syntax.specs.Faults.{is_path}
-use Rattle.cs_parts.specs.Operators as operators
+use Rattle.cs_meaning.specs.Operators as operators
 use Rattle.cs_parts.specs.declared.calls.Callee.{Callee}
 use Rattle.cs_parts.specs.declared.calls.Callee.TheVariants.{Coalesce, Select, References, Values}
 

@@ -1,9 +1,9 @@
 -- The kinds of all rests of a chain, and what a bracket of the code asks for.
 use Rattle.std.specs.Prelude.{List, [], ◌∷◌}
 use Rattle.cs_syntax.specs.Expression.{Step, steps_of}
-use Rattle.cs_parts.specs.Joining.{kind}
-use Rattle.cs_parts.specs.declared.join.Kind.{Kind}
-use Rattle.cs_parts.specs.declared.join.Kind.TheVariants.{Empty}
+use Rattle.cs_meaning.specs.Joining.{kind}
+use Rattle.cs_meaning.specs.declared.join.Kind.{Kind}
+use Rattle.cs_meaning.specs.declared.join.Kind.TheVariants.{Empty}
 
 -- the kind of each rest that is not empty, the longest first
 abbrev pub kinds_of : List Step → List Kind

@@ -1,15 +1,6 @@
 pub mod Brackets
 pub mod Callees
-pub mod Examples
-pub mod Hits
-pub mod Joining
 pub mod Kinds
-pub mod Laws
-pub mod Looked
-pub mod Operators
-pub mod Ordered
 pub mod Parts
-pub mod Positions
 pub mod Ranked
 pub mod Turns
-pub mod Values

@@ -1,7 +1,7 @@
 -- An element beside its keys.
 use Rattle.std.specs.Prelude.{map}
 use Rattle.cs_value.specs.View.{tree}
-use Rattle.cs_parts.specs.Ordered.{Ranked}
+use Rattle.cs_meaning.specs.Ordered.{Ranked}
 use Rattle.cs_parts.specs.Parts.{item}
 use Rattle.cs_parts.specs.declared.ranks.Ranked.{Ranked as CodeRanked}
 

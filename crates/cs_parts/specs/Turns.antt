@@ -1,9 +1,9 @@
 -- How a rest goes on behind a step.
 use Rattle.std.specs.Prelude.{Bool, true, false}
-use Rattle.cs_parts.specs.declared.join.Way.{Way}
-use Rattle.cs_parts.specs.declared.join.Way.TheVariants.{Over, After, Ends}
-use Rattle.cs_parts.specs.declared.join.Entrance.{Entrance}
-use Rattle.cs_parts.specs.declared.join.Entrance.TheVariants.{Whole}
+use Rattle.cs_meaning.specs.declared.join.Way.{Way}
+use Rattle.cs_meaning.specs.declared.join.Way.TheVariants.{Over, After, Ends}
+use Rattle.cs_meaning.specs.declared.join.Entrance.{Entrance}
+use Rattle.cs_meaning.specs.declared.join.Entrance.TheVariants.{Whole}
 
 -- how what a step gives enters the rest behind it
 abbrev pub turn : Way → Entrance → Entrance

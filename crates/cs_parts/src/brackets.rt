@@ -5,7 +5,7 @@ ghost use Rattle.cs_syntax.specs.View.{expression, step as step_of};
 ghost use Rattle.cs_syntax.specs.Numbers.{whole_number};
 ghost use Rattle.cs_plan.specs.Steps.{bracketed, condition, position_of, number_of, text_of};
 ghost use Rattle.cs_plan.specs.Simple.{is_filter};
-ghost use Rattle.cs_parts.specs.Looked.{starts_with_filter};
+ghost use Rattle.cs_meaning.specs.Looked.{starts_with_filter};
 ghost use Rattle.cs_parts.specs.Kinds.{kinds_of};
 ghost use Rattle.cs_parts.specs.Brackets.{asked, place_of, signed_place};
 

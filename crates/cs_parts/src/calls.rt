@@ -7,8 +7,8 @@ ghost use Rattle.cs_syntax.specs.Expression.{arguments_of};
 ghost use Rattle.cs_syntax.specs.Functions.{without_global};
 ghost use Rattle.cs_syntax.specs.View.{arg as argument_of, expression};
 ghost use Rattle.cs_parts.specs.Callees.{meant, path_arguments};
-ghost use Rattle.cs_parts.specs.Joining.{list_of};
-ghost use Rattle.cs_parts.specs.Operators.{applied, callee, sole};
+ghost use Rattle.cs_meaning.specs.Joining.{list_of};
+ghost use Rattle.cs_meaning.specs.Operators.{applied, callee, sole};
 ghost use Rattle.cs_parts.specs.Parts.{got};
 
 use crate::answer::Got;

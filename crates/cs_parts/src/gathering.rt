@@ -1,7 +1,7 @@
 //! Answers and their elements.
 ghost use Rattle.std.specs.Prelude.{◌≡◌, IfOk, map, option_map, IsTrue, OnOk, ◌++◌, ◌∷◌, []};
 ghost use Rattle.std.specs.List.{list_all};
-ghost use Rattle.cs_parts.specs.Joining.{as_list, list_of, spread as spread_of};
+ghost use Rattle.cs_meaning.specs.Joining.{as_list, list_of, flat_elements as spread_of};
 ghost use Rattle.cs_value.specs.View.{tree};
 ghost use Rattle.cs_parts.specs.Parts.{got, item, is_lent};
 
@@ -146,7 +146,7 @@ pub fn settle<'s>(alloc: Global, whole: Got<'s>) -> Result<Item<'s>, NoMemory>
 
 /// The elements of a list, or the value alone where it is no list.
 #[tactic(auto, using(crate::proofs::Trees::spread_of_list, crate::proofs::Trees::spread_of_object, crate::proofs::Trees::spread_of_parts))]
-pub fn spread<'s>(alloc: Global, whole: Got<'s>) -> Result<Vec<Item<'s>>, NoMemory>
+pub fn flat_elements<'s>(alloc: Global, whole: Got<'s>) -> Result<Vec<Item<'s>>, NoMemory>
     ensures { IfOk result (λ v. map item v.items ≡ spread_of (got whole.entry)) }
 {
     match whole {

@@ -2,7 +2,7 @@
 ghost use Rattle.std.specs.Prelude.{◌≡◌, IfOk, map, drop};
 ghost use Rattle.cs_syntax.specs.Expression.{steps_of};
 ghost use Rattle.cs_syntax.specs.View.{expression, step as step_of};
-ghost use Rattle.cs_parts.specs.Joining.{form, joined, kind, way, entrance, gives_array};
+ghost use Rattle.cs_meaning.specs.Joining.{form, kind_before, kind, way, entrance, gives_array};
 ghost use Rattle.cs_parts.specs.Kinds.{kinds_of, first_kind};
 
 use crate::brackets::{Bracket, bracket_of};
@@ -18,37 +18,37 @@ pub fn form_of(step: &Step) -> Form
 {
     match step {
         Step::Attr(_) | Step::Deref => Form::Single,
-        Step::Each | Step::Slice { .. } => Form::List,
+        Step::Each | Step::Slice { .. } => Form::Listing,
         Step::Bracket(inner) => match bracket_of(inner) {
             Bracket::Position(_) => Form::Element,
             Bracket::Named(_) => Form::Single,
-            Bracket::Condition => Form::List,
+            Bracket::Condition => Form::Listing,
         },
         Step::Project(_) => Form::Projection,
         Step::Pipe { .. } => Form::Pipe,
     }
 }
 
-fn joined(form: Form, kind: Kind) -> Kind
-    ensures { result ≡ joined form kind }
+fn kind_before(form: Form, kind: Kind) -> Kind
+    ensures { result ≡ kind_before form kind }
 {
     match form {
         Form::Pipe => Kind::Empty,
         Form::Single => match kind {
-            Kind::Empty => Kind::Steps(Shape::One, Shape::One),
-            Kind::Steps(_, gives) => Kind::Steps(Shape::One, gives),
+            Kind::Empty => Kind::Taking(Shape::One, Shape::One),
+            Kind::Taking(_, gives) => Kind::Taking(Shape::One, gives),
         },
         Form::Projection => match kind {
-            Kind::Empty => Kind::Steps(Shape::One, Shape::One),
-            Kind::Steps(takes, gives) => Kind::Steps(takes, gives),
+            Kind::Empty => Kind::Taking(Shape::One, Shape::One),
+            Kind::Taking(takes, gives) => Kind::Taking(takes, gives),
         },
         Form::Element => match kind {
-            Kind::Empty => Kind::Steps(Shape::Array, Shape::One),
-            Kind::Steps(_, gives) => Kind::Steps(Shape::Array, gives),
+            Kind::Empty => Kind::Taking(Shape::Array, Shape::One),
+            Kind::Taking(_, gives) => Kind::Taking(Shape::Array, gives),
         },
-        Form::List => match kind {
-            Kind::Steps(Shape::Array, gives) => Kind::Steps(Shape::Array, gives),
-            _ => Kind::Steps(Shape::Array, Shape::Array),
+        Form::Listing => match kind {
+            Kind::Taking(Shape::Array, gives) => Kind::Taking(Shape::Array, gives),
+            _ => Kind::Taking(Shape::Array, Shape::Array),
         },
     }
 }
@@ -59,9 +59,9 @@ pub fn way_of(form: Form, kind: Kind) -> Way
 {
     match form {
         Form::Pipe => Way::Ends,
-        Form::List => Way::After,
+        Form::Listing => Way::After,
         Form::Projection => match kind {
-            Kind::Steps(Shape::Array, _) => Way::Over,
+            Kind::Taking(Shape::Array, _) => Way::Over,
             _ => Way::Through,
         },
         Form::Single | Form::Element => Way::Through,
@@ -73,9 +73,9 @@ pub fn entrance_of(kind: Kind) -> Entrance
     ensures { result ≡ entrance kind }
 {
     match kind {
-        Kind::Empty | Kind::Steps(Shape::Array, _) => Entrance::Whole,
-        Kind::Steps(Shape::One, Shape::One) => Entrance::Mapped,
-        Kind::Steps(Shape::One, Shape::Array) => Entrance::Flat,
+        Kind::Empty | Kind::Taking(Shape::Array, _) => Entrance::Whole,
+        Kind::Taking(Shape::One, Shape::One) => Entrance::Mapped,
+        Kind::Taking(Shape::One, Shape::Array) => Entrance::Flat,
     }
 }
 
@@ -100,7 +100,7 @@ pub fn kinds(alloc: Global, steps: &[Step]) -> Result<Vec<Kind>, NoMemory>
     let mut at = steps.len();
     while at > 0 {
         at -= 1;
-        kind = joined(form_of(&steps[at]), kind);
+        kind = kind_before(form_of(&steps[at]), kind);
         push(&mut found, kind)?;
     }
     found.reverse();

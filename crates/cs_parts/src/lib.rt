@@ -5,12 +5,9 @@
 mod answer;
 mod brackets;
 mod calls;
-pub mod examples;
-mod gathering;
+pub mod gathering;
 mod item;
-mod join;
 mod joins;
-mod laws;
 mod listed;
 mod literals;
 mod members;
@@ -25,14 +22,10 @@ mod visits;
 pub use answer::Got;
 pub use brackets::{Bracket, Place, bracket_of, head_filter, position_of};
 pub use calls::{Callee, applied, callee_of, path_arguments, sole};
-pub use gathering::{append, elements, gather, settle, spread};
+pub use cs_meaning::{Entrance, Form, Kind, Shape, Way};
+pub use gathering::{append, elements, flat_elements, gather, settle};
 pub use item::{Item, push};
-pub use join::{Entrance, Form, Kind, Shape, Way};
 pub use joins::{behind, entrance_of, first_kind, form_of, gives_array, kinds, way_of};
-pub use laws::{
-    hits_have_key, looked_settles_value, quiet_asks_nothing, simple_is_tail_of_hits,
-    simple_looks_up_its_key, sorted_in_one_way, true_has_key,
-};
 pub use listed::{directions, items_of};
 pub use literals::{at_level, decides, operated, param, signed};
 pub use members::{put, put_all, put_bare};

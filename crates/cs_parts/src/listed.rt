@@ -2,7 +2,7 @@
 ghost use Rattle.std.specs.Prelude.{◌≡◌, IfOk, map};
 ghost use Rattle.cs_syntax.specs.Expression.{keys_of};
 ghost use Rattle.cs_syntax.specs.View.{key as order_key_of};
-ghost use Rattle.cs_parts.specs.Ordered.{directions};
+ghost use Rattle.cs_meaning.specs.Ordered.{directions};
 ghost use Rattle.cs_parts.specs.Parts.{item};
 ghost use Rattle.cs_parts.specs.Ranked.{ranked};
 

@@ -3,7 +3,7 @@ ghost use Rattle.std.specs.Prelude.{◌≡◌, IfOk, option_map};
 ghost use Rattle.cs_value.specs.View.{tree, fields};
 ghost use Rattle.cs_view.specs.Scopes.{scope};
 ghost use Rattle.cs_plan.specs.Steps.{in_scope};
-ghost use Rattle.cs_parts.specs.Operators.{parameter, operator, operated, decides, front_operator, signed, is_true};
+ghost use Rattle.cs_meaning.specs.Operators.{parameter, operator_of, operated, decides, front_operator, signed, is_true};
 ghost use Rattle.cs_parts.specs.Parts.{got};
 
 use crate::{Got, is_false};
@@ -37,8 +37,8 @@ pub fn param<'s>(params: &'s Fields, name: &str) -> Got<'s>
 }
 
 // The operator of a sign, if it has one.
-fn operator(sign: BinSign) -> Option<Op>
-    ensures { result ≡ operator sign }
+fn operator_of(sign: BinSign) -> Option<Op>
+    ensures { result ≡ operator_of sign }
 {
     match sign {
         BinSign::Or => Some(Op::Or),
@@ -62,7 +62,7 @@ fn operator(sign: BinSign) -> Option<Op>
 pub fn operated(alloc: Global, sign: BinSign, left: &Val, right: &Val) -> Result<Val, NoMemory>
     ensures { IfOk result (λ v. tree v ≡ operated sign (tree left.now) (tree right.now)) }
 {
-    match operator(sign) {
+    match operator_of(sign) {
         Some(op) => binary(alloc, op, left, right),
         None => Ok(Val::Null),
     }
@@ -70,7 +70,7 @@ pub fn operated(alloc: Global, sign: BinSign, left: &Val, right: &Val) -> Result
 
 /// Whether the left side alone decides.
 pub fn decides(sign: BinSign, left: &Val) -> bool
-    ensures { result ≡ decides (operator sign) (tree left.now) }
+    ensures { result ≡ decides (operator_of sign) (tree left.now) }
 {
     match sign {
         BinSign::And => is_false(left),

@@ -4,7 +4,7 @@ ghost use Rattle.cs_value.specs.Pairs.{put};
 ghost use Rattle.cs_value.specs.View.{tree, fields};
 ghost use Rattle.cs_syntax.specs.Brackets.{key_of};
 ghost use Rattle.cs_syntax.specs.View.{expression};
-ghost use Rattle.cs_parts.specs.Operators.{put_under, spread_into};
+ghost use Rattle.cs_meaning.specs.Operators.{put_under, spread_into};
 ghost use Rattle.cs_ops.specs.Arithmetic.{merged};
 
 use cs_faults::key_of;

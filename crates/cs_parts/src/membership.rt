@@ -5,7 +5,7 @@ ghost use Rattle.cs_value.specs.View.{tree};
 ghost use Rattle.cs_value.specs.Words.{as_text};
 ghost use Rattle.cs_ops.specs.Equal.{equal};
 ghost use Rattle.cs_ops.specs.Operators.{within};
-ghost use Rattle.cs_parts.specs.Operators.{in_path, references, targets};
+ghost use Rattle.cs_meaning.specs.Operators.{in_path, references, targets};
 ghost use Rattle.cs_parts.specs.Parts.{got};
 
 use crate::answer::Got;

@@ -6,7 +6,7 @@ ghost use Rattle.cs_syntax.specs.View.{expression};
 ghost use Rattle.cs_plan.specs.Steps.{position_of as position_in};
 ghost use Rattle.cs_parts.specs.Brackets.{is_back, place_of};
 ghost use Rattle.cs_parts.specs.Parts.{got};
-ghost use Rattle.cs_parts.specs.Positions.{behind, between, clamped, counted, element, element_at, place_in, sliced};
+ghost use Rattle.cs_meaning.specs.Positions.{behind, elements_between, clamped, counted, element, element_at, place_in, sliced};
 
 use crate::answer::Got;
 use crate::brackets::{Place, position_of};
@@ -174,7 +174,7 @@ fn cut_lent<'s>(
     closed: bool,
 ) -> Result<Vec<&'s Val>, NoMemory>
     ensures { IfOk result (λ v. map (λ r. tree r.now) v.items
-        ≡ between (place_of from.entry) (place_of to.entry) closed (map tree vals.now)) }
+        ≡ elements_between (place_of from.entry) (place_of to.entry) closed (map tree vals.now)) }
 {
     let end = bounded(vals.len(), to, closed);
     let start = bounded(vals.len(), from, false).min(end);
@@ -200,7 +200,7 @@ fn cut_parts<'s>(
     closed: bool,
 ) -> Result<Vec<&'s Val>, NoMemory>
     ensures { IfOk result (λ v. map (λ r. tree r.now) v.items
-        ≡ between (place_of from.entry) (place_of to.entry) closed
+        ≡ elements_between (place_of from.entry) (place_of to.entry) closed
         (map (λ r. tree r.now) parts.entry.items)) }
 {
     cut_items(parts, from, to, closed)
@@ -214,7 +214,7 @@ fn cut_vals(
     closed: bool,
 ) -> Result<Vec<Val>, NoMemory>
     ensures { IfOk result (λ v. map tree v.items
-        ≡ between (place_of from.entry) (place_of to.entry) closed (map tree vals.items)) }
+        ≡ elements_between (place_of from.entry) (place_of to.entry) closed (map tree vals.items)) }
 {
     cut_items(vals, from, to, closed)
 }
@@ -228,7 +228,7 @@ fn cut_items<T: Drop>(
     closed: bool,
 ) -> Result<Vec<T>, NoMemory>
     ensures { IfOk result (λ v. v.items
-        ≡ between (place_of from.entry) (place_of to.entry) closed vals.items) }
+        ≡ elements_between (place_of from.entry) (place_of to.entry) closed vals.items) }
 {
     let end = bounded(vals.len(), to, closed);
     let start = bounded(vals.len(), from, false).min(end);

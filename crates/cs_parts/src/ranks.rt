@@ -3,7 +3,7 @@ ghost use Rattle.std.specs.Prelude.{◌≡◌, IfOk, map, get_or, option_map, un
 ghost use Rattle.cs_value.specs.Tree.{null};
 ghost use Rattle.cs_value.specs.View.{tree};
 ghost use Rattle.cs_ops.specs.Order.{total};
-ghost use Rattle.cs_parts.specs.Ordered.{compared, by_keys, ranks, sorted};
+ghost use Rattle.cs_meaning.specs.Ordered.{compared, by_keys, ranks, sorted};
 ghost use Rattle.cs_parts.specs.Ranked.{ranked};
 
 use crate::Item;

@@ -3,10 +3,10 @@ ghost use Rattle.std.specs.Prelude.{◌≡◌, ◌∷◌, [], IfOk, OnOk, map, u
 ghost use Rattle.cs_value.specs.View.{tree, fields};
 ghost use Rattle.cs_syntax.specs.Brackets.{key_of};
 ghost use Rattle.cs_syntax.specs.View.{expression, step as step_of};
-ghost use Rattle.cs_parts.specs.Joining.{as_list};
-ghost use Rattle.cs_parts.specs.Looked.{is_everything};
-ghost use Rattle.cs_parts.specs.Operators.{put_under, signed};
-ghost use Rattle.cs_parts.specs.Values.{is_pipe};
+ghost use Rattle.cs_meaning.specs.Joining.{as_list};
+ghost use Rattle.cs_meaning.specs.Looked.{is_everything};
+ghost use Rattle.cs_meaning.specs.Operators.{put_under, signed};
+ghost use Rattle.cs_meaning.specs.Values.{is_pipe};
 ghost use Rattle.cs_parts.specs.Turns.{turn, is_end, is_over_way};
 ghost use Rattle.cs_parts.specs.Parts.{got, item};
 

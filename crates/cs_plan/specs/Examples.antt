@@ -8,7 +8,7 @@ use Rattle.cs_view.specs.declared.key.Scalar.TheVariants.{Bool as Boolean, Num, 
 use Rattle.cs_view.specs.declared.key.Key.TheVariants.{All, Id, Path, Elem, Ref}
 use Rattle.cs_plan.specs.Filters.{key_in}
 use Rattle.cs_plan.specs.Simple.{is_simple}
-use Rattle.cs_plan.specs.Written.{path, from_all, joined, listed, calling, projecting, whole, object_of}
+use Rattle.cs_plan.specs.Written.{path, from_all, binary_of, listed, calling, projecting, whole, object_of}
 
 -- The parameters of these examples, and the scope around a filter.
 abbrev pub given : Pairs
@@ -23,17 +23,17 @@ outer = object_of ((codes "_id", text (codes "a")) ∷ (codes "n", whole 7) ∷ 
 -- `'x' in tags && n == 1`
 -- `'x' in tags && n > 1`
 abbrev pub KindsInOrder : Type 0
-KindsInOrder = (key_in (run (joined (word (codes "n")) sign.Eq (number_literal (codes "1"))) (more_operands sign.And (within (text_literal (codes "x")) (word (codes "tags"))) (more_operands sign.And (calling (codes "references") (text_literal (codes "a") ∷ [])) (more_operands sign.And (joined (word (codes "_id")) sign.Eq (text_literal (codes "b"))) no_operands)))) (null ∷ []) given ≡ Id (codes "b"))
-    × (key_in (run (within (text_literal (codes "x")) (word (codes "tags"))) (more_operands sign.And (joined (word (codes "n")) sign.Eq (number_literal (codes "1"))) (more_operands sign.And (calling (codes "references") (text_literal (codes "a") ∷ [])) no_operands))) (null ∷ []) given ≡ Ref (codes "a"))
-    × (key_in (joined (within (text_literal (codes "x")) (word (codes "tags"))) sign.And (joined (word (codes "n")) sign.Eq (number_literal (codes "1")))) (null ∷ []) given ≡ Path (codes "n" ∷ []) (Num (pos 1)))
-    × (key_in (joined (within (text_literal (codes "x")) (word (codes "tags"))) sign.And (joined (word (codes "n")) sign.Gt (number_literal (codes "1")))) (null ∷ []) given ≡ Elem (codes "tags" ∷ []) (Text (codes "x")))
+KindsInOrder = (key_in (run (binary_of (word (codes "n")) sign.Eq (number_literal (codes "1"))) (more_operands sign.And (within (text_literal (codes "x")) (word (codes "tags"))) (more_operands sign.And (calling (codes "references") (text_literal (codes "a") ∷ [])) (more_operands sign.And (binary_of (word (codes "_id")) sign.Eq (text_literal (codes "b"))) no_operands)))) (null ∷ []) given ≡ Id (codes "b"))
+    × (key_in (run (within (text_literal (codes "x")) (word (codes "tags"))) (more_operands sign.And (binary_of (word (codes "n")) sign.Eq (number_literal (codes "1"))) (more_operands sign.And (calling (codes "references") (text_literal (codes "a") ∷ [])) no_operands))) (null ∷ []) given ≡ Ref (codes "a"))
+    × (key_in (binary_of (within (text_literal (codes "x")) (word (codes "tags"))) sign.And (binary_of (word (codes "n")) sign.Eq (number_literal (codes "1")))) (null ∷ []) given ≡ Path (codes "n" ∷ []) (Num (pos 1)))
+    × (key_in (binary_of (within (text_literal (codes "x")) (word (codes "tags"))) sign.And (binary_of (word (codes "n")) sign.Gt (number_literal (codes "1")))) (null ∷ []) given ≡ Elem (codes "tags" ∷ []) (Text (codes "x")))
 
 -- Of two keys of one kind the leftmost counts, whichever side its path is on.
 -- `a == 1 && b == 2`
 -- `2 == b && a == 1`
 abbrev pub LeftmostOfAKind : Type 0
-LeftmostOfAKind = (key_in (joined (joined (word (codes "a")) sign.Eq (number_literal (codes "1"))) sign.And (joined (word (codes "b")) sign.Eq (number_literal (codes "2")))) (null ∷ []) given ≡ Path (codes "a" ∷ []) (Num (pos 1)))
-    × (key_in (joined (joined (number_literal (codes "2")) sign.Eq (word (codes "b"))) sign.And (joined (word (codes "a")) sign.Eq (number_literal (codes "1")))) (null ∷ []) given ≡ Path (codes "b" ∷ []) (Num (pos 2)))
+LeftmostOfAKind = (key_in (binary_of (binary_of (word (codes "a")) sign.Eq (number_literal (codes "1"))) sign.And (binary_of (word (codes "b")) sign.Eq (number_literal (codes "2")))) (null ∷ []) given ≡ Path (codes "a" ∷ []) (Num (pos 1)))
+    × (key_in (binary_of (binary_of (number_literal (codes "2")) sign.Eq (word (codes "b"))) sign.And (binary_of (word (codes "a")) sign.Eq (number_literal (codes "1")))) (null ∷ []) given ≡ Path (codes "b" ∷ []) (Num (pos 2)))
 
 -- What is joined by `||`, negated, compared otherwise or compared with null gives no key.
 -- `a == 1 || b == 2`
@@ -43,11 +43,11 @@ LeftmostOfAKind = (key_in (joined (joined (word (codes "a")) sign.Eq (number_lit
 -- `a == null`
 -- `true`
 abbrev pub NoKeyOfEither : Type 0
-NoKeyOfEither = (key_in (joined (joined (word (codes "a")) sign.Eq (number_literal (codes "1"))) sign.Or (joined (word (codes "b")) sign.Eq (number_literal (codes "2")))) (null ∷ []) given ≡ All)
-    × (key_in (joined (joined (word (codes "a")) sign.Eq (number_literal (codes "1"))) sign.Or (joined (joined (word (codes "b")) sign.Eq (number_literal (codes "2"))) sign.And (joined (word (codes "_id")) sign.Eq (text_literal (codes "c"))))) (null ∷ []) given ≡ All)
-    × (key_in (prefix (front.Not ∷ []) (round (joined (word (codes "a")) sign.Eq (number_literal (codes "1"))))) (null ∷ []) given ≡ All)
-    × (key_in (joined (word (codes "a")) sign.Ne (number_literal (codes "1"))) (null ∷ []) given ≡ All)
-    × (key_in (joined (word (codes "a")) sign.Eq null_literal) (null ∷ []) given ≡ All)
+NoKeyOfEither = (key_in (binary_of (binary_of (word (codes "a")) sign.Eq (number_literal (codes "1"))) sign.Or (binary_of (word (codes "b")) sign.Eq (number_literal (codes "2")))) (null ∷ []) given ≡ All)
+    × (key_in (binary_of (binary_of (word (codes "a")) sign.Eq (number_literal (codes "1"))) sign.Or (binary_of (binary_of (word (codes "b")) sign.Eq (number_literal (codes "2"))) sign.And (binary_of (word (codes "_id")) sign.Eq (text_literal (codes "c"))))) (null ∷ []) given ≡ All)
+    × (key_in (prefix (front.Not ∷ []) (round (binary_of (word (codes "a")) sign.Eq (number_literal (codes "1"))))) (null ∷ []) given ≡ All)
+    × (key_in (binary_of (word (codes "a")) sign.Ne (number_literal (codes "1"))) (null ∷ []) given ≡ All)
+    × (key_in (binary_of (word (codes "a")) sign.Eq null_literal) (null ∷ []) given ≡ All)
     × (key_in (bool_literal true) (null ∷ []) given ≡ All)
 
 -- Round brackets around conjuncts are opened, those around a path or a constant are not.
@@ -55,9 +55,9 @@ NoKeyOfEither = (key_in (joined (joined (word (codes "a")) sign.Eq (number_liter
 -- `(a) == 1`
 -- `a == (1)`
 abbrev pub BracketsOpened : Type 0
-BracketsOpened = (key_in (joined (round (joined (word (codes "x")) sign.Gt (number_literal (codes "1")))) sign.And (round (round (joined (joined (word (codes "a")) sign.Eq (number_literal (codes "1"))) sign.And (joined (word (codes "b")) sign.Eq (number_literal (codes "2"))))))) (null ∷ []) given ≡ Path (codes "a" ∷ []) (Num (pos 1)))
-    × (key_in (joined (round (word (codes "a"))) sign.Eq (number_literal (codes "1"))) (null ∷ []) given ≡ All)
-    × (key_in (joined (word (codes "a")) sign.Eq (round (number_literal (codes "1")))) (null ∷ []) given ≡ All)
+BracketsOpened = (key_in (binary_of (round (binary_of (word (codes "x")) sign.Gt (number_literal (codes "1")))) sign.And (round (round (binary_of (binary_of (word (codes "a")) sign.Eq (number_literal (codes "1"))) sign.And (binary_of (word (codes "b")) sign.Eq (number_literal (codes "2"))))))) (null ∷ []) given ≡ Path (codes "a" ∷ []) (Num (pos 1)))
+    × (key_in (binary_of (round (word (codes "a"))) sign.Eq (number_literal (codes "1"))) (null ∷ []) given ≡ All)
+    × (key_in (binary_of (word (codes "a")) sign.Eq (round (number_literal (codes "1")))) (null ∷ []) given ≡ All)
 
 -- A path has at most four names, and each is an attribute of an object.
 -- `a.b['c'].d == 1`
@@ -65,10 +65,10 @@ BracketsOpened = (key_in (joined (round (joined (word (codes "x")) sign.Gt (numb
 -- `a->b == 1`
 -- `a[0] == 1`
 abbrev pub PathsOfFour : Type 0
-PathsOfFour = (key_in (joined (path (word (codes "a")) (attr (codes "b") ∷ bracket (text_literal (codes "c")) ∷ attr (codes "d") ∷ [])) sign.Eq (number_literal (codes "1"))) (null ∷ []) given ≡ Path (codes "a" ∷ codes "b" ∷ codes "c" ∷ codes "d" ∷ []) (Num (pos 1)))
-    × (key_in (joined (path (word (codes "a")) (attr (codes "b") ∷ attr (codes "c") ∷ attr (codes "d") ∷ attr (codes "e") ∷ [])) sign.Eq (number_literal (codes "1"))) (null ∷ []) given ≡ All)
-    × (key_in (joined (path (word (codes "a")) (deref ∷ attr (codes "b") ∷ [])) sign.Eq (number_literal (codes "1"))) (null ∷ []) given ≡ All)
-    × (key_in (joined (path (word (codes "a")) (bracket (number_literal (codes "0")) ∷ [])) sign.Eq (number_literal (codes "1"))) (null ∷ []) given ≡ All)
+PathsOfFour = (key_in (binary_of (path (word (codes "a")) (attr (codes "b") ∷ bracket (text_literal (codes "c")) ∷ attr (codes "d") ∷ [])) sign.Eq (number_literal (codes "1"))) (null ∷ []) given ≡ Path (codes "a" ∷ codes "b" ∷ codes "c" ∷ codes "d" ∷ []) (Num (pos 1)))
+    × (key_in (binary_of (path (word (codes "a")) (attr (codes "b") ∷ attr (codes "c") ∷ attr (codes "d") ∷ attr (codes "e") ∷ [])) sign.Eq (number_literal (codes "1"))) (null ∷ []) given ≡ All)
+    × (key_in (binary_of (path (word (codes "a")) (deref ∷ attr (codes "b") ∷ [])) sign.Eq (number_literal (codes "1"))) (null ∷ []) given ≡ All)
+    × (key_in (binary_of (path (word (codes "a")) (bracket (number_literal (codes "0")) ∷ [])) sign.Eq (number_literal (codes "1"))) (null ∷ []) given ≡ All)
 
 -- What a path may be compared with: texts, numbers, booleans, and parameters that are one of these.
 -- `a == -1`
@@ -79,13 +79,13 @@ PathsOfFour = (key_in (joined (path (word (codes "a")) (attr (codes "b") ∷ bra
 -- `a == $l`
 -- `a == 1 + 1`
 abbrev pub ConstantsOfAFilter : Type 0
-ConstantsOfAFilter = (key_in (joined (word (codes "a")) sign.Eq (prefix (front.Minus ∷ []) (number_literal (codes "1")))) (null ∷ []) given ≡ Path (codes "a" ∷ []) (Num (negsuc 0)))
-    × (key_in (joined (word (codes "a")) sign.Eq (bool_literal true)) (null ∷ []) given ≡ Path (codes "a" ∷ []) (Boolean true))
-    × (key_in (joined (word (codes "_id")) sign.Eq (number_literal (codes "5"))) (null ∷ []) given ≡ Path (codes "_id" ∷ []) (Num (pos 5)))
-    × (key_in (joined (word (codes "a")) sign.Eq (param (codes "p"))) (null ∷ []) given ≡ Path (codes "a" ∷ []) (Text (codes "x")))
-    × (key_in (joined (word (codes "a")) sign.Eq (param (codes "q"))) (null ∷ []) given ≡ All)
-    × (key_in (joined (word (codes "a")) sign.Eq (param (codes "l"))) (null ∷ []) given ≡ All)
-    × (key_in (joined (word (codes "a")) sign.Eq (joined (number_literal (codes "1")) sign.Add (number_literal (codes "1")))) (null ∷ []) given ≡ All)
+ConstantsOfAFilter = (key_in (binary_of (word (codes "a")) sign.Eq (prefix (front.Minus ∷ []) (number_literal (codes "1")))) (null ∷ []) given ≡ Path (codes "a" ∷ []) (Num (negsuc 0)))
+    × (key_in (binary_of (word (codes "a")) sign.Eq (bool_literal true)) (null ∷ []) given ≡ Path (codes "a" ∷ []) (Boolean true))
+    × (key_in (binary_of (word (codes "_id")) sign.Eq (number_literal (codes "5"))) (null ∷ []) given ≡ Path (codes "_id" ∷ []) (Num (pos 5)))
+    × (key_in (binary_of (word (codes "a")) sign.Eq (param (codes "p"))) (null ∷ []) given ≡ Path (codes "a" ∷ []) (Text (codes "x")))
+    × (key_in (binary_of (word (codes "a")) sign.Eq (param (codes "q"))) (null ∷ []) given ≡ All)
+    × (key_in (binary_of (word (codes "a")) sign.Eq (param (codes "l"))) (null ∷ []) given ≡ All)
+    × (key_in (binary_of (word (codes "a")) sign.Eq (binary_of (number_literal (codes "1")) sign.Add (number_literal (codes "1")))) (null ∷ []) given ≡ All)
 
 -- Values of the scope around the filter are constants; the document itself is not.
 -- `r == ^._id`
@@ -95,12 +95,12 @@ ConstantsOfAFilter = (key_in (joined (word (codes "a")) sign.Eq (prefix (front.M
 -- `r == @`
 -- `r == ^.^._id`
 abbrev pub OuterConstants : Type 0
-OuterConstants = (key_in (joined (word (codes "r")) sign.Eq (path (parent 1) (attr (codes "_id") ∷ []))) outer given ≡ Path (codes "r" ∷ []) (Text (codes "a")))
-    × (key_in (joined (path (parent 1) (bracket (text_literal (codes "n")) ∷ [])) sign.Eq (word (codes "r"))) outer given ≡ Path (codes "r" ∷ []) (Num (pos 7)))
-    × (key_in (joined (word (codes "r")) sign.Eq (path (parent 1) (attr (codes "m") ∷ []))) outer given ≡ All)
-    × (key_in (joined (word (codes "r")) sign.Eq (parent 1)) outer given ≡ All)
-    × (key_in (joined (word (codes "r")) sign.Eq this) outer given ≡ All)
-    × (key_in (joined (word (codes "r")) sign.Eq (path (parent 2) (attr (codes "_id") ∷ []))) outer given ≡ All)
+OuterConstants = (key_in (binary_of (word (codes "r")) sign.Eq (path (parent 1) (attr (codes "_id") ∷ []))) outer given ≡ Path (codes "r" ∷ []) (Text (codes "a")))
+    × (key_in (binary_of (path (parent 1) (bracket (text_literal (codes "n")) ∷ [])) sign.Eq (word (codes "r"))) outer given ≡ Path (codes "r" ∷ []) (Num (pos 7)))
+    × (key_in (binary_of (word (codes "r")) sign.Eq (path (parent 1) (attr (codes "m") ∷ []))) outer given ≡ All)
+    × (key_in (binary_of (word (codes "r")) sign.Eq (parent 1)) outer given ≡ All)
+    × (key_in (binary_of (word (codes "r")) sign.Eq this) outer given ≡ All)
+    × (key_in (binary_of (word (codes "r")) sign.Eq (path (parent 2) (attr (codes "_id") ∷ []))) outer given ≡ All)
 
 -- A reference is looked up where one text is given.
 -- `references('a')`
@@ -131,15 +131,15 @@ ReferencesOfOneText = (key_in (calling (codes "references") (text_literal (codes
 -- `(*)[a]`: not simple
 -- `a[b]`: not simple
 abbrev pub SimpleQueries : Type 0
-SimpleQueries = (is_simple (from_all (bracket (joined (joined (word (codes "a")) sign.Mul (number_literal (codes "2"))) sign.Eq (number_literal (codes "4"))) ∷ pipe (codes "order") (keys_of (order_key (word (codes "a")) false ∷ [])) ∷ slice (number_literal (codes "0")) (number_literal (codes "2")) true ∷ attr (codes "b") ∷ each ∷ projecting (bare (word (codes "c")) ∷ []) ∷ [])) ≡ true)
-    × (is_simple (from_all (bracket (joined (word (codes "a")) sign.Eq (number_literal (codes "1"))) ∷ [])) ≡ true)
-    × (is_simple (from_all (bracket (joined (word (codes "a")) sign.Eq (number_literal (codes "1"))) ∷ bracket (text_literal (codes "b")) ∷ bracket (prefix (front.Minus ∷ []) (number_literal (codes "1"))) ∷ [])) ≡ true)
-    × (is_simple (from_all (bracket (joined (path (word (codes "c")) (bracket (joined (word (codes "d")) sign.Gt (number_literal (codes "1"))) ∷ [])) sign.Eq (word (codes "e"))) ∷ projecting (keyed (codes "f") (path (word (codes "g")) (bracket (word (codes "h")) ∷ [])) ∷ []) ∷ [])) ≡ true)
-    × (is_simple (from_all (bracket (joined (word (codes "a")) sign.Eq (number_literal (codes "1"))) ∷ bracket (joined (word (codes "b")) sign.Eq (number_literal (codes "2"))) ∷ [])) ≡ false)
-    × (is_simple (from_all (bracket (joined (word (codes "a")) sign.Eq (number_literal (codes "1"))) ∷ deref ∷ [])) ≡ false)
-    × (is_simple (from_all (bracket (joined (word (codes "a")) sign.Eq (path (word (codes "b")) (deref ∷ attr (codes "c") ∷ []))) ∷ [])) ≡ false)
-    × (is_simple (from_all (bracket (joined (word (codes "a")) sign.Eq (number_literal (codes "1"))) ∷ projecting (keyed (codes "x") (from_all (bracket (number_literal (codes "0")) ∷ [])) ∷ []) ∷ [])) ≡ false)
-    × (is_simple (from_all (bracket (joined (calling (codes "count") (everything ∷ [])) sign.Gt (number_literal (codes "1"))) ∷ [])) ≡ false)
+SimpleQueries = (is_simple (from_all (bracket (binary_of (binary_of (word (codes "a")) sign.Mul (number_literal (codes "2"))) sign.Eq (number_literal (codes "4"))) ∷ pipe (codes "order") (keys_of (order_key (word (codes "a")) false ∷ [])) ∷ slice (number_literal (codes "0")) (number_literal (codes "2")) true ∷ attr (codes "b") ∷ each ∷ projecting (bare (word (codes "c")) ∷ []) ∷ [])) ≡ true)
+    × (is_simple (from_all (bracket (binary_of (word (codes "a")) sign.Eq (number_literal (codes "1"))) ∷ [])) ≡ true)
+    × (is_simple (from_all (bracket (binary_of (word (codes "a")) sign.Eq (number_literal (codes "1"))) ∷ bracket (text_literal (codes "b")) ∷ bracket (prefix (front.Minus ∷ []) (number_literal (codes "1"))) ∷ [])) ≡ true)
+    × (is_simple (from_all (bracket (binary_of (path (word (codes "c")) (bracket (binary_of (word (codes "d")) sign.Gt (number_literal (codes "1"))) ∷ [])) sign.Eq (word (codes "e"))) ∷ projecting (keyed (codes "f") (path (word (codes "g")) (bracket (word (codes "h")) ∷ [])) ∷ []) ∷ [])) ≡ true)
+    × (is_simple (from_all (bracket (binary_of (word (codes "a")) sign.Eq (number_literal (codes "1"))) ∷ bracket (binary_of (word (codes "b")) sign.Eq (number_literal (codes "2"))) ∷ [])) ≡ false)
+    × (is_simple (from_all (bracket (binary_of (word (codes "a")) sign.Eq (number_literal (codes "1"))) ∷ deref ∷ [])) ≡ false)
+    × (is_simple (from_all (bracket (binary_of (word (codes "a")) sign.Eq (path (word (codes "b")) (deref ∷ attr (codes "c") ∷ []))) ∷ [])) ≡ false)
+    × (is_simple (from_all (bracket (binary_of (word (codes "a")) sign.Eq (number_literal (codes "1"))) ∷ projecting (keyed (codes "x") (from_all (bracket (number_literal (codes "0")) ∷ [])) ∷ []) ∷ [])) ≡ false)
+    × (is_simple (from_all (bracket (binary_of (calling (codes "count") (everything ∷ [])) sign.Gt (number_literal (codes "1"))) ∷ [])) ≡ false)
     × (is_simple (everything) ≡ false)
     × (is_simple (from_all (bracket (number_literal (codes "0")) ∷ [])) ≡ false)
     × (is_simple (from_all (attr (codes "a") ∷ bracket (word (codes "b")) ∷ [])) ≡ false)

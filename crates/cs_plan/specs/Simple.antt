@@ -125,5 +125,5 @@ steps_behind (chain everything ss) = ss
 steps_behind _ = no_steps
 
 -- The key of a simple query: that of its filter in the scope of null alone.
-abbrev pub key_of : Expression → Pairs → Key
-key_of e params = key_in (filter_of (steps_behind e)) (null ∷ []) params
+abbrev pub query_key : Expression → Pairs → Key
+query_key e params = key_in (filter_of (steps_behind e)) (null ∷ []) params

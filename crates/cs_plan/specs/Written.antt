@@ -13,8 +13,8 @@ abbrev pub from_all : List Step → Expression
 from_all steps = path everything steps
 
 -- An operator between two expressions.
-abbrev pub joined : Expression → BinSign → Expression → Expression
-joined left sign right = run left (more_operands sign right no_operands)
+abbrev pub binary_of : Expression → BinSign → Expression → Expression
+binary_of left sign right = run left (more_operands sign right no_operands)
 
 -- An array literal of these, without `...`.
 abbrev pub listed : List Expression → Expression

@@ -3,8 +3,8 @@ use Rattle.std.specs.Prelude.{ℕ, List, [], ◌∷◌, Bool, true, false, cond,
 use Rattle.cs_value.specs.Tree.{Tree, null}
 use Rattle.cs_view.specs.Changes.{Edit}
 use Rattle.cs_view.specs.Document.{rev_of}
-use Rattle.cs_parts.specs.Operators.{is_true}
-use Rattle.cs_parts.specs.Values.{value}
+use Rattle.cs_meaning.specs.Operators.{is_true}
+use Rattle.cs_meaning.specs.Values.{value}
 use Rattle.cs_reply.specs.Reply.{Reply, event, Transition, appear, changed, disappear}
 use Rattle.cs_run.specs.State.{Listener}
 

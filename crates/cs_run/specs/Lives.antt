@@ -4,7 +4,7 @@ use Rattle.std.specs.List.{list_any}
 use Rattle.std.specs.Str.{bytes_eq}
 use Rattle.cs_value.specs.Tree.{Tree, Pairs}
 use Rattle.cs_syntax.specs.Expression.{Expression}
-use Rattle.cs_parts.specs.Values.{query_value}
+use Rattle.cs_meaning.specs.Values.{query_value}
 use Rattle.cs_run.specs.Same.{same_tree}
 
 -- a live query: its name, what it asks, and its last answer

@@ -3,7 +3,7 @@ use Rattle.std.specs.Prelude.{ℕ, List, [], ◌∷◌, ◌++◌, Bool, not, map
 use Rattle.cs_value.specs.Tree.{Tree, Pairs}
 use Rattle.cs_syntax.specs.Expression.{Expression}
 use Rattle.cs_view.specs.Changes.{Edit}
-use Rattle.cs_parts.specs.Values.{query_value}
+use Rattle.cs_meaning.specs.Values.{query_value}
 use Rattle.cs_wire.specs.Commands.{Request, mutate, query, live, listen, stop, at}
 use Rattle.cs_reply.specs.Reply.{Reply, Operation, create, update, delete, committed, found, welcome, stopped, set}
 use Rattle.cs_reply.specs.Reply as reply

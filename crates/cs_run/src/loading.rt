@@ -14,7 +14,7 @@ ghost use Rattle.cs_docs.specs.Limits.{most_documents};
 use crate::blank::is_blank;
 use crate::fault::DataCause;
 use crate::import::imported;
-use crate::refusal::{Refusal, json_refusal};
+use crate::refusal::{LineRefusal, json_refusal};
 use cs_docs::{Docs, MOST_DOCUMENTS};
 use cs_value::{NoMemory, Txt, Val};
 use cs_view::{DEEPEST_DOCUMENT, Doc, is_body};
@@ -59,7 +59,7 @@ impl Loading {
     }
 
     // The line's value.
-    fn read(&self, line: &[u8]) -> Result<Val, Refusal>
+    fn read(&self, line: &[u8]) -> Result<Val, LineRefusal>
         ensures value { IfOk result (λ v. outcome deepest_document line.now ≡ value (tree v)) }
         ensures shallow { IfOk result (λ v. is_shallow (tree v) ≡ true) }
         ensures refused { IfErr result (λ r. IsRefused r
@@ -72,7 +72,7 @@ impl Loading {
     }
 
     // Whether the body makes one document more.
-    fn admit(&self, body: &Val) -> Result<(), Refusal>
+    fn admit(&self, body: &Val) -> Result<(), LineRefusal>
         ensures admitted { OnOk result (of_body (so_far self.now) (tree body.now) ≡ a_document
             (imported (tree body.now))) }
         ensures body { OnOk result (is_body (tree body.now) ≡ true) }
@@ -81,14 +81,14 @@ impl Loading {
             (of_body (so_far self.now) (tree body.now))) }
     {
         let Some(id) = body_id(body) else {
-            return Err(Refusal::Cause(DataCause::BadDocument));
+            return Err(LineRefusal::Cause(DataCause::BadDocument));
         };
         if self.documents.contains_key(id.as_str()) {
             let id = Txt::copy_of(self.alloc, id.as_str())?;
-            return Err(Refusal::Cause(DataCause::Repeated { id }));
+            return Err(LineRefusal::Cause(DataCause::Repeated { id }));
         }
         if self.documents.len() == MOST_DOCUMENTS {
-            return Err(Refusal::Cause(DataCause::FullDocuments));
+            return Err(LineRefusal::Cause(DataCause::FullDocuments));
         }
         Ok(())
     }
@@ -104,7 +104,7 @@ impl Loading {
     }
 
     // Takes a line that is not blank.
-    fn take_document(&mut self, line: &[u8]) -> Result<(), Refusal>
+    fn take_document(&mut self, line: &[u8]) -> Result<(), LineRefusal>
         ensures taken { OnOk result (IsTaken (of_outcome (so_far self.old)
             (outcome deepest_document line.now)) (so_far self.old) (so_far self.new)) }
         ensures refused { IfErr result (λ r. IsRefused r
@@ -119,7 +119,7 @@ impl Loading {
 
     /// Takes the next line: nothing changes at a blank one, and else its document is put in the
     /// place of its id.
-    pub(crate) fn take_line(&mut self, line: &[u8]) -> Result<(), Refusal>
+    pub(crate) fn take_line(&mut self, line: &[u8]) -> Result<(), LineRefusal>
         ensures taken { OnOk result (IsTaken (said (so_far self.old) line.now) (so_far self.old)
             (so_far self.new)) }
         ensures refused { IfErr result (λ r. IsRefused r (said (so_far self.old) line.now)) }

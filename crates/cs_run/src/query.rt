@@ -4,7 +4,7 @@ ghost use Rattle.cs_value.specs.View.{fields};
 ghost use Rattle.cs_syntax.specs.Queries.{query as expression_of};
 ghost use Rattle.cs_parse.specs.Verdict.{reading_of};
 ghost use Rattle.cs_parts.specs.Parts.{got};
-ghost use Rattle.cs_parts.specs.Values.{query_value};
+ghost use Rattle.cs_meaning.specs.Values.{query_value};
 ghost use Rattle.cs_docs.specs.Store.{docs as docs_of};
 ghost use Rattle.cs_reply.specs.Reply.{reply_tree, found as found_reply};
 ghost use Rattle.cs_reply.specs.View.{refusal as refusal_seen, Appended};

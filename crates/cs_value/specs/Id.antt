@@ -2,12 +2,12 @@
 use Rattle.std.specs.Prelude.{ℕ, List, [], ◌∷◌, length, Bool, false, not, ◌&&◌, ◌||◌, nat_le, ◌==◌}
 use Rattle.std.specs.List.{list_all}
 
-abbrev pub between : ℕ → ℕ → ℕ → Bool
-between low high b = nat_le low b && nat_le b high
+abbrev pub is_between : ℕ → ℕ → ℕ → Bool
+is_between low high b = nat_le low b && nat_le b high
 
 -- an ASCII letter, a digit, `.`, `_` or `-`
 abbrev pub is_id_byte : ℕ → Bool
-is_id_byte b = between 65 90 b || between 97 122 b || between 48 57 b || b == 46 || b == 95 || b == 45
+is_id_byte b = is_between 65 90 b || is_between 97 122 b || is_between 48 57 b || b == 46 || b == 95 || b == 45
 
 -- the first byte is neither `.` nor `-`
 abbrev pub begins_as_id : List ℕ → Bool

@@ -8,10 +8,10 @@ use Rattle.cs_syntax.specs.declared.tree.OrderKey.{OrderKey as CodeKey}
 use Rattle.cs_syntax.specs.declared.tree.Step.{Step as CodeStep}
 use Rattle.cs_view.specs.Scopes.{scope}
 use Rattle.cs_view.specs.declared.key.Key.{Key}
-use Rattle.cs_parts.specs.declared.join.Entrance.TheVariants.{Whole, Mapped, Flat}
-use Rattle.cs_parts.specs.Joining.{form, kind, way, entrance, list_of}
-use Rattle.cs_parts.specs.Values.{value, rest_value, step_value, selected, keys_values}
-use Rattle.cs_parts.specs.Looked.{looked, run_looked, rest_looked, step_looked, entered_looked, arguments_looked, selected_looked, keys_looked}
+use Rattle.cs_meaning.specs.declared.join.Entrance.TheVariants.{Whole, Mapped, Flat}
+use Rattle.cs_meaning.specs.Joining.{form, kind, way, entrance, list_of}
+use Rattle.cs_meaning.specs.Values.{value, rest_value, step_value, selected, keys_values}
+use Rattle.cs_meaning.specs.Looked.{looked, run_looked, rest_looked, step_looked, entered_looked, arguments_looked, selected_looked, keys_looked}
 use Rattle.cs_parts.specs.Parts.{got}
 use Rattle.cs_parts.specs.Turns.{turn, is_end}
 use Rattle.cs_eval.specs.Starts.{enter_value, enter_looked, once_looked}

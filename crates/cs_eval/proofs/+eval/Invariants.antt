@@ -6,10 +6,10 @@ use Rattle.cs_value.specs.View.{tree, fields}
 use Rattle.cs_syntax.specs.Expression.{operands_of, steps_of, entries_of, elements_of, arguments_of, keys_of}
 use Rattle.cs_syntax.specs.View.{expression, operands, step, entry, elem, arg, key}
 use Rattle.cs_view.specs.Scopes.{scope}
-use Rattle.cs_parts.specs.Operators.{is_true}
-use Rattle.cs_parts.specs.Values.{value, run_value, arguments_values, coalesced, selected, elements_values, entries_pairs, rest_value, pipes_value, step_value, keys_values}
-use Rattle.cs_parts.specs.Looked.{looked, run_looked, arguments_looked, coalesced_looked, selected_looked, elements_looked, entries_looked, rest_looked, pipes_looked, step_looked, keys_looked}
-use Rattle.cs_parts.specs.Ordered.{ranked}
+use Rattle.cs_meaning.specs.Operators.{is_true}
+use Rattle.cs_meaning.specs.Values.{value, run_value, arguments_values, coalesced, selected, elements_values, entries_pairs, rest_value, pipes_value, step_value, keys_values}
+use Rattle.cs_meaning.specs.Looked.{looked, run_looked, arguments_looked, coalesced_looked, selected_looked, elements_looked, entries_looked, rest_looked, pipes_looked, step_looked, keys_looked}
+use Rattle.cs_meaning.specs.Ordered.{ranked}
 use Rattle.cs_parts.specs.Ranked.{ranked as ranked_of}
 use Rattle.cs_parts.specs.Parts.{got, item}
 use Rattle.cs_parts.specs.Kinds.{kinds_of}

@@ -1,7 +1,7 @@
 use Rattle.std.proofs.Common.{◌≡◌, ◌≤◌, drop, length, map}
 use Rattle.cs_syntax.specs.Expression.{steps_of}
 use Rattle.cs_syntax.specs.View.{step}
-use Rattle.cs_parts.specs.Joining.{kind}
+use Rattle.cs_meaning.specs.Joining.{kind}
 use Rattle.cs_parts.specs.Kinds.{kinds_of}
 use Rattle.std.proofs.Common.{reverse}
 use Rattle.cs_parts.proofs.joins.kinds.Given as goal

@@ -2,7 +2,7 @@ use Rattle.std.proofs.Common.{List, ◌++◌, Bool, map, sym, ap, ◌∙◌, app
 use Rattle.cs_syntax.specs.Expression.{keys_of}
 use Rattle.cs_syntax.specs.View.{key}
 use Rattle.cs_syntax.specs.declared.tree.OrderKey.{OrderKey}
-use Rattle.cs_parts.specs.Ordered.{directions}
+use Rattle.cs_meaning.specs.Ordered.{directions}
 use Rattle.cs_parts.proofs.Shown.{directions_more}
 use Rattle.cs_parts.proofs.listed.directions.Goals as goal
 

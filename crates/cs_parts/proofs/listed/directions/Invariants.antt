@@ -1,7 +1,7 @@
 use Rattle.std.proofs.Common.{◌≡◌, ◌++◌, map, length}
 use Rattle.cs_syntax.specs.Expression.{keys_of}
 use Rattle.cs_syntax.specs.View.{key}
-use Rattle.cs_parts.specs.Ordered.{directions}
+use Rattle.cs_meaning.specs.Ordered.{directions}
 use Rattle.cs_parts.proofs.listed.directions.Given as goal
 
 abbrev pub invariant-loop-first : goal.invariant-loop-first

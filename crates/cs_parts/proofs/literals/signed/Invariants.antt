@@ -1,6 +1,6 @@
 use Rattle.std.proofs.Common.{◌≡◌, ◌≤◌, drop, length}
 use Rattle.cs_value.specs.View.{tree}
-use Rattle.cs_parts.specs.Operators.{signed}
+use Rattle.cs_meaning.specs.Operators.{signed}
 use Rattle.cs_parts.proofs.literals.signed.Given as goal
 
 abbrev pub invariant-loop-at : goal.invariant-loop-at

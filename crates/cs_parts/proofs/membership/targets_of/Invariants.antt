@@ -1,6 +1,6 @@
 use Rattle.std.proofs.Common.{◌≡◌, ◌++◌, drop, map}
 use Rattle.std.specs.Prelude.{flat_map}
-use Rattle.cs_parts.specs.Operators.{targets}
+use Rattle.cs_meaning.specs.Operators.{targets}
 use Rattle.cs_parts.specs.Parts.{got}
 use Rattle.cs_parts.proofs.membership.targets_of.Given as goal
 

@@ -1,6 +1,6 @@
 use Rattle.std.proofs.Common.{◌≡◌, ◌+◌, ◌≤◌, map, drop, length}
 use Rattle.cs_value.specs.View.{tree}
-use Rattle.cs_parts.specs.Ordered.{by_keys}
+use Rattle.cs_meaning.specs.Ordered.{by_keys}
 use Rattle.cs_parts.proofs.ranks.by_keys.Given as goal
 
 abbrev pub invariant-loop-descending : goal.invariant-loop-descending

@@ -1,7 +1,7 @@
 use Rattle.std.proofs.Common.{refl}
 use Rattle.std.proofs.lemmas.Result.{on_ok_weaker}
 use Rattle.cs_parse.specs.Verdict.{reading_of}
-use Rattle.cs_parts.specs.Values.{query_value}
+use Rattle.cs_meaning.specs.Values.{query_value}
 use Rattle.cs_reply.specs.Reply.{found}
 use Rattle.cs_syntax.specs.Expression.{Expression}
 use Rattle.cs_syntax.specs.Queries.{query as expression_of}

@@ -1,0 +1,28 @@
+-- The documents behind a simple query's answer: this project's profile.
+use Rattle.std.specs.Prelude.{ℕ, length, filter, List, [], ◌∷◌, Bool}
+use Rattle.cs_value.specs.Tree.{Tree, null, Pairs}
+use Rattle.cs_syntax.specs.Expression.{Expression}
+use Rattle.cs_view.specs.Keys.{Sel}
+use Rattle.cs_plan.specs.Simple.{filter_of, tail_of, steps_behind, query_key}
+use Rattle.cs_meaning.specs.Joining.{list_of, kind, entrance, entered}
+use Rattle.cs_meaning.specs.Operators.{is_true}
+use Rattle.cs_meaning.specs.Values.{value, rest_value, pipes_value}
+
+-- The filter of a simple query is true of the document.
+abbrev pub is_hit : Expression → Pairs → Tree → Bool
+is_hit e params d = is_true (value [] params (filter_of (steps_behind e)) (d ∷ null ∷ []))
+
+-- The documents that make the filter true, in the order of the dataset.
+abbrev pub hits : Expression → Pairs → List Tree → List Tree
+hits e params docs = filter (is_hit e params) docs
+
+-- What the steps behind the filter make of these documents. No dataset is asked.
+abbrev pub tail : Expression → Pairs → List Tree → Tree
+tail e params ds =
+    let ss = tail_of (steps_behind e) in
+    pipes_value [] params ss (null ∷ [])
+    (entered (entrance (kind ss)) (rest_value [] params ss (null ∷ [])) (list_of ds))
+
+-- How many documents have the key of the query.
+abbrev pub cost : Expression → Pairs → List Tree → ℕ
+cost e params docs = length (Sel (query_key e params) docs)

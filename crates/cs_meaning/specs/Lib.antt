@@ -1,0 +1,9 @@
+pub mod Examples
+pub mod Hits
+pub mod Joining
+pub mod Laws
+pub mod Looked
+pub mod Operators
+pub mod Ordered
+pub mod Positions
+pub mod Values
