@@ -2,5 +2,6 @@ pub mod Answered
 pub mod Calling
 pub mod Deciding
 pub mod Joins
+pub mod Climbing
 pub mod Simples
 pub mod Sorting

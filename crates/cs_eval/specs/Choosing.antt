@@ -10,7 +10,8 @@ use Rattle.cs_meaning.specs.Values.{value}
 -- its expression where it has no condition, or one that is true
 abbrev pub chosen : List Tree → Pairs → Argument → List Tree → Option Expression
 chosen docs params (argument e) scope = Some e
-chosen docs params (when_argument c e) scope = if is_true (value docs params c scope) then Some e else None
+chosen docs params (when_argument c e) scope = if is_true (value docs params c scope) then Some e
+    else None
 
 -- what its condition looks up
 abbrev pub chosen_looked : List Tree → Pairs → Argument → List Tree → List Key

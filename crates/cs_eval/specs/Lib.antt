@@ -1,3 +1,5 @@
 pub mod Choosing
+pub mod Levels
 pub mod Starts
+pub mod Stops
 pub mod Weight

@@ -11,19 +11,25 @@ use Rattle.cs_meaning.specs.Looked.{looked, rest_looked, step_looked, filter_loo
 
 -- a chain up to its first piped call
 abbrev pub start_value : List Tree → Pairs → Expression → Steps → List Tree → Tree
-start_value docs params base ss scope = entered (base_entrance base (kind ss)) (rest_value docs params ss scope) (value docs params base scope)
+start_value docs params base ss scope =
+    entered (base_entrance base (kind ss)) (rest_value docs params ss scope)
+    (value docs params base scope)
 
 abbrev pub start_looked : List Tree → Pairs → Expression → Steps → List Tree → List Key
 start_looked docs params base ss scope =
     if is_everything base && starts_with_filter ss then filter_looked docs params ss scope
-    else looked docs params base scope ++ entered_looked (base_entrance base (kind ss)) (rest_looked docs params ss scope) (value docs params base scope)
+    else looked docs params base scope
+    ++ entered_looked (base_entrance base (kind ss)) (rest_looked docs params ss scope)
+    (value docs params base scope)
 
 -- an array enters a rest
 abbrev pub enter_value : List Tree → Pairs → Steps → List Tree → Tree → Tree
-enter_value docs params ss scope v = entered (entrance (kind ss)) (rest_value docs params ss scope) v
+enter_value docs params ss scope v =
+    entered (entrance (kind ss)) (rest_value docs params ss scope) v
 
 abbrev pub enter_looked : List Tree → Pairs → Steps → List Tree → Tree → List Key
-enter_looked docs params ss scope v = entered_looked (entrance (kind ss)) (rest_looked docs params ss scope) v
+enter_looked docs params ss scope v =
+    entered_looked (entrance (kind ss)) (rest_looked docs params ss scope) v
 
 -- one step, mapped over an array where the way says so
 abbrev pub once : Way → (Tree → Tree) → Tree → Tree
@@ -36,8 +42,13 @@ once_looked way f v = f v
 
 -- a step, where it is a piped call, and the rest behind it
 abbrev pub piped_value : List Tree → Pairs → Step → Steps → List Tree → Tree → Tree
-piped_value docs params s ss scope v = if is_pipe s then entered (entrance (kind ss)) (rest_value docs params ss scope) (step_value docs params s scope v) else v
+piped_value docs params s ss scope v = if is_pipe s
+    then entered (entrance (kind ss)) (rest_value docs params ss scope)
+    (step_value docs params s scope v) else v
 
 abbrev pub piped_looked : List Tree → Pairs → Step → Steps → List Tree → Tree → List Key
 piped_looked docs params s ss scope v =
-    if is_pipe s then step_looked docs params s scope v ++ entered_looked (entrance (kind ss)) (rest_looked docs params ss scope) (step_value docs params s scope v) else []
+    if is_pipe s
+    then step_looked docs params s scope v
+    ++ entered_looked (entrance (kind ss)) (rest_looked docs params ss scope)
+    (step_value docs params s scope v) else []

@@ -6,20 +6,24 @@ ghost use Rattle.cs_syntax.specs.View.{expression, step as step_of};
 ghost use Rattle.cs_view.specs.Keys.{Sel};
 ghost use Rattle.cs_view.specs.Scopes.{scope};
 ghost use Rattle.cs_plan.specs.Filters.{key_in};
-ghost use Rattle.cs_meaning.specs.Joining.{list_of, mapped, flattened, flat_elements as spread_of};
+ghost use Rattle.cs_meaning.specs.Joining.{list_of};
 ghost use Rattle.cs_meaning.specs.Operators.{is_true as is_true_tree};
 ghost use Rattle.cs_meaning.specs.Values.{value as value_of, rest_value, pipes_value, step_value, filtered};
 ghost use Rattle.cs_meaning.specs.Looked.{looked, rest_looked, pipes_looked, step_looked, each_looked};
 ghost use Rattle.cs_parts.specs.Parts.{got, item};
 ghost use Rattle.cs_parts.specs.Kinds.{kinds_of};
+ghost use Rattle.cs_eval.specs.Levels.{ReachedFits, reached_weight};
+ghost use Rattle.cs_eval.specs.Stops.{stop, stop_value, stop_looked, stopped};
+ghost use Rattle.cs_eval.specs.Weight.{steps_weight};
 ghost use Rattle.cs_eval.specs.Starts.{start_value, start_looked, enter_value, enter_looked, once, once_looked, piped_value, piped_looked};
 
 use crate::expressions::eval;
-use crate::steps::{keep, one_step};
+use crate::levels::{Reached, Remaining, Task, next_task};
+use crate::steps::{keep_lent, one_step};
 use cs_parts::{
-    Entrance, Got, Item, Kind, Source, Way, append, behind, elements, ends, entrance_of,
-    first_kind, form_of, gather, gives_array, head_filter, is_all, is_over, is_pipe, kinds, lent,
-    flat_elements, push, settle, turn, way_of,
+    Entrance, Got, Item, Kind, Source, Way, behind, elements, ends, entrance_of, first_kind,
+    form_of, gather, gives_array, head_filter, is_all, is_over, is_pipe, kinds, push, settle, turn,
+    way_of,
 };
 use cs_plan::choose;
 use cs_syntax::{Expr, Step};
@@ -133,9 +137,8 @@ fn filtered_all<'s, S: Source<C>, C>(
     let key = choose(alloc, condition, frame, params)?;
     let found = source.select(alloc, &key, count)?;
     keys.add(key)?;
-    let items = lent(alloc, found)?;
-    let kept = keep(alloc, condition, frame, params, source, items, keys, count)?;
-    let list = gather(alloc, kept)?;
+    let kept = keep_lent(alloc, condition, frame, params, source, found, keys, count)?;
+    let list = Got::Parts(kept);
     enter(
         alloc, steps, kinds, frame, params, source, list, keys, count,
     )
@@ -161,20 +164,23 @@ pub(crate) fn enter<'s, S: Source<C>, C>(
     ensures keys { OnOk result (keys.new ≡ keys.old ++ enter_looked (S.docs source.now) (fields
         params.now) (steps_of (map step_of steps.now)) (scope frame.now) (got value.entry)) }
 {
+    let later = Remaining { steps, kinds };
     match entrance_of(first_kind(kinds)) {
         Entrance::Whole => rest(
             alloc, steps, kinds, frame, params, source, value, keys, count,
         ),
-        Entrance::Mapped => mapped(
-            alloc, steps, kinds, frame, params, source, value, keys, count,
-        ),
-        Entrance::Flat => flattened(
-            alloc, steps, kinds, frame, params, source, value, keys, count,
-        ),
+        Entrance::Mapped => {
+            let first = Reached::Each(value, false, later);
+            climb(alloc, first, frame, params, source, keys, count)
+        }
+        Entrance::Flat => {
+            let first = Reached::Each(value, true, later);
+            climb(alloc, first, frame, params, source, keys, count)
+        }
     }
 }
 
-// A rest, up to the first piped call: a loop, which calls itself only where a rest is mapped.
+// A rest, up to the first piped call.
 #[cycle(eval)]
 fn rest<'s, S: Source<C>, C>(
     alloc: Global,
@@ -193,6 +199,35 @@ fn rest<'s, S: Source<C>, C>(
     ensures keys { OnOk result (keys.new ≡ keys.old ++ rest_looked (S.docs source.now) (fields
         params.now) (steps_of (map step_of steps.now)) (scope frame.now) (got value.entry)) }
 {
+    let first = straight(
+        alloc, steps, kinds, frame, params, source, value, keys, count,
+    )?;
+    climb(alloc, first, frame, params, source, keys, count)
+}
+
+// A rest as far as it maps no list.
+#[cycle(eval)]
+fn straight<'s, 'k, S: Source<C>, C>(
+    alloc: Global,
+    steps: &'s [Step],
+    kinds: &'k [Kind],
+    frame: &Scope<'s>,
+    params: &'s Fields,
+    source: &'s S,
+    value: Got<'s>,
+    keys: &mut Record,
+    count: &mut C,
+) -> Result<Reached<'s, 'k>, NoMemory>
+    requires { kinds.now ≡ kinds_of (map step_of steps.now) }
+    ensures stop { IfOk result (λ r. stopped r ≡ stop (S.docs source.now) (fields params.now)
+        (steps_of (map step_of steps.now)) (scope frame.now) (got value.entry)) }
+    ensures keys { IfOk result (λ r. keys.new ++ stop_looked (S.docs source.now) (fields
+        params.now) (scope frame.now) (stopped r) ≡ keys.old ++ rest_looked (S.docs source.now)
+        (fields params.now) (steps_of (map step_of steps.now)) (scope frame.now)
+        (got value.entry)) }
+    ensures fits { IfOk result (λ r. ReachedFits (steps_weight (steps_of (map step_of steps.now)))
+        r) }
+{
     let mut here = value;
     let mut left = steps;
     let mut left_kinds = kinds;
@@ -201,180 +236,54 @@ fn rest<'s, S: Source<C>, C>(
         let kind = first_kind(later_kinds);
         let way = way_of(form_of(first), kind);
         if ends(way) {
-            return Ok(here);
+            return Ok(Reached::End(here));
         }
         here = once(alloc, first, way, frame, params, source, here, keys, count)?;
+        let rest = Remaining {
+            steps: later,
+            kinds: later_kinds,
+        };
         match turn(way, entrance_of(kind)) {
             Entrance::Whole => {}
-            Entrance::Mapped => {
-                return mapped(
-                    alloc,
-                    later,
-                    later_kinds,
-                    frame,
-                    params,
-                    source,
-                    here,
-                    keys,
-                    count,
-                );
-            }
-            Entrance::Flat => {
-                return flattened(
-                    alloc,
-                    later,
-                    later_kinds,
-                    frame,
-                    params,
-                    source,
-                    here,
-                    keys,
-                    count,
-                );
-            }
+            Entrance::Mapped => return Ok(Reached::Each(here, false, rest)),
+            Entrance::Flat => return Ok(Reached::Each(here, true, rest)),
         }
         left = later;
         left_kinds = later_kinds;
     }
-    Ok(here)
+    Ok(Reached::End(here))
 }
 
-// The rest of each element, as a list.
+// What comes of the place that a rest has reached. A list whose elements go on one by one becomes
+// an open level, so that no chain, however long, takes more of the stack.
 #[cycle(eval)]
-#[tactic(auto, using(cs_parts::proofs::Trees::tree_of_null))]
-fn mapped<'s, S: Source<C>, C>(
+fn climb<'s, 'k, S: Source<C>, C>(
     alloc: Global,
-    steps: &'s [Step],
-    kinds: &[Kind],
+    first: Reached<'s, 'k>,
     frame: &Scope<'s>,
     params: &'s Fields,
     source: &'s S,
-    value: Got<'s>,
     keys: &mut Record,
     count: &mut C,
 ) -> Result<Got<'s>, NoMemory>
-    requires { kinds.now ≡ kinds_of (map step_of steps.now) }
-    ensures value { IfOk result (λ g. got g ≡ mapped (rest_value (S.docs source.now) (fields
-        params.now) (steps_of (map step_of steps.now)) (scope frame.now)) (got value.entry)) }
-    ensures keys { OnOk result (keys.new ≡ keys.old ++ each_looked (rest_looked (S.docs
-        source.now) (fields params.now) (steps_of (map step_of steps.now)) (scope frame.now)) (got
-        value.entry)) }
+    requires { ReachedFits (reached_weight first) first }
+    ensures value { IfOk result (λ g. got g ≡ stop_value (S.docs source.now) (fields params.now)
+        (scope frame.now) (stopped first.entry)) }
+    ensures keys { OnOk result (keys.new ≡ keys.old ++ stop_looked (S.docs source.now) (fields
+        params.now) (scope frame.now) (stopped first.entry)) }
 {
-    let Some(items) = elements(alloc, value)? else {
-        return Ok(Got::Whole(Val::Null));
-    };
-    let given = rest_of_each(
-        alloc, steps, kinds, frame, params, source, items, keys, count,
-    )?;
-    gather(alloc, given)
-}
-
-// What the rest makes of each element.
-#[cycle(eval)]
-fn rest_of_each<'s, S: Source<C>, C>(
-    alloc: Global,
-    steps: &'s [Step],
-    kinds: &[Kind],
-    frame: &Scope<'s>,
-    params: &'s Fields,
-    source: &'s S,
-    items: Vec<Item<'s>>,
-    keys: &mut Record,
-    count: &mut C,
-) -> Result<Vec<Item<'s>>, NoMemory>
-    requires { kinds.now ≡ kinds_of (map step_of steps.now) }
-    ensures value { IfOk result (λ v. map item v.items ≡ map (rest_value (S.docs source.now)
-        (fields params.now) (steps_of (map step_of steps.now)) (scope frame.now)) (map item
-        items.entry.items)) }
-    ensures keys { OnOk result (keys.new ≡ keys.old ++ flat_map (rest_looked (S.docs source.now)
-        (fields params.now) (steps_of (map step_of steps.now)) (scope frame.now)) (map item
-        items.entry.items)) }
-{
-    let mut out = Vec::new(alloc);
-    for i in items {
-        let given = rest(
-            alloc,
-            steps,
-            kinds,
-            frame,
-            params,
-            source,
-            i.into_got(),
-            keys,
-            count,
-        )?;
-        push(&mut out, settle(alloc, given)?)?;
+    let mut levels = Vec::new(alloc);
+    let mut here = first;
+    loop {
+        match next_task(alloc, here, &mut levels)? {
+            Task::Done(value) => return Ok(value),
+            Task::Go(value, rest) => {
+                here = straight(
+                    alloc, rest.steps, rest.kinds, frame, params, source, value, keys, count,
+                )?;
+            }
+        }
     }
-    Ok(out)
-}
-
-// The same with each list among the results replaced by its elements.
-#[cycle(eval)]
-#[tactic(auto, using(cs_parts::proofs::Trees::tree_of_null))]
-fn flattened<'s, S: Source<C>, C>(
-    alloc: Global,
-    steps: &'s [Step],
-    kinds: &[Kind],
-    frame: &Scope<'s>,
-    params: &'s Fields,
-    source: &'s S,
-    value: Got<'s>,
-    keys: &mut Record,
-    count: &mut C,
-) -> Result<Got<'s>, NoMemory>
-    requires { kinds.now ≡ kinds_of (map step_of steps.now) }
-    ensures value { IfOk result (λ g. got g ≡ flattened (rest_value (S.docs source.now) (fields
-        params.now) (steps_of (map step_of steps.now)) (scope frame.now)) (got value.entry)) }
-    ensures keys { OnOk result (keys.new ≡ keys.old ++ each_looked (rest_looked (S.docs
-        source.now) (fields params.now) (steps_of (map step_of steps.now)) (scope frame.now)) (got
-        value.entry)) }
-{
-    let Some(items) = elements(alloc, value)? else {
-        return Ok(Got::Whole(Val::Null));
-    };
-    let given = rests_joined(
-        alloc, steps, kinds, frame, params, source, items, keys, count,
-    )?;
-    gather(alloc, given)
-}
-
-// What the rest makes of each element, the elements of a list one by one.
-#[cycle(eval)]
-fn rests_joined<'s, S: Source<C>, C>(
-    alloc: Global,
-    steps: &'s [Step],
-    kinds: &[Kind],
-    frame: &Scope<'s>,
-    params: &'s Fields,
-    source: &'s S,
-    items: Vec<Item<'s>>,
-    keys: &mut Record,
-    count: &mut C,
-) -> Result<Vec<Item<'s>>, NoMemory>
-    requires { kinds.now ≡ kinds_of (map step_of steps.now) }
-    ensures value { IfOk result (λ v. map item v.items ≡ flat_map spread_of (map (rest_value
-        (S.docs source.now) (fields params.now) (steps_of (map step_of steps.now)) (scope
-        frame.now)) (map item items.entry.items))) }
-    ensures keys { OnOk result (keys.new ≡ keys.old ++ flat_map (rest_looked (S.docs source.now)
-        (fields params.now) (steps_of (map step_of steps.now)) (scope frame.now)) (map item
-        items.entry.items)) }
-{
-    let mut out = Vec::new(alloc);
-    for i in items {
-        let given = rest(
-            alloc,
-            steps,
-            kinds,
-            frame,
-            params,
-            source,
-            i.into_got(),
-            keys,
-            count,
-        )?;
-        append(&mut out, flat_elements(alloc, given)?)?;
-    }
-    Ok(out)
 }
 
 // What stands from the first piped call on.

@@ -4,6 +4,7 @@
 mod calls;
 mod chains;
 mod expressions;
+mod levels;
 mod queries;
 mod steps;
 

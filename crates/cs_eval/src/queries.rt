@@ -18,8 +18,8 @@ ghost use Rattle.cs_eval.specs.Starts.{enter_value};
 
 use crate::chains::{enter, pipes};
 use crate::expressions::eval as evaluate;
-use crate::steps::{holds, keep};
-use cs_parts::{Got, NoDocs, Source, gather, head_filter, kinds, lent, push};
+use crate::steps::{holds, keep_lent};
+use cs_parts::{Got, NoDocs, Source, head_filter, kinds, push};
 use cs_plan::{choose, simple};
 use cs_syntax::{Expr, Query, Step};
 use cs_value::{Fields, NoMemory, Steps, Val};
@@ -198,19 +198,17 @@ fn tail_of_hits<'s>(
 {
     let mut aside = Record::new(alloc);
     let mut nothing = ();
-    let items = lent(alloc, docs)?;
-    let kept = keep(
+    let kept = keep_lent(
         alloc,
         condition,
         frame,
         params,
         &NO_DOCS,
-        items,
+        docs,
         &mut aside,
         &mut nothing,
     )?;
-    let list = gather(alloc, kept)?;
-    tail_from(alloc, steps, frame, params, list)
+    tail_from(alloc, steps, frame, params, Got::Parts(kept))
 }
 
 // A simple query: its key is looked up, and nothing else.

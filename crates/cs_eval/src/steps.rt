@@ -136,6 +136,34 @@ pub(crate) fn keep<'s, S: Source<C>, C>(
     Ok(out)
 }
 
+// The same of borrowed values.
+#[cycle(eval)]
+pub(crate) fn keep_lent<'s, S: Source<C>, C>(
+    alloc: Global,
+    inner: &'s Expr,
+    frame: &Scope<'s>,
+    params: &'s Fields,
+    source: &'s S,
+    parts: Vec<&'s Val>,
+    keys: &mut Record,
+    count: &mut C,
+) -> Result<Vec<&'s Val>, NoMemory>
+    ensures value { IfOk result (λ v. map (λ r. tree r.now) v.items ≡ filter (λ x. is_true_tree
+        (value_of (S.docs source.now) (fields params.now) (expression inner.now)
+        (x ∷ (scope frame.now)))) (map (λ r. tree r.now) parts.entry.items)) }
+    ensures keys { OnOk result (keys.new ≡ keys.old ++ flat_map (λ x. looked (S.docs source.now)
+        (fields params.now) (expression inner.now) (x ∷ (scope frame.now)))
+        (map (λ r. tree r.now) parts.entry.items)) }
+{
+    let mut out = Vec::new(alloc);
+    for part in parts {
+        if holds(alloc, inner, frame, params, source, part, keys, count)? {
+            push(&mut out, part)?;
+        }
+    }
+    Ok(out)
+}
+
 // Whether the condition is true in the scope of the value in front.
 #[cycle(eval)]
 pub(crate) fn holds<S: Source<C>, C>(

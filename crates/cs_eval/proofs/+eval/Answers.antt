@@ -1,4 +1,4 @@
-use Rattle.std.proofs.Common.{◌≡◌, ◌+◌, List, ◌∷◌, ◌++◌, map, sym, ap, subst, ◌∙◌, IfOk, OnOk, arith, false, Some, None, option_map}
+use Rattle.std.proofs.Common.{◌≡◌, ◌+◌, List, ◌∷◌, ◌++◌, map, refl, sym, ap, subst, ◌∙◌, IfOk, OnOk, arith, false, Some, None, option_map}
 use Rattle.cs_value.specs.Tree.{Tree}
 use Rattle.cs_value.specs.View.{tree, fields}
 use Rattle.cs_syntax.specs.Expression.{Step, more_steps, more_arguments, more_keys, call, run, operands_of, steps_of, arguments_of, keys_of}
@@ -9,10 +9,10 @@ use Rattle.cs_syntax.specs.declared.tree.Step.{Step as CodeStep}
 use Rattle.cs_view.specs.Scopes.{scope}
 use Rattle.cs_view.specs.declared.key.Key.{Key}
 use Rattle.cs_meaning.specs.declared.join.Entrance.TheVariants.{Whole, Mapped, Flat}
-use Rattle.cs_meaning.specs.Joining.{form, kind, way, entrance}
+use Rattle.cs_meaning.specs.Joining.{form, kind, way, entrance, list_of}
 use Rattle.cs_meaning.specs.Values.{value, rest_value, step_value, selected, keys_values}
 use Rattle.cs_meaning.specs.Looked.{looked, run_looked, rest_looked, step_looked, entered_looked, arguments_looked, selected_looked, keys_looked}
-use Rattle.cs_parts.specs.Parts.{got, item}
+use Rattle.cs_parts.specs.Parts.{got}
 use Rattle.cs_parts.specs.Turns.{turn, is_end}
 use Rattle.cs_eval.specs.Starts.{enter_value, enter_looked, once_looked}
 use Rattle.cs_eval.specs.Weight.{weight, operands_weight, arguments_weight, step_weight, steps_weight, keys_weight}
@@ -23,6 +23,13 @@ use Rattle.cs_eval.specs.Choosing.{chosen, chosen_looked}
 use Rattle.cs_eval.proofs.Calling.{none_left, selected_here, selected_looks_here, selected_on, selected_looks_on, chosen_weight, within_path, within_list, path_looked, path_weight}
 use Rattle.cs_eval.proofs.Sorting.{keys_values_more, keys_looked_more, keys_weight_more, pushed_values}
 use Rattle.cs_eval.proofs.Answered.{run_parts, run_keys, one_after_another, pipe_parts, kept_docs, kept_keys, star_value, star_looked, is_everything_then, step_on, step_looks_on, kind_behind, kinds_behind}
+use Rattle.cs_eval.specs.Levels.{unwound, task_value, task_waiting, levels_waiting}
+use Rattle.cs_eval.specs.Levels.{reached_waiting, reached_weight}
+use Rattle.cs_eval.specs.Stops.{stop, stop_value}
+use Rattle.cs_eval.specs.declared.levels.Task.{Task}
+use Rattle.cs_eval.proofs.Climbing.{wait, rest_of, stop_gives, step_stops, first_value}
+use Rattle.cs_eval.proofs.Climbing.{first_looks, first_fits, turn_value, turn_looks, turn_fits}
+use Rattle.cs_eval.proofs.Climbing.{turn_marks, done_value, done_order, done_looks}
 use Rattle.cs_eval.proofs.+eval.Goals as goal
 
 pub expressions::eval-run-requires : goal.expressions::eval-run-requires
@@ -52,10 +59,12 @@ chains::filtered_all-returns-clause-value g t c =
     let docs = g.S.Source.docs c.args.source.now in
     let ps = fields c.args.params.now in
     let sc = scope c.args.frame.now in
+    let found = map (λ r. tree r.now) c.in_ok-found.found.items in
+    let kept = map (λ r. tree r.now) c.in_ok-kept.kept.items in
     subst (λ (y : Tree). IfOk c.enter.result (λ g'. got g' ≡ y))
     (ap (enter_value docs ps (steps_of (map step c.args.steps.now)) sc)
-    (c.in_ok-list.ensures ∙ kept_docs docs ps (expression c.args.condition.now) sc c.in_ok-key.key (map (λ r. tree r.now) c.in_ok-found.found.items) (map item c.in_ok-items.items.items) (map item c.in_ok-kept.kept.items)
-    c.in_ok-key.ensures c.in_ok-found.ensures.found c.in_ok-items.ensures c.in_ok-kept.ensures.value))
+    (kept_docs docs ps (expression c.args.condition.now) sc c.in_ok-key.key found found kept
+    c.in_ok-key.ensures c.in_ok-found.ensures.found refl c.in_ok-kept.ensures.value))
     c.enter.ensures.value
 
 pub chains::filtered_all-returns-clause-keys : goal.chains::filtered_all-returns-clause-keys
@@ -66,12 +75,15 @@ chains::filtered_all-returns-clause-keys g t c =
     let ss = steps_of (map step c.args.steps.now) in
     let e = expression c.args.condition.now in
     let found = map (λ r. tree r.now) c.in_ok-found.found.items in
-    let items = map item c.in_ok-items.items.items in
+    let kept = map (λ r. tree r.now) c.in_ok-kept.kept.items in
     subst (λ (ks : List Key). OnOk c.enter.result (c.enter.new.keys ≡ ks))
-    (kept_keys docs ps e sc c.in_ok-key.key found items c.args.keys.now c.add.new.self c.keep.new.keys (enter_looked docs ps ss sc (got c.in_ok-list.list)) _
-    c.in_ok-key.ensures c.in_ok-found.ensures.found c.in_ok-items.ensures c.in_ok-add.ensures.added c.in_ok-kept.ensures.keys
+    (kept_keys docs ps e sc c.in_ok-key.key found found c.args.keys.now c.add.new.self
+    c.keep_lent.new.keys (enter_looked docs ps ss sc (list_of kept)) _
+    c.in_ok-key.ensures c.in_ok-found.ensures.found refl c.in_ok-add.ensures.added
+    c.in_ok-kept.ensures.keys
     (ap (enter_looked docs ps ss sc)
-    (c.in_ok-list.ensures ∙ kept_docs docs ps e sc c.in_ok-key.key found items (map item c.in_ok-kept.kept.items) c.in_ok-key.ensures c.in_ok-found.ensures.found c.in_ok-items.ensures c.in_ok-kept.ensures.value)))
+    (kept_docs docs ps e sc c.in_ok-key.key found found kept
+    c.in_ok-key.ensures c.in_ok-found.ensures.found refl c.in_ok-kept.ensures.value)))
     c.enter.ensures.keys
 
 pub steps::one_step-returns-in-Pipe-clause-value : goal.steps::one_step-returns-in-Pipe-clause-value
@@ -104,104 +116,6 @@ chains::start-returns-in-Some-clause-keys g t c =
     (ap (λ (ks : List Key). c.args.keys.now ++ ks) (star_looked docs ps b (expression c.in-Some.condition.now) (steps_of (map step c.args.steps.now)) (steps_of (map step c.in-Some.later.now)) sc
     (is_everything_then b (sym c.is_all.ensures ∙ c.if-is_all.true)) c.in-Some.ensures.some c.in-Some.ensures.condition))
     c.filtered_all.ensures.keys
-
-pub chains::rest-returns-in-Mapped-clause-value : goal.chains::rest-returns-in-Mapped-clause-value
-chains::rest-returns-in-Mapped-clause-value g t c =
-    let docs = g.S.Source.docs c.args.source.now in
-    let ps = fields c.args.params.now in
-    let sc = scope c.args.frame.now in
-    let l = c.loop-first in
-    let is = c.in-Some.ensures.cases.0 in
-    subst (λ (y : Tree). IfOk c.mapped.result (λ g'. got g' ≡ y))
-    (step_on docs ps sc (step c.in-Some.first.now) (steps_of (map step c.in-Some.later.now)) c.first_kind-kind.result c.way_of-way.result Mapped (got l.here) (got c.in_ok-here.here)
-    (c.first_kind-kind.ensures ∙ kind_behind l.left.now c.in-Some.first.now c.in-Some.later.now l.left_kinds.now c.behind-later_kinds.result.now is l.invariant.kinds c.behind-later_kinds.ensures)
-    (c.way_of-way.ensures ∙ ap (λ f. way f c.first_kind-kind.result) c.form_of.ensures)
-    (sym c.ends.ensures ∙ c.if-ends.false)
-    (sym c.in-Mapped.is ∙ (c.turn.ensures ∙ ap (turn c.way_of-way.result) c.entrance_of.ensures))
-    c.in_ok-here.ensures.value
-    ∙ (ap (λ (xs : List CodeStep). rest_value docs ps (steps_of (map step xs)) sc (got l.here)) (sym is) ∙ l.invariant.value))
-    c.mapped.ensures.value
-
-pub chains::rest-returns-in-Flat-clause-value : goal.chains::rest-returns-in-Flat-clause-value
-chains::rest-returns-in-Flat-clause-value g t c =
-    let docs = g.S.Source.docs c.args.source.now in
-    let ps = fields c.args.params.now in
-    let sc = scope c.args.frame.now in
-    let l = c.loop-first in
-    let is = c.in-Some.ensures.cases.0 in
-    subst (λ (y : Tree). IfOk c.flattened.result (λ g'. got g' ≡ y))
-    (step_on docs ps sc (step c.in-Some.first.now) (steps_of (map step c.in-Some.later.now)) c.first_kind-kind.result c.way_of-way.result Flat (got l.here) (got c.in_ok-here.here)
-    (c.first_kind-kind.ensures ∙ kind_behind l.left.now c.in-Some.first.now c.in-Some.later.now l.left_kinds.now c.behind-later_kinds.result.now is l.invariant.kinds c.behind-later_kinds.ensures)
-    (c.way_of-way.ensures ∙ ap (λ f. way f c.first_kind-kind.result) c.form_of.ensures)
-    (sym c.ends.ensures ∙ c.if-ends.false)
-    (sym c.in-Flat.is ∙ (c.turn.ensures ∙ ap (turn c.way_of-way.result) c.entrance_of.ensures))
-    c.in_ok-here.ensures.value
-    ∙ (ap (λ (xs : List CodeStep). rest_value docs ps (steps_of (map step xs)) sc (got l.here)) (sym is) ∙ l.invariant.value))
-    c.flattened.ensures.value
-
-pub chains::rest-returns-in-Mapped-clause-keys : goal.chains::rest-returns-in-Mapped-clause-keys
-chains::rest-returns-in-Mapped-clause-keys g t c =
-    let docs = g.S.Source.docs c.args.source.now in
-    let ps = fields c.args.params.now in
-    let sc = scope c.args.frame.now in
-    let l = c.loop-first in
-    let is = c.in-Some.ensures.cases.0 in
-    let s = step c.in-Some.first.now in
-    let later = steps_of (map step c.in-Some.later.now) in
-    subst (λ (ks : List Key). OnOk c.mapped.result (c.mapped.new.keys ≡ ks))
-    (one_after_another l.keys c.once.new.keys (rest_looked docs ps (more_steps s later) sc (got l.here)) (once_looked c.way_of-way.result (step_looked docs ps s sc) (got l.here)) (entered_looked Mapped (rest_looked docs ps later sc) (got c.in_ok-here.here)) c.in_ok-here.ensures.keys
-    (sym (step_looks_on docs ps sc s later c.first_kind-kind.result c.way_of-way.result Mapped (got l.here) (got c.in_ok-here.here)
-    (c.first_kind-kind.ensures ∙ kind_behind l.left.now c.in-Some.first.now c.in-Some.later.now l.left_kinds.now c.behind-later_kinds.result.now is l.invariant.kinds c.behind-later_kinds.ensures)
-    (c.way_of-way.ensures ∙ ap (λ f. way f c.first_kind-kind.result) c.form_of.ensures)
-    (sym c.ends.ensures ∙ c.if-ends.false)
-    (sym c.in-Mapped.is ∙ (c.turn.ensures ∙ ap (turn c.way_of-way.result) c.entrance_of.ensures))
-    c.in_ok-here.ensures.value))
-    ∙ (ap (λ (xs : List CodeStep). l.keys ++ rest_looked docs ps (steps_of (map step xs)) sc (got l.here)) (sym is) ∙ l.invariant.keys))
-    c.mapped.ensures.keys
-
-pub chains::rest-returns-in-Flat-clause-keys : goal.chains::rest-returns-in-Flat-clause-keys
-chains::rest-returns-in-Flat-clause-keys g t c =
-    let docs = g.S.Source.docs c.args.source.now in
-    let ps = fields c.args.params.now in
-    let sc = scope c.args.frame.now in
-    let l = c.loop-first in
-    let is = c.in-Some.ensures.cases.0 in
-    let s = step c.in-Some.first.now in
-    let later = steps_of (map step c.in-Some.later.now) in
-    subst (λ (ks : List Key). OnOk c.flattened.result (c.flattened.new.keys ≡ ks))
-    (one_after_another l.keys c.once.new.keys (rest_looked docs ps (more_steps s later) sc (got l.here)) (once_looked c.way_of-way.result (step_looked docs ps s sc) (got l.here)) (entered_looked Flat (rest_looked docs ps later sc) (got c.in_ok-here.here)) c.in_ok-here.ensures.keys
-    (sym (step_looks_on docs ps sc s later c.first_kind-kind.result c.way_of-way.result Flat (got l.here) (got c.in_ok-here.here)
-    (c.first_kind-kind.ensures ∙ kind_behind l.left.now c.in-Some.first.now c.in-Some.later.now l.left_kinds.now c.behind-later_kinds.result.now is l.invariant.kinds c.behind-later_kinds.ensures)
-    (c.way_of-way.ensures ∙ ap (λ f. way f c.first_kind-kind.result) c.form_of.ensures)
-    (sym c.ends.ensures ∙ c.if-ends.false)
-    (sym c.in-Flat.is ∙ (c.turn.ensures ∙ ap (turn c.way_of-way.result) c.entrance_of.ensures))
-    c.in_ok-here.ensures.value))
-    ∙ (ap (λ (xs : List CodeStep). l.keys ++ rest_looked docs ps (steps_of (map step xs)) sc (got l.here)) (sym is) ∙ l.invariant.keys))
-    c.flattened.ensures.keys
-
-pub chains::rest-loop-first-preserved : goal.chains::rest-loop-first-preserved
-chains::rest-loop-first-preserved g t c =
-    let docs = g.S.Source.docs c.args.source.now in
-    let ps = fields c.args.params.now in
-    let sc = scope c.args.frame.now in
-    let l = c.loop-first in
-    let is = c.in-Some.ensures.cases.0 in
-    let s = step c.in-Some.first.now in
-    let later = steps_of (map step c.in-Some.later.now) in
-    let k : c.first_kind-kind.result ≡ kind later = c.first_kind-kind.ensures ∙ kind_behind l.left.now c.in-Some.first.now c.in-Some.later.now l.left_kinds.now c.behind-later_kinds.result.now is l.invariant.kinds c.behind-later_kinds.ensures in
-    let w : c.way_of-way.result ≡ way (form s) c.first_kind-kind.result = c.way_of-way.ensures ∙ ap (λ f. way f c.first_kind-kind.result) c.form_of.ensures in
-    let goes : is_end c.way_of-way.result ≡ false = sym c.ends.ensures ∙ c.if-ends.false in
-    let on : Whole ≡ turn c.way_of-way.result (entrance c.first_kind-kind.result) = sym c.in-Whole.is ∙ (c.turn.ensures ∙ ap (turn c.way_of-way.result) c.entrance_of.ensures) in
-    let heavy : steps_weight (steps_of (map step l.left.now)) ≡ steps_weight (more_steps s later) = ap (λ (xs : List CodeStep). steps_weight (steps_of (map step xs))) is in
-    record {
-      value = step_on docs ps sc s later c.first_kind-kind.result c.way_of-way.result Whole (got l.here) (got c.in_ok-here.here) k w goes on c.in_ok-here.ensures.value
-          ∙ (ap (λ (xs : List CodeStep). rest_value docs ps (steps_of (map step xs)) sc (got l.here)) (sym is) ∙ l.invariant.value);
-      keys = one_after_another l.keys c.once.new.keys (rest_looked docs ps (more_steps s later) sc (got l.here)) (once_looked c.way_of-way.result (step_looked docs ps s sc) (got l.here)) (entered_looked Whole (rest_looked docs ps later sc) (got c.in_ok-here.here)) c.in_ok-here.ensures.keys
-          (sym (step_looks_on docs ps sc s later c.first_kind-kind.result c.way_of-way.result Whole (got l.here) (got c.in_ok-here.here) k w goes on c.in_ok-here.ensures.value))
-          ∙ (ap (λ (xs : List CodeStep). l.keys ++ rest_looked docs ps (steps_of (map step xs)) sc (got l.here)) (sym is) ∙ l.invariant.keys);
-      kinds = kinds_behind l.left.now c.in-Some.first.now c.in-Some.later.now l.left_kinds.now c.behind-later_kinds.result.now is l.invariant.kinds c.behind-later_kinds.ensures;
-      lighter = omega (arith, heavy, l.invariant.lighter);
-    }
 
 pub calls::select-eval-requires : goal.calls::select-eval-requires
 calls::select-eval-requires g t c κs within =
@@ -358,3 +272,276 @@ steps::order_keys-loop-first-preserved g t c =
           ∙ (ap (λ (xs : List CodeKey). l.keys ++ keys_looked docs ps (keys_of (map key xs)) sc) (sym is) ∙ l.invariant.keys);
       lighter = omega (arith, heavy, l.invariant.lighter);
     }
+
+pub chains::straight-returns-in-Mapped-clause-stop :
+    goal.chains::straight-returns-in-Mapped-clause-stop
+chains::straight-returns-in-Mapped-clause-stop g t c =
+    let docs = g.S.Source.docs c.args.source.now in
+    let ps = fields c.args.params.now in
+    let sc = scope c.args.frame.now in
+    let l = c.loop-first in
+    let is = c.in-Some.ensures.cases.0 in
+    let s = step c.in-Some.first.now in
+    let later = steps_of (map step c.in-Some.later.now) in
+    let k : c.first_kind-kind.result ≡ kind later = c.first_kind-kind.ensures
+    ∙ kind_behind l.left.now c.in-Some.first.now c.in-Some.later.now l.left_kinds.now
+    c.behind-later_kinds.result.now is l.invariant.kinds c.behind-later_kinds.ensures in
+    let w : c.way_of-way.result ≡ way (form s) c.first_kind-kind.result = c.way_of-way.ensures
+    ∙ ap (λ f. way f c.first_kind-kind.result) c.form_of.ensures in
+    let goes : is_end c.way_of-way.result ≡ false = sym c.ends.ensures ∙ c.if-ends.false in
+    let on : Mapped ≡ turn c.way_of-way.result (entrance c.first_kind-kind.result) = sym
+    c.in-Mapped.is ∙ (c.turn.ensures ∙ ap (turn c.way_of-way.result) c.entrance_of.ensures) in
+    step_stops docs ps sc s later c.first_kind-kind.result c.way_of-way.result Mapped (got l.here)
+    (got c.in_ok-here.here) k w goes on c.in_ok-here.ensures.value
+    ∙ (ap (λ (xs : List CodeStep). stop docs ps (steps_of (map step xs)) sc (got l.here)) (sym is)
+    ∙ l.invariant.stop)
+
+pub chains::straight-returns-in-Mapped-clause-keys :
+    goal.chains::straight-returns-in-Mapped-clause-keys
+chains::straight-returns-in-Mapped-clause-keys g t c =
+    let docs = g.S.Source.docs c.args.source.now in
+    let ps = fields c.args.params.now in
+    let sc = scope c.args.frame.now in
+    let l = c.loop-first in
+    let is = c.in-Some.ensures.cases.0 in
+    let s = step c.in-Some.first.now in
+    let later = steps_of (map step c.in-Some.later.now) in
+    let k : c.first_kind-kind.result ≡ kind later = c.first_kind-kind.ensures
+    ∙ kind_behind l.left.now c.in-Some.first.now c.in-Some.later.now l.left_kinds.now
+    c.behind-later_kinds.result.now is l.invariant.kinds c.behind-later_kinds.ensures in
+    let w : c.way_of-way.result ≡ way (form s) c.first_kind-kind.result = c.way_of-way.ensures
+    ∙ ap (λ f. way f c.first_kind-kind.result) c.form_of.ensures in
+    let goes : is_end c.way_of-way.result ≡ false = sym c.ends.ensures ∙ c.if-ends.false in
+    let on : Mapped ≡ turn c.way_of-way.result (entrance c.first_kind-kind.result) = sym
+    c.in-Mapped.is ∙ (c.turn.ensures ∙ ap (turn c.way_of-way.result) c.entrance_of.ensures) in
+    one_after_another l.keys c.once.new.keys
+    (rest_looked docs ps (more_steps s later) sc (got l.here))
+    (once_looked c.way_of-way.result (step_looked docs ps s sc) (got l.here))
+    (entered_looked Mapped (rest_looked docs ps later sc) (got c.in_ok-here.here))
+    c.in_ok-here.ensures.keys
+    (sym (step_looks_on docs ps sc s later c.first_kind-kind.result c.way_of-way.result Mapped
+    (got l.here) (got c.in_ok-here.here) k w goes on c.in_ok-here.ensures.value))
+    ∙ (ap (λ (xs : List CodeStep). l.keys ++ rest_looked docs ps (steps_of (map step xs)) sc
+    (got l.here)) (sym is) ∙ l.invariant.keys)
+
+pub chains::straight-returns-in-Mapped-clause-fits :
+    goal.chains::straight-returns-in-Mapped-clause-fits
+chains::straight-returns-in-Mapped-clause-fits g t c =
+    let docs = g.S.Source.docs c.args.source.now in
+    let ps = fields c.args.params.now in
+    let sc = scope c.args.frame.now in
+    let l = c.loop-first in
+    let is = c.in-Some.ensures.cases.0 in
+    let s = step c.in-Some.first.now in
+    let later = steps_of (map step c.in-Some.later.now) in
+    let k : c.first_kind-kind.result ≡ kind later = c.first_kind-kind.ensures
+    ∙ kind_behind l.left.now c.in-Some.first.now c.in-Some.later.now l.left_kinds.now
+    c.behind-later_kinds.result.now is l.invariant.kinds c.behind-later_kinds.ensures in
+    let w : c.way_of-way.result ≡ way (form s) c.first_kind-kind.result = c.way_of-way.ensures
+    ∙ ap (λ f. way f c.first_kind-kind.result) c.form_of.ensures in
+    let heavy : steps_weight (steps_of (map step l.left.now)) ≡ steps_weight (more_steps s later)
+    = ap (λ (xs : List CodeStep). steps_weight (steps_of (map step xs))) is in (
+      kinds_behind l.left.now c.in-Some.first.now c.in-Some.later.now l.left_kinds.now
+          c.behind-later_kinds.result.now is l.invariant.kinds c.behind-later_kinds.ensures,
+      omega
+          (arith, heavy, l.invariant.lighter),
+    )
+
+pub chains::straight-returns-in-Flat-clause-stop :
+    goal.chains::straight-returns-in-Flat-clause-stop
+chains::straight-returns-in-Flat-clause-stop g t c =
+    let docs = g.S.Source.docs c.args.source.now in
+    let ps = fields c.args.params.now in
+    let sc = scope c.args.frame.now in
+    let l = c.loop-first in
+    let is = c.in-Some.ensures.cases.0 in
+    let s = step c.in-Some.first.now in
+    let later = steps_of (map step c.in-Some.later.now) in
+    let k : c.first_kind-kind.result ≡ kind later = c.first_kind-kind.ensures
+    ∙ kind_behind l.left.now c.in-Some.first.now c.in-Some.later.now l.left_kinds.now
+    c.behind-later_kinds.result.now is l.invariant.kinds c.behind-later_kinds.ensures in
+    let w : c.way_of-way.result ≡ way (form s) c.first_kind-kind.result = c.way_of-way.ensures
+    ∙ ap (λ f. way f c.first_kind-kind.result) c.form_of.ensures in
+    let goes : is_end c.way_of-way.result ≡ false = sym c.ends.ensures ∙ c.if-ends.false in
+    let on : Flat ≡ turn c.way_of-way.result (entrance c.first_kind-kind.result) = sym
+    c.in-Flat.is ∙ (c.turn.ensures ∙ ap (turn c.way_of-way.result) c.entrance_of.ensures) in
+    step_stops docs ps sc s later c.first_kind-kind.result c.way_of-way.result Flat (got l.here)
+    (got c.in_ok-here.here) k w goes on c.in_ok-here.ensures.value
+    ∙ (ap (λ (xs : List CodeStep). stop docs ps (steps_of (map step xs)) sc (got l.here)) (sym is)
+    ∙ l.invariant.stop)
+
+pub chains::straight-returns-in-Flat-clause-keys :
+    goal.chains::straight-returns-in-Flat-clause-keys
+chains::straight-returns-in-Flat-clause-keys g t c =
+    let docs = g.S.Source.docs c.args.source.now in
+    let ps = fields c.args.params.now in
+    let sc = scope c.args.frame.now in
+    let l = c.loop-first in
+    let is = c.in-Some.ensures.cases.0 in
+    let s = step c.in-Some.first.now in
+    let later = steps_of (map step c.in-Some.later.now) in
+    let k : c.first_kind-kind.result ≡ kind later = c.first_kind-kind.ensures
+    ∙ kind_behind l.left.now c.in-Some.first.now c.in-Some.later.now l.left_kinds.now
+    c.behind-later_kinds.result.now is l.invariant.kinds c.behind-later_kinds.ensures in
+    let w : c.way_of-way.result ≡ way (form s) c.first_kind-kind.result = c.way_of-way.ensures
+    ∙ ap (λ f. way f c.first_kind-kind.result) c.form_of.ensures in
+    let goes : is_end c.way_of-way.result ≡ false = sym c.ends.ensures ∙ c.if-ends.false in
+    let on : Flat ≡ turn c.way_of-way.result (entrance c.first_kind-kind.result) = sym
+    c.in-Flat.is ∙ (c.turn.ensures ∙ ap (turn c.way_of-way.result) c.entrance_of.ensures) in
+    one_after_another l.keys c.once.new.keys
+    (rest_looked docs ps (more_steps s later) sc (got l.here))
+    (once_looked c.way_of-way.result (step_looked docs ps s sc) (got l.here))
+    (entered_looked Flat (rest_looked docs ps later sc) (got c.in_ok-here.here))
+    c.in_ok-here.ensures.keys
+    (sym (step_looks_on docs ps sc s later c.first_kind-kind.result c.way_of-way.result Flat
+    (got l.here) (got c.in_ok-here.here) k w goes on c.in_ok-here.ensures.value))
+    ∙ (ap (λ (xs : List CodeStep). l.keys ++ rest_looked docs ps (steps_of (map step xs)) sc
+    (got l.here)) (sym is) ∙ l.invariant.keys)
+
+pub chains::straight-returns-in-Flat-clause-fits :
+    goal.chains::straight-returns-in-Flat-clause-fits
+chains::straight-returns-in-Flat-clause-fits g t c =
+    let docs = g.S.Source.docs c.args.source.now in
+    let ps = fields c.args.params.now in
+    let sc = scope c.args.frame.now in
+    let l = c.loop-first in
+    let is = c.in-Some.ensures.cases.0 in
+    let s = step c.in-Some.first.now in
+    let later = steps_of (map step c.in-Some.later.now) in
+    let k : c.first_kind-kind.result ≡ kind later = c.first_kind-kind.ensures
+    ∙ kind_behind l.left.now c.in-Some.first.now c.in-Some.later.now l.left_kinds.now
+    c.behind-later_kinds.result.now is l.invariant.kinds c.behind-later_kinds.ensures in
+    let w : c.way_of-way.result ≡ way (form s) c.first_kind-kind.result = c.way_of-way.ensures
+    ∙ ap (λ f. way f c.first_kind-kind.result) c.form_of.ensures in
+    let heavy : steps_weight (steps_of (map step l.left.now)) ≡ steps_weight (more_steps s later)
+    = ap (λ (xs : List CodeStep). steps_weight (steps_of (map step xs))) is in (
+      kinds_behind l.left.now c.in-Some.first.now c.in-Some.later.now l.left_kinds.now
+          c.behind-later_kinds.result.now is l.invariant.kinds c.behind-later_kinds.ensures,
+      omega
+          (arith, heavy, l.invariant.lighter),
+    )
+
+pub chains::straight-loop-first-preserved : goal.chains::straight-loop-first-preserved
+chains::straight-loop-first-preserved g t c =
+    let docs = g.S.Source.docs c.args.source.now in
+    let ps = fields c.args.params.now in
+    let sc = scope c.args.frame.now in
+    let l = c.loop-first in
+    let is = c.in-Some.ensures.cases.0 in
+    let s = step c.in-Some.first.now in
+    let later = steps_of (map step c.in-Some.later.now) in
+    let k : c.first_kind-kind.result ≡ kind later = c.first_kind-kind.ensures
+    ∙ kind_behind l.left.now c.in-Some.first.now c.in-Some.later.now l.left_kinds.now
+    c.behind-later_kinds.result.now is l.invariant.kinds c.behind-later_kinds.ensures in
+    let w : c.way_of-way.result ≡ way (form s) c.first_kind-kind.result = c.way_of-way.ensures
+    ∙ ap (λ f. way f c.first_kind-kind.result) c.form_of.ensures in
+    let goes : is_end c.way_of-way.result ≡ false = sym c.ends.ensures ∙ c.if-ends.false in
+    let on : Whole ≡ turn c.way_of-way.result (entrance c.first_kind-kind.result) = sym
+    c.in-Whole.is ∙ (c.turn.ensures ∙ ap (turn c.way_of-way.result) c.entrance_of.ensures) in
+    let heavy : steps_weight (steps_of (map step l.left.now)) ≡ steps_weight (more_steps s later)
+    = ap (λ (xs : List CodeStep). steps_weight (steps_of (map step xs))) is in
+    record {
+      stop = step_stops docs ps sc s later c.first_kind-kind.result c.way_of-way.result Whole
+          (got l.here) (got c.in_ok-here.here) k w goes on c.in_ok-here.ensures.value
+          ∙ (ap (λ (xs : List CodeStep). stop docs ps (steps_of (map step xs)) sc (got l.here))
+          (sym is) ∙ l.invariant.stop);
+      keys = one_after_another l.keys c.once.new.keys
+          (rest_looked docs ps (more_steps s later) sc (got l.here))
+          (once_looked c.way_of-way.result (step_looked docs ps s sc) (got l.here))
+          (entered_looked Whole (rest_looked docs ps later sc) (got c.in_ok-here.here))
+          c.in_ok-here.ensures.keys
+          (sym (step_looks_on docs ps sc s later c.first_kind-kind.result c.way_of-way.result
+          Whole (got l.here) (got c.in_ok-here.here) k w goes on c.in_ok-here.ensures.value))
+          ∙ (ap (λ (xs : List CodeStep). l.keys ++ rest_looked docs ps (steps_of (map step xs)) sc
+          (got l.here)) (sym is) ∙ l.invariant.keys);
+      kinds = kinds_behind l.left.now c.in-Some.first.now c.in-Some.later.now l.left_kinds.now
+          c.behind-later_kinds.result.now is l.invariant.kinds c.behind-later_kinds.ensures;
+      lighter = omega (arith, heavy, l.invariant.lighter);
+    }
+
+pub chains::rest-returns-clause-value : goal.chains::rest-returns-clause-value
+chains::rest-returns-clause-value g t c =
+    let docs = g.S.Source.docs c.args.source.now in
+    let ps = fields c.args.params.now in
+    let sc = scope c.args.frame.now in
+    subst (λ (y : Tree). IfOk c.climb.result (λ g'. got g' ≡ y))
+    (ap (stop_value docs ps sc) c.in_ok-first.ensures.stop
+    ∙ stop_gives docs ps (steps_of (map step c.args.steps.now)) sc (got c.args.value))
+    c.climb.ensures.value
+
+pub chains::climb-loop-levels-init : goal.chains::climb-loop-levels-init
+chains::climb-loop-levels-init g t c =
+    let docs = g.S.Source.docs c.args.source.now in
+    let ps = fields c.args.params.now in
+    let sc = scope c.args.frame.now in
+    record {
+      value = first_value docs ps sc c.args.first c.new-levels.result.items
+          c.new-levels.ensures.items;
+      keys = ap (λ (ks : List Key). c.args.keys.now ++ ks)
+          (first_looks docs ps sc c.args.first c.new-levels.result.items
+          c.new-levels.ensures.items);
+      fit = first_fits (reached_weight c.args.first) c.args.first c.new-levels.result.items
+          c.new-levels.ensures.items c.requires;
+    }
+
+-- what waits, where a value goes through a rest next
+pub chains::climb-loop-levels-preserved : goal.chains::climb-loop-levels-preserved
+chains::climb-loop-levels-preserved g t c =
+    let docs = g.S.Source.docs c.args.source.now in
+    let ps = fields c.args.params.now in
+    let sc = scope c.args.frame.now in
+    let l = c.loop-levels in
+    let ws = levels_waiting c.next_task.new.levels.items in
+    let old = reached_waiting l.here ++ levels_waiting l.levels.items in
+    let same : wait c.in-Go.rest (got c.in-Go.value) ∷ ws ≡ old =
+    ap (λ (u : Task). task_waiting u ++ ws) (sym c.in-Go.is) ∙ c.in_ok-value.ensures.order in
+    let h = c.in_ok-here-in-Go.here in
+    let rest = rest_of docs ps sc in
+    let new = c.next_task.new.levels.items in
+    record {
+      value = turn_value docs ps sc h c.in-Go.rest (got c.in-Go.value) new
+          c.in_ok-here-in-Go.ensures.stop
+          ∙ (ap (λ (u : Task). unwound rest new (task_value rest u)) (sym c.in-Go.is)
+          ∙ (c.in_ok-value.ensures.value rest ∙ l.invariant.value));
+      keys = turn_looks docs ps sc l.keys c.straight.new.keys h c.in-Go.rest (got c.in-Go.value)
+          ws old same c.in_ok-here-in-Go.ensures.keys
+          ∙ l.invariant.keys;
+      fit = turn_fits (reached_weight c.args.first) h c.in-Go.rest (got c.in-Go.value) ws old same
+          l.invariant.fit c.in_ok-here-in-Go.ensures.fits;
+    }
+
+pub chains::climb-loop-levels-smaller : goal.chains::climb-loop-levels-smaller
+chains::climb-loop-levels-smaller g t c =
+    let docs = g.S.Source.docs c.args.source.now in
+    let ps = fields c.args.params.now in
+    let sc = scope c.args.frame.now in
+    let l = c.loop-levels in
+    let ws = levels_waiting c.next_task.new.levels.items in
+    let old = reached_waiting l.here ++ levels_waiting l.levels.items in
+    let same : wait c.in-Go.rest (got c.in-Go.value) ∷ ws ≡ old =
+    ap (λ (u : Task). task_waiting u ++ ws) (sym c.in-Go.is) ∙ c.in_ok-value.ensures.order in
+    turn_marks docs ps sc c.in_ok-here-in-Go.here c.in-Go.rest (got c.in-Go.value) ws old same
+    c.in_ok-here-in-Go.ensures.stop
+
+pub chains::climb-returns-in-Done-clause-value : goal.chains::climb-returns-in-Done-clause-value
+chains::climb-returns-in-Done-clause-value g t c =
+    let docs = g.S.Source.docs c.args.source.now in
+    let ps = fields c.args.params.now in
+    let sc = scope c.args.frame.now in
+    let l = c.loop-levels in
+    let rest = rest_of docs ps sc in
+    done_value rest c.in_ok-value.field-0 c.next_task.new.levels.items c.in-Done.value _
+    c.in-Done.is c.in_ok-value.ensures.ended
+    (c.in_ok-value.ensures.value rest ∙ l.invariant.value)
+
+pub chains::climb-returns-in-Done-clause-keys : goal.chains::climb-returns-in-Done-clause-keys
+chains::climb-returns-in-Done-clause-keys g t c =
+    let docs = g.S.Source.docs c.args.source.now in
+    let ps = fields c.args.params.now in
+    let sc = scope c.args.frame.now in
+    let l = c.loop-levels in
+    let old = reached_waiting l.here ++ levels_waiting l.levels.items in
+    done_looks docs ps sc _ l.keys old
+    (done_order c.in_ok-value.field-0 c.next_task.new.levels.items c.in-Done.value old
+    c.in-Done.is c.in_ok-value.ensures.ended c.in_ok-value.ensures.order)
+    l.invariant.keys

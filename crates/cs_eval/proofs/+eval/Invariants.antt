@@ -6,7 +6,6 @@ use Rattle.cs_value.specs.View.{tree, fields}
 use Rattle.cs_syntax.specs.Expression.{operands_of, steps_of, entries_of, elements_of, arguments_of, keys_of}
 use Rattle.cs_syntax.specs.View.{expression, operands, step, entry, elem, arg, key}
 use Rattle.cs_view.specs.Scopes.{scope}
-use Rattle.cs_meaning.specs.Joining.{flat_elements}
 use Rattle.cs_meaning.specs.Operators.{is_true}
 use Rattle.cs_meaning.specs.Values.{value, run_value, arguments_values, coalesced, selected, elements_values, entries_pairs, rest_value, pipes_value, step_value, keys_values}
 use Rattle.cs_meaning.specs.Looked.{looked, run_looked, arguments_looked, coalesced_looked, selected_looked, elements_looked, entries_looked, rest_looked, pipes_looked, step_looked, keys_looked}
@@ -15,6 +14,9 @@ use Rattle.cs_parts.specs.Ranked.{ranked as ranked_of}
 use Rattle.cs_parts.specs.Parts.{got, item}
 use Rattle.cs_parts.specs.Kinds.{kinds_of}
 use Rattle.cs_eval.specs.Weight.{weight, operands_weight, argument_weight, arguments_weight, element_weight, elements_weight, entry_weight, entries_weight, step_weight, steps_weight, keys_weight}
+use Rattle.cs_eval.specs.Levels.{AllFit, unwound, reached_value, reached_waiting, reached_weight, levels_waiting}
+use Rattle.cs_eval.specs.Stops.{stop, stop_value, stop_looked, stopped}
+use Rattle.cs_eval.proofs.Climbing.{rest_of, looked_of, tally_of}
 use Rattle.cs_eval.proofs.+eval.Given as goal
 
 abbrev pub decreases-expressions::eval : goal.decreases-expressions::eval
@@ -51,19 +53,13 @@ abbrev pub decreases-chains::enter : goal.decreases-chains::enter
 decreases-chains::enter g l = steps_weight (steps_of (map step l.steps.now)) + 3
 
 abbrev pub decreases-chains::rest : goal.decreases-chains::rest
-decreases-chains::rest g l = steps_weight (steps_of (map step l.steps.now))
+decreases-chains::rest g l = steps_weight (steps_of (map step l.steps.now)) + 2
 
-abbrev pub decreases-chains::mapped : goal.decreases-chains::mapped
-decreases-chains::mapped g l = steps_weight (steps_of (map step l.steps.now)) + 2
+abbrev pub decreases-chains::straight : goal.decreases-chains::straight
+decreases-chains::straight g l = steps_weight (steps_of (map step l.steps.now))
 
-abbrev pub decreases-chains::rest_of_each : goal.decreases-chains::rest_of_each
-decreases-chains::rest_of_each g l = steps_weight (steps_of (map step l.steps.now)) + 1
-
-abbrev pub decreases-chains::flattened : goal.decreases-chains::flattened
-decreases-chains::flattened g l = steps_weight (steps_of (map step l.steps.now)) + 2
-
-abbrev pub decreases-chains::rests_joined : goal.decreases-chains::rests_joined
-decreases-chains::rests_joined g l = steps_weight (steps_of (map step l.steps.now)) + 1
+abbrev pub decreases-chains::climb : goal.decreases-chains::climb
+decreases-chains::climb g l = reached_weight l.first + 1
 
 abbrev pub decreases-chains::pipes : goal.decreases-chains::pipes
 decreases-chains::pipes g l = steps_weight (steps_of (map step l.steps.now))
@@ -88,6 +84,9 @@ decreases-steps::filter_list g l = weight (expression l.inner.now) + 4
 
 abbrev pub decreases-steps::keep : goal.decreases-steps::keep
 decreases-steps::keep g l = weight (expression l.inner.now) + 3
+
+abbrev pub decreases-steps::keep_lent : goal.decreases-steps::keep_lent
+decreases-steps::keep_lent g l = weight (expression l.inner.now) + 3
 
 abbrev pub decreases-steps::holds : goal.decreases-steps::holds
 decreases-steps::holds g l = weight (expression l.inner.now) + 1
@@ -125,16 +124,40 @@ invariant-expressions::object-loop-first g l = record {
 abbrev pub decreases-expressions::object-loop-first : goal.decreases-expressions::object-loop-first
 decreases-expressions::object-loop-first g l = length l.behind
 
-abbrev pub invariant-chains::rest-loop-first : goal.invariant-chains::rest-loop-first
-invariant-chains::rest-loop-first g l = record {
-  value : rest_value (g.S.Source.docs l.source) (fields l.params) (steps_of (map step l.left)) (scope l.frame) (got l.here) ≡ rest_value (g.S.Source.docs l.source) (fields l.params) (steps_of (map step l.steps)) (scope l.frame) (got l.fn.value);
-  keys : l.keys ++ rest_looked (g.S.Source.docs l.source) (fields l.params) (steps_of (map step l.left)) (scope l.frame) (got l.here) ≡ l.initial.keys ++ rest_looked (g.S.Source.docs l.source) (fields l.params) (steps_of (map step l.steps)) (scope l.frame) (got l.fn.value);
+abbrev pub invariant-chains::straight-loop-first : goal.invariant-chains::straight-loop-first
+invariant-chains::straight-loop-first g l = record {
+  stop : stop (g.S.Source.docs l.source) (fields l.params) (steps_of (map step l.left))
+      (scope l.frame) (got l.here)
+      ≡ stop (g.S.Source.docs l.source) (fields l.params) (steps_of (map step l.steps))
+      (scope l.frame) (got l.fn.value);
+  keys : l.keys ++ rest_looked (g.S.Source.docs l.source) (fields l.params)
+      (steps_of (map step l.left)) (scope l.frame) (got l.here)
+      ≡ l.initial.keys ++ rest_looked (g.S.Source.docs l.source) (fields l.params)
+      (steps_of (map step l.steps)) (scope l.frame) (got l.fn.value);
   kinds : l.left_kinds ≡ kinds_of (map step l.left);
   lighter : steps_weight (steps_of (map step l.left)) ≤ steps_weight (steps_of (map step l.steps));
 }
 
-abbrev pub decreases-chains::rest-loop-first : goal.decreases-chains::rest-loop-first
-decreases-chains::rest-loop-first g l = length l.left
+abbrev pub decreases-chains::straight-loop-first : goal.decreases-chains::straight-loop-first
+decreases-chains::straight-loop-first g l = length l.left
+
+abbrev pub invariant-chains::climb-loop-levels : goal.invariant-chains::climb-loop-levels
+invariant-chains::climb-loop-levels g l = record {
+  value : unwound (rest_of (g.S.Source.docs l.source) (fields l.params) (scope l.frame))
+      l.levels.items (reached_value (rest_of (g.S.Source.docs l.source) (fields l.params)
+      (scope l.frame)) l.here)
+      ≡ stop_value (g.S.Source.docs l.source) (fields l.params) (scope l.frame) (stopped l.fn.first);
+  keys : l.keys ++ flat_map (looked_of (g.S.Source.docs l.source) (fields l.params)
+      (scope l.frame)) (reached_waiting l.here ++ levels_waiting l.levels.items)
+      ≡ l.initial.keys ++ stop_looked (g.S.Source.docs l.source) (fields l.params)
+      (scope l.frame) (stopped l.fn.first);
+  fit : AllFit (reached_weight l.fn.first)
+      (reached_waiting l.here ++ levels_waiting l.levels.items);
+}
+
+abbrev pub decreases-chains::climb-loop-levels : goal.decreases-chains::climb-loop-levels
+decreases-chains::climb-loop-levels g l = length (flat_map (tally_of (g.S.Source.docs l.source)
+    (fields l.params) (scope l.frame)) (reached_waiting l.here ++ levels_waiting l.levels.items))
 
 abbrev pub invariant-chains::pipes-loop-first : goal.invariant-chains::pipes-loop-first
 invariant-chains::pipes-loop-first g l = record {
@@ -147,18 +170,6 @@ invariant-chains::pipes-loop-first g l = record {
 abbrev pub decreases-chains::pipes-loop-first : goal.decreases-chains::pipes-loop-first
 decreases-chains::pipes-loop-first g l = length l.left
 
-abbrev pub invariant-chains::rest_of_each-loop-i : goal.invariant-chains::rest_of_each-loop-i
-invariant-chains::rest_of_each-loop-i g l = record {
-  value : map item l.out.items ++ map (rest_value (g.S.Source.docs l.source) (fields l.params) (steps_of (map step l.steps)) (scope l.frame)) (map item (into_iter_items l.i-iterator)) ≡ map (rest_value (g.S.Source.docs l.source) (fields l.params) (steps_of (map step l.steps)) (scope l.frame)) (map item (into_iter_items l.initial.i-iterator));
-  keys : l.keys ++ flat_map (rest_looked (g.S.Source.docs l.source) (fields l.params) (steps_of (map step l.steps)) (scope l.frame)) (map item (into_iter_items l.i-iterator)) ≡ l.initial.keys ++ flat_map (rest_looked (g.S.Source.docs l.source) (fields l.params) (steps_of (map step l.steps)) (scope l.frame)) (map item (into_iter_items l.initial.i-iterator));
-}
-
-abbrev pub invariant-chains::rests_joined-loop-i : goal.invariant-chains::rests_joined-loop-i
-invariant-chains::rests_joined-loop-i g l = record {
-  value : map item l.out.items ++ flat_map flat_elements (map (rest_value (g.S.Source.docs l.source) (fields l.params) (steps_of (map step l.steps)) (scope l.frame)) (map item (into_iter_items l.i-iterator))) ≡ flat_map flat_elements (map (rest_value (g.S.Source.docs l.source) (fields l.params) (steps_of (map step l.steps)) (scope l.frame)) (map item (into_iter_items l.initial.i-iterator)));
-  keys : l.keys ++ flat_map (rest_looked (g.S.Source.docs l.source) (fields l.params) (steps_of (map step l.steps)) (scope l.frame)) (map item (into_iter_items l.i-iterator)) ≡ l.initial.keys ++ flat_map (rest_looked (g.S.Source.docs l.source) (fields l.params) (steps_of (map step l.steps)) (scope l.frame)) (map item (into_iter_items l.initial.i-iterator));
-}
-
 abbrev pub invariant-chains::step_of_each-loop-i : goal.invariant-chains::step_of_each-loop-i
 invariant-chains::step_of_each-loop-i g l = record {
   value : map item l.out.items ++ map (step_value (g.S.Source.docs l.source) (fields l.params) (step l.step) (scope l.frame)) (map item (into_iter_items l.i-iterator)) ≡ map (step_value (g.S.Source.docs l.source) (fields l.params) (step l.step) (scope l.frame)) (map item (into_iter_items l.initial.i-iterator));
@@ -169,6 +180,22 @@ abbrev pub invariant-steps::keep-loop-i : goal.invariant-steps::keep-loop-i
 invariant-steps::keep-loop-i g l = record {
   value : map item l.out.items ++ filter (λ x. is_true (value (g.S.Source.docs l.source) (fields l.params) (expression l.inner) (x ∷ scope l.frame))) (map item (into_iter_items l.i-iterator)) ≡ filter (λ x. is_true (value (g.S.Source.docs l.source) (fields l.params) (expression l.inner) (x ∷ scope l.frame))) (map item (into_iter_items l.initial.i-iterator));
   keys : l.keys ++ flat_map (λ x. looked (g.S.Source.docs l.source) (fields l.params) (expression l.inner) (x ∷ scope l.frame)) (map item (into_iter_items l.i-iterator)) ≡ l.initial.keys ++ flat_map (λ x. looked (g.S.Source.docs l.source) (fields l.params) (expression l.inner) (x ∷ scope l.frame)) (map item (into_iter_items l.initial.i-iterator));
+}
+
+abbrev pub invariant-steps::keep_lent-loop-part : goal.invariant-steps::keep_lent-loop-part
+invariant-steps::keep_lent-loop-part g l = record {
+  value : map (λ r. tree r.now) l.out.items ++ filter (λ x. is_true (value
+      (g.S.Source.docs l.source) (fields l.params) (expression l.inner) (x ∷ scope l.frame)))
+      (map (λ r. tree r.now) (into_iter_items l.part-iterator))
+      ≡ filter (λ x. is_true (value (g.S.Source.docs l.source) (fields l.params)
+      (expression l.inner) (x ∷ scope l.frame)))
+      (map (λ r. tree r.now) (into_iter_items l.initial.part-iterator));
+  keys : l.keys ++ flat_map (λ x. looked (g.S.Source.docs l.source) (fields l.params)
+      (expression l.inner) (x ∷ scope l.frame))
+      (map (λ r. tree r.now) (into_iter_items l.part-iterator))
+      ≡ l.initial.keys ++ flat_map (λ x. looked (g.S.Source.docs l.source) (fields l.params)
+      (expression l.inner) (x ∷ scope l.frame))
+      (map (λ r. tree r.now) (into_iter_items l.initial.part-iterator));
 }
 
 abbrev pub decreases-expressions::in_range : goal.decreases-expressions::in_range

@@ -1,13 +1,11 @@
-use Rattle.std.proofs.Common.{◌≡◌, [], ◌∷◌, ap, ◌∙◌, subst, IfOk, map}
-use Rattle.std.specs.Prelude.{filter}
+use Rattle.std.proofs.Common.{◌≡◌, [], ap, subst, IfOk, map}
 use Rattle.cs_value.specs.Tree.{Tree}
 use Rattle.cs_value.specs.View.{fields}
 use Rattle.cs_syntax.specs.Expression.{steps_of}
-use Rattle.cs_syntax.specs.View.{expression, step}
+use Rattle.cs_syntax.specs.View.{step}
 use Rattle.cs_view.specs.Scopes.{scope}
 use Rattle.cs_meaning.specs.Joining.{list_of}
-use Rattle.cs_meaning.specs.Operators.{is_true}
-use Rattle.cs_meaning.specs.Values.{value, pipes_value}
+use Rattle.cs_meaning.specs.Values.{pipes_value}
 use Rattle.cs_parts.specs.Parts.{got}
 use Rattle.cs_eval.specs.Starts.{enter_value}
 use Rattle.cs_eval.proofs.queries.tail_of_hits.Goals as goal
@@ -17,7 +15,6 @@ returns c =
     let ps = fields c.args.params.now in
     let sc = scope c.args.frame.now in
     let ss = steps_of (map step c.args.steps.now) in
-    let p = λ (x : Tree). is_true (value [] ps (expression c.args.condition.now) (x ∷ sc)) in
     subst (λ (y : Tree). IfOk c.tail_from.result (λ g. got g ≡ pipes_value [] ps ss sc (enter_value [] ps ss sc y)))
-    (c.in_ok-list.ensures ∙ ap list_of (c.in_ok-kept.ensures.value ∙ ap (filter p) c.in_ok-items.ensures))
+    (ap list_of c.in_ok-kept.ensures.value)
     c.tail_from.ensures
