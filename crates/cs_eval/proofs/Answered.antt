@@ -29,7 +29,7 @@ use Rattle.cs_parts.specs.Kinds.{kinds_of, first_kind}
 use Rattle.cs_parts.specs.Turns.{turn, is_end}
 use Rattle.cs_eval.specs.Starts.{once, once_looked, start_value, start_looked, enter_value, enter_looked}
 use Rattle.cs_eval.proofs.Joins.{onward_turns, onward_looks, first_of_kinds}
-use Rattle.cs_parts.proofs.Shown.{expression_run, step_pipe}
+use Rattle.cs_syntax.proofs.Views.{expression_run, step_pipe}
 
 -- a run of operators, by the parts that code has at hand
 pub run_parts : (e : Expr) (first : Box Expr Global) (rest : Vec (BinSign × Expr) Global) (b : Expr) (xs : List (BinSign × Expr)) → e ≡ code.Run first rest → b ≡ first.value → xs ≡ rest.items

@@ -27,7 +27,7 @@ use std::alloc::Global;
 
 /// The value of an expression in a scope; the record takes the keys that it looks up.
 #[cycle(eval)]
-#[tactic(auto, using(cs_parts::proofs::Shown::expression_call, cs_parts::proofs::Shown::expression_array, cs_parts::proofs::Shown::expression_object, cs_parts::proofs::Shown::expression_chain, cs_parts::proofs::Shown::expression_run, cs_parts::proofs::Shown::expression_prefix, cs_parts::proofs::Trees::tree_of_null), unfolding(cs_syntax::specs::View::expression))]
+#[tactic(auto, using(cs_syntax::proofs::Views::expression_call, cs_syntax::proofs::Views::expression_array, cs_syntax::proofs::Views::expression_object, cs_syntax::proofs::Views::expression_chain, cs_syntax::proofs::Views::expression_run, cs_syntax::proofs::Views::expression_prefix, cs_parts::proofs::Trees::tree_of_null), unfolding(cs_syntax::specs::View::expression))]
 pub(crate) fn eval<'s, S: Source<C>, C>(
     alloc: Global,
     expr: &'s Expr,

@@ -126,7 +126,7 @@ fn vals_of<'d>(alloc: Global, docs: &'d [Doc]) -> Result<Vec<&'d Val>, NoMemory>
 }
 
 // The filter of a simple query and the steps behind it.
-#[tactic(auto, using(cs_parts::proofs::Shown::expression_chain), unfolding(cs_syntax::specs::View::expression))]
+#[tactic(auto, using(cs_syntax::proofs::Views::expression_chain), unfolding(cs_syntax::specs::View::expression))]
 fn parts(expr: &Expr) -> Option<(&Expr, &[Step])>
     ensures some { IfSome result (λ x. expression expr.now ≡ chain everything
         (more_steps (bracket_step (expression x.0.now)) (steps_of (map step_of x.1.now)))) }

@@ -26,7 +26,7 @@ use std::alloc::Global;
 
 // One step.
 #[cycle(eval)]
-#[tactic(auto, using(cs_parts::proofs::Shown::step_project, cs_parts::proofs::Shown::step_pipe, cs_parts::proofs::Shown::step_slice), unfolding(cs_syntax::specs::View::step, cs_syntax::specs::View::expression))]
+#[tactic(auto, using(cs_syntax::proofs::Views::step_project, cs_syntax::proofs::Views::step_pipe, cs_syntax::proofs::Views::step_slice), unfolding(cs_syntax::specs::View::step, cs_syntax::specs::View::expression))]
 pub(crate) fn one_step<'s, S: Source<C>, C>(
     alloc: Global,
     step: &'s Step,
@@ -332,7 +332,7 @@ fn rank_one<S: Source<C>, C>(
 
 // The values of an order's keys.
 #[cycle(eval)]
-#[tactic(auto, using(cs_parts::proofs::Shown::key_seen))]
+#[tactic(auto, using(cs_syntax::proofs::Views::key_seen))]
 fn order_keys<S: Source<C>, C>(
     alloc: Global,
     order: &[OrderKey],

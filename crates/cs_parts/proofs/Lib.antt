@@ -1,10 +1,10 @@
 pub mod Arities
 pub mod Digits
+pub mod Directions
 pub mod Keys
 pub mod ListPlaces
 pub mod Places
 pub mod Shapes
-pub mod Shown
 pub mod Slices
 pub mod Sorts
 pub mod Trees

@@ -60,7 +60,7 @@ pub fn callee_of(name: &str) -> Callee
 }
 
 /// The arguments of a call of `path`: `None` exactly where the expression is no such call.
-#[tactic(auto, using(crate::proofs::Shown::expression_call), unfolding(cs_syntax::specs::View::expression, cs_syntax::specs::View::arg))]
+#[tactic(auto, using(cs_syntax::proofs::Views::expression_call), unfolding(cs_syntax::specs::View::expression, cs_syntax::specs::View::arg))]
 pub fn path_arguments(expr: &Expr) -> Option<&[Arg]>
     ensures { option_map (λ xs. arguments_of (map argument_of xs.now)) result
         ≡ path_arguments (expression expr.now) }

@@ -13,7 +13,7 @@ use cs_value::NoMemory;
 use std::alloc::Global;
 
 /// Which keys are descending.
-#[tactic(auto, using(crate::proofs::Shown::key_seen))]
+#[tactic(auto, using(cs_syntax::proofs::Views::key_seen))]
 pub fn directions(alloc: Global, order: &[OrderKey]) -> Result<Vec<bool>, NoMemory>
     ensures { IfOk result (λ v. v.items ≡ directions (keys_of (map order_key_of order.now))) }
 {

@@ -8,7 +8,7 @@ use Rattle.cs_syntax.specs.declared.tree.Expr.{Expr, the_lemmas}
 use Rattle.cs_syntax.specs.declared.tree.Expr as code
 use Rattle.cs_syntax.specs.declared.tree.Step.{Step as CodeStep}
 use Rattle.cs_plan.specs.Steps.{bracketed}
-use Rattle.cs_plan.proofs.Views.{expression_chain}
+use Rattle.cs_syntax.proofs.Views.{expression_chain}
 use Rattle.cs_plan.specs.Simple.{is_condition, is_simple, is_simple_rest}
 
 pub number_condition : (n : List ℕ) → is_condition (bracketed (number_literal n)) ≡ false

@@ -7,7 +7,7 @@ use Rattle.cs_syntax.specs.declared.tree.Step.{Step as CodeStep}
 use Rattle.cs_syntax.specs.declared.tree.Expr.{Expr}
 use Rattle.cs_syntax.specs.declared.tree.Expr as code
 use Rattle.cs_plan.specs.Steps.{in_scope}
-use Rattle.cs_plan.proofs.Views.{chain_parts, expression_up}
+use Rattle.cs_syntax.proofs.Views.{chain_parts, expression_up}
 use Rattle.std.specs.Str.{bytes_eq}
 use Rattle.std.specs.Prelude.{if◌then◌else◌, codes, Bool, true, false, cond, ℤ, pos, neg_ℤ, ◌||◌}
 use Rattle.cs_value.specs.Tree.{Tree, Pairs, null, integer}

@@ -4,4 +4,3 @@ pub mod ConstantParts
 pub mod Digits
 pub mod Levels
 pub mod PathNames
-pub mod Views

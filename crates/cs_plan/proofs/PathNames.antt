@@ -14,7 +14,7 @@ use Rattle.std.specs.Prelude.{codes, unwrap_or, ◌&&◌}
 use Rattle.std.specs.Str.{bytes_eq}
 use Rattle.cs_plan.specs.Filters.{few, path_of, is_id_path}
 use Rattle.cs_plan.specs.Parts.{path_names}
-use Rattle.cs_plan.proofs.Views.{chain_parts, expression_word}
+use Rattle.cs_syntax.proofs.Views.{chain_parts, expression_word}
 
 pub names_of_more : (s : Step) (ss : Steps) → names_of (more_steps s ss) ≡ option_and_then (λ name. option_map (λ names. name ∷ names) (names_of ss)) (name_of s)
 names_of_more s ss = refl

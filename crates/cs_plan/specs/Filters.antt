@@ -9,6 +9,7 @@ use Rattle.cs_value.specs.Tree.{Tree, Pairs}
 use Rattle.cs_syntax.specs.declared.tree.BinSign.TheVariants as sign
 use Rattle.cs_syntax.specs.Functions.{without_global}
 use Rattle.cs_syntax.specs.Expression.{Expression, word, round, call, chain, run, within, Operands, no_operands, more_operands, Arguments, no_arguments, more_arguments, argument}
+use Rattle.cs_view.specs.Limits.{most_names}
 use Rattle.cs_view.specs.declared.key.Scalar.{Scalar}
 use Rattle.cs_view.specs.declared.key.Scalar.TheVariants.{Bool as Boolean, Num, Text}
 use Rattle.cs_view.specs.declared.key.Key.{Key}
@@ -18,7 +19,7 @@ use Rattle.cs_plan.specs.Constants.{constant}
 
 -- At most four names: a document is looked up by no longer path.
 abbrev pub few : List (List ℕ) → Option (List (List ℕ))
-few names = if nat_le (length names) 4 then Some names else None
+few names = if nat_le (length names) most_names then Some names else None
 
 -- An attribute path: a word and at most three steps `.w` or `["w"]`.
 abbrev pub path_of : Expression → Option (List (List ℕ))

@@ -147,7 +147,7 @@ fn sole_equal(rest: &[(BinSign, Expr)]) -> Option<&Expr>
 }
 
 /// The key that a conjunct gives, if it gives one.
-#[tactic(auto, using(crate::proofs::ConstantParts::conjunct_run, crate::proofs::Views::expression_run, crate::proofs::Views::expression_call), unfolding(cs_syntax::specs::View::expression, cs_syntax::specs::View::operands, cs_syntax::specs::View::arg))]
+#[tactic(auto, using(crate::proofs::ConstantParts::conjunct_run, cs_syntax::proofs::Views::expression_run, cs_syntax::proofs::Views::expression_call), unfolding(cs_syntax::specs::View::expression, cs_syntax::specs::View::operands, cs_syntax::specs::View::arg))]
 pub(crate) fn conjunct<'f>(
     expr: &'f Expr,
     scope: &Scope<'f>,

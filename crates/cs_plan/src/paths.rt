@@ -93,7 +93,7 @@ fn copied_names(alloc: Global, word: &Txt, steps: &[Step]) -> Result<Names, NoMe
 }
 
 /// The attribute path that an expression is: a word and at most three steps `.w` or `["w"]`.
-#[tactic(auto, using(crate::proofs::Views::expression_chain), unfolding(cs_syntax::specs::View::expression))]
+#[tactic(auto, using(cs_syntax::proofs::Views::expression_chain), unfolding(cs_syntax::specs::View::expression))]
 pub(crate) fn path_of(expr: &Expr) -> Option<LentNames<'_>>
     ensures { result ≡ path_of (expression expr.now) }
 {

@@ -7,7 +7,7 @@ ghost use Rattle.cs_plan.specs.Simple.{is_quiet, quiet_operands, quiet_argument,
 use cs_syntax::{Arg, BinSign, Elem, Entry, Expr, OrderKey, Step};
 
 #[cycle(quiet)]
-#[tactic(auto, using(crate::proofs::Views::expression_run), unfolding(cs_syntax::specs::View::expression, cs_syntax::specs::View::arg, cs_syntax::specs::View::elem, cs_syntax::specs::View::entry, cs_syntax::specs::View::step, cs_syntax::specs::View::operands))]
+#[tactic(auto, using(cs_syntax::proofs::Views::expression_run), unfolding(cs_syntax::specs::View::expression, cs_syntax::specs::View::arg, cs_syntax::specs::View::elem, cs_syntax::specs::View::entry, cs_syntax::specs::View::step, cs_syntax::specs::View::operands))]
 fn is_quiet(expr: &Expr) -> bool
     ensures { result ≡ is_quiet (expression expr.now) }
 {

@@ -17,7 +17,7 @@ use Rattle.cs_parts.specs.Turns.{turn, is_end}
 use Rattle.cs_eval.specs.Starts.{enter_value, enter_looked, once_looked}
 use Rattle.cs_eval.specs.Weight.{weight, operands_weight, arguments_weight, step_weight, steps_weight, keys_weight}
 use Rattle.cs_parts.specs.Callees.{path_arguments}
-use Rattle.cs_parts.proofs.Shown.{expression_call}
+use Rattle.cs_syntax.proofs.Views.{expression_call}
 use Rattle.cs_parts.proofs.Trees.{tree_of_null}
 use Rattle.cs_eval.specs.Choosing.{chosen, chosen_looked}
 use Rattle.cs_eval.proofs.Calling.{none_left, selected_here, selected_looks_here, selected_on, selected_looks_on, chosen_weight, within_path, within_list, path_looked, path_weight}
