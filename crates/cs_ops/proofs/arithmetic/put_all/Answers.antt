@@ -10,7 +10,7 @@ loop-key-preserved c =
     let done = l.invariant.0 in
     let e : Entry = (c.in-Some.key.now, c.in-Some.member.now) in
     let left = c.next.new.self in
-    let all : (out-Fields c.args.right.now).pairs.entries ≡ done ++ e ∷ left = l.invariant.1 ∙ ap (λ es. done ++ es) c.in-Some.ensures.steps in (
+    let all : (out-Fields c.args.right.now).pairs ≡ done ++ e ∷ left = l.invariant.1 ∙ ap (λ es. done ++ es) c.in-Some.ensures.steps in (
       done ++ e ∷ [],
       all ∙ sym (append_assoc done (e ∷ []) left),
       (λ ps h. c.in_ok-put.ensures.put ∙ rw (c.in_ok-name.ensures, c.as_str.ensures.value, c.in_ok-copy.ensures, l.invariant.2 ps h) (sym (merged-push ps done e))),

@@ -9,5 +9,5 @@ use Rattle.cs_ops.proofs.arithmetic.put_all.Given as goal
 abbrev pub invariant-loop-key : goal.invariant-loop-key
 invariant-loop-key l =
     (done : List Entry)
-    × ((out-Fields l.right).pairs.entries ≡ done ++ l.key-iterator)
+    × ((out-Fields l.right).pairs ≡ done ++ l.key-iterator)
     × ((ps : Pairs) → tree l.fn.left ≡ object ps → fields l.object ≡ merged ps (entries_tree done))
