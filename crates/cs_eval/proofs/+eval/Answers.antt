@@ -10,7 +10,7 @@ use Rattle.cs_view.specs.Scopes.{scope}
 use Rattle.cs_view.specs.declared.key.Key.{Key}
 use Rattle.cs_meaning.specs.declared.join.Entrance.TheVariants.{Whole, Mapped, Flat}
 use Rattle.cs_meaning.specs.Joining.{form, kind, way, entrance, list_of}
-use Rattle.cs_meaning.specs.Values.{value, rest_value, step_value, selected, keys_values}
+use Rattle.cs_meaning.specs.Values.{value, step_value, selected, keys_values}
 use Rattle.cs_meaning.specs.Looked.{looked, run_looked, rest_looked, step_looked, entered_looked, arguments_looked, selected_looked, keys_looked}
 use Rattle.cs_parts.specs.Parts.{got}
 use Rattle.cs_parts.specs.Turns.{turn, is_end}
@@ -22,7 +22,7 @@ use Rattle.cs_parts.proofs.Trees.{tree_of_null}
 use Rattle.cs_eval.specs.Choosing.{chosen, chosen_looked}
 use Rattle.cs_eval.proofs.Calling.{none_left, selected_here, selected_looks_here, selected_on, selected_looks_on, chosen_weight, within_path, within_list, path_looked, path_weight}
 use Rattle.cs_eval.proofs.Sorting.{keys_values_more, keys_looked_more, keys_weight_more, pushed_values}
-use Rattle.cs_eval.proofs.Answered.{run_parts, run_keys, one_after_another, pipe_parts, kept_docs, kept_keys, star_value, star_looked, is_everything_then, step_on, step_looks_on, kind_behind, kinds_behind}
+use Rattle.cs_eval.proofs.Answered.{run_parts, run_keys, one_after_another, pipe_parts, kept_docs, kept_keys, star_value, star_looked, is_everything_then, step_looks_on, kind_behind, kinds_behind}
 use Rattle.cs_eval.specs.Levels.{unwound, task_value, task_waiting, levels_waiting}
 use Rattle.cs_eval.specs.Levels.{reached_waiting, reached_weight}
 use Rattle.cs_eval.specs.Stops.{stop, stop_value}

@@ -2,7 +2,7 @@ use Rattle.std.proofs.Common.{◌≡◌, ◌++◌, ◌∷◌, [], cond, ◌<◌,
 use Rattle.std.specs.List.{list_any}
 use Rattle.cs_value.specs.Tree.{list, object, trees}
 use Rattle.cs_value.specs.View.{tree, fields, list_tree}
-use Rattle.cs_value.proofs.Views.{Entry, tree-List, tree-Obj}
+use Rattle.cs_value.proofs.Views.{Entry, tree-List, tree-Obj, walked}
 use Rattle.cs_jsonmatch.specs.Places.{selects, trails, item_trails, pair_trails}
 use Rattle.cs_jsonmatch.specs.View.{path_of}
 use Rattle.cs_jsonmatch.specs.Walk.{next, reached}
@@ -114,3 +114,11 @@ pub walk-returns-then-not-goes_on-clause-found : goal.walk-returns-then-not-goes
 walk-returns-then-not-goes_on-clause-found t c =
     at_end (locations c.args.found.now.items) (locations c.arrive.new.found.items) c.deref.result.now c.args.above.now.items c.args.waiting.now c.args.steps.now (tree c.args.val.now)
     c.deref.ensures.value (c.in_ok-arrive.ensures ∙ ap (λ b. locations c.args.found.now.items ++ cond b (c.deref.result.now ∷ []) []) c.path_ends.ensures) (sym c.goes_on.ensures ∙ c.if-not-goes_on.true)
+
+pub walk_pairs-loop-name-init : goal.walk_pairs-loop-name-init
+walk_pairs-loop-name-init t c =
+    let above = c.args.above.now.items in
+    let v = object (fields c.args.object.now) in
+    let steps = c.into_iter-name-iterator.ensures.into_iter_gives ∙ c.iter-name-items.ensures.rest in
+    let same = ap (λ ps. locations c.args.found.now.items ++ reached above c.args.waiting.now (path_of c.args.steps.now) v (pair_trails ps)) (sym (walked c.args.object.now steps)) in
+    (same, refl)
