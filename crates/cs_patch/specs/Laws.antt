@@ -46,7 +46,8 @@ NoTargetsNoChange =
     → (unset_path path d ≡ document d)
     × ((m : ℤ) → (inc_path (path, m) d ≡ document d) × (dec_path (path, m) d ≡ document d)))
 
--- `insert` leaves the document where its path's last step may stand there, and there are no parents
+-- `insert` leaves the document where its path's last step may stand there, and there are no
+-- parents
 abbrev pub NoParentsNoChange : Type 0
 NoParentsNoChange =
     (i : Insertion) (p parents : Path) (s : Step) (d : Tree)

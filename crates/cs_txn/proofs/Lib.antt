@@ -1,3 +1,7 @@
+mod Asked
 mod Differing
-mod Examples
+mod Edits
+mod Forms
+mod Installs
 mod Kept
+mod Told
