@@ -1,6 +1,6 @@
 pub mod Arities
+pub mod DescendingKeys
 pub mod Digits
-pub mod Directions
 pub mod Keys
 pub mod ListPlaces
 pub mod Places

@@ -3,7 +3,7 @@ use Rattle.cs_syntax.specs.Expression.{keys_of}
 use Rattle.cs_syntax.specs.View.{key}
 use Rattle.cs_syntax.specs.declared.tree.OrderKey.{OrderKey}
 use Rattle.cs_meaning.specs.Ordered.{directions}
-use Rattle.cs_parts.proofs.Directions.{directions_more}
+use Rattle.cs_parts.proofs.DescendingKeys.{directions_more}
 use Rattle.cs_parts.proofs.listed.directions.Goals as goal
 
 pub loop-first-preserved : goal.loop-first-preserved
