@@ -1,0 +1,13 @@
+mod Calendar
+mod Held
+mod Imported
+mod Limited
+mod Lived
+mod Loads
+mod Named
+mod Runs
+mod Steps
+mod Subscriptions
+mod Told
+mod Transactions
+mod Unchanged

@@ -1,0 +1,80 @@
+-- The laws of the plain machine: what holds in every state that a run reaches.
+use Rattle.std.specs.Prelude.{◌≡◌, ◌≤◌, ℕ, ◌+◌, ◌⊎◌, List, length, filter, Contains, Bool, true}
+use Rattle.std.specs.List.{AllByRecursion, list_any}
+use Rattle.cs_value.specs.Tree.{Tree}
+use Rattle.cs_view.specs.Dataset.{is_dataset}
+use Rattle.cs_docs.specs.Limits.{most_documents}
+use Rattle.cs_docs.specs.References.{clean}
+use Rattle.cs_reply.specs.Reply.{live}
+use Rattle.cs_gen.specs.Summary.{is_refusal as refuses}
+use Rattle.cs_machine.specs.DataFile.{dataset, loaded}
+use Rattle.cs_machine.specs.Lives.{LiveQuery, value_of, has_live_name, most_lives}
+use Rattle.cs_machine.specs.Machine.{step, state_after}
+use Rattle.cs_machine.specs.Replies.{Reply, said, not_done}
+use Rattle.cs_machine.specs.State.{State, begun, listens}
+
+-- a dataset that is clean and within the limit
+abbrev pub IsHeld : List Tree → Type 0
+IsHeld docs = (is_dataset docs ≡ true) × (clean docs ≡ true) × (length docs ≤ most_documents)
+
+-- the dataset of every data file that loads is one
+abbrev pub LoadedDatasetsAreHeld : Type 0
+LoadedDatasetsAreHeld =
+    (bytes : List ℕ) (docs : List Tree) → loaded bytes ≡ dataset docs → IsHeld docs
+
+-- from such documents every run leads to such documents
+abbrev pub RunsHoldDatasets : Type 0
+RunsHoldDatasets =
+    (docs : List Tree) (n : ℕ) (lines : List (List ℕ))
+    → IsHeld docs
+    → IsHeld (state_after (begun docs) n lines).docs
+
+-- each live query's last answer is its value over the documents as they are
+abbrev pub AnswersAreCurrent : State → Type 0
+AnswersAreCurrent s = AllByRecursion (λ e. e.last ≡ value_of s.docs e) s.lives
+
+-- so it is in every state that a run reaches
+abbrev pub RunsKeepAnswersCurrent : Type 0
+RunsKeepAnswersCurrent =
+    (docs : List Tree) (n : ℕ) (lines : List (List ℕ))
+    → AnswersAreCurrent (state_after (begun docs) n lines)
+
+-- a live query after a line was there before with the same last answer, or its last answer is told
+abbrev pub IsTold : State → List Reply → LiveQuery → Type 0
+IsTold s replies e = Contains s.lives e ⊎ Contains replies (said (live e.name e.last))
+
+-- no last answer changes without being told
+abbrev pub LastAnswersAreTold : Type 0
+LastAnswersAreTold =
+    (s : State) (n : ℕ) (line : List ℕ)
+    → AllByRecursion (IsTold s (step s n line).replies) (step s n line).state.lives
+
+-- how many live queries and listeners have the name
+abbrev pub bearers : List ℕ → State → ℕ
+bearers name s =
+    length (filter (has_live_name name) s.lives) + length (filter (listens name) s.listeners)
+
+-- in every state that a run reaches, no name is had twice
+abbrev pub RunsNameOnce : Type 0
+RunsNameOnce =
+    (docs : List Tree) (n : ℕ) (lines : List (List ℕ)) (name : List ℕ)
+    → bearers name (state_after (begun docs) n lines) ≤ 1
+
+-- in every state that a run reaches, there are no more live queries or listeners than the limit
+abbrev pub RunsStayWithinLimits : Type 0
+RunsStayWithinLimits =
+    (docs : List Tree) (n : ℕ) (lines : List (List ℕ))
+    → (length (state_after (begun docs) n lines).lives ≤ most_lives)
+    × (length (state_after (begun docs) n lines).listeners ≤ most_lives)
+
+-- the reply says that its line is refused
+abbrev pub is_refusal : Reply → Bool
+is_refusal (said r) = refuses r
+is_refusal (not_done r) = true
+
+-- a line that has such a reply leaves the state as it is
+abbrev pub RefusedLinesChangeNothing : Type 0
+RefusedLinesChangeNothing =
+    (s : State) (n : ℕ) (line : List ℕ)
+    → list_any is_refusal (step s n line).replies ≡ true
+    → (step s n line).state ≡ s

@@ -1,0 +1,13 @@
+pub mod Causes
+pub mod DataFile
+pub mod Examples
+pub mod Expected
+pub mod Fold
+pub mod Laws
+pub mod Lives
+pub mod Machine
+pub mod Moments
+pub mod Refused
+pub mod Replies
+pub mod Rows
+pub mod State

@@ -1,0 +1,55 @@
+-- The plain machine, this project's profile: what each line of a script does to the state, and what
+-- it replies.
+use Rattle.std.specs.Prelude.{ℕ, List, [], Bool, ◌||◌, ◌==◌, cond, Option, Some, None}
+use Rattle.std.specs.List.{list_all}
+use Rattle.cs_value.specs.Tree.{Tree}
+use Rattle.cs_json.specs.Reading.{Outcome, not_json, too_deep, not_whole, value, outcome}
+use Rattle.cs_wire.specs.Commands.{Request}
+use Rattle.cs_wire.specs.Rows.{command}
+use Rattle.cs_reply.specs.Refusal as why
+use Rattle.cs_machine.specs.Fold.{Stepped}
+use Rattle.cs_machine.specs.Fold as fold
+use Rattle.cs_machine.specs.Refused.{refuse}
+use Rattle.cs_machine.specs.Replies.{reply_lines}
+use Rattle.cs_machine.specs.Rows.{row}
+use Rattle.cs_machine.specs.State.{State}
+
+abbrev pub is_blank_byte : ℕ → Bool
+is_blank_byte b = b == 32 || b == 9 || b == 13
+
+-- spaces, tabs and carriage returns alone
+abbrev pub is_blank : List ℕ → Bool
+is_blank line = list_all is_blank_byte line
+
+-- how many levels of lists and objects a line may nest
+abbrev pub deepest_line : ℕ
+deepest_line = 64
+
+abbrev pub by_command : State → ℕ → Option Request → Stepped State
+by_command s n None = refuse s why.bad_command
+by_command s n (Some request) = row s n request
+
+-- the value of a line is done as the command that it is
+abbrev pub obeyed : State → ℕ → Tree → Stepped State
+obeyed s n t = by_command s n (command t)
+
+-- a line that was read, or the first fault of its JSON
+abbrev pub heard : State → ℕ → Outcome → Stepped State
+heard s n not_json = refuse s why.not_json
+heard s n too_deep = refuse s why.too_deep
+heard s n not_whole = refuse s why.not_whole
+heard s n (value t) = obeyed s n t
+
+-- what the line with this number leads to: a blank line to nothing
+unfoldable pub step : State → ℕ → List ℕ → Stepped State
+step s n line =
+    cond (is_blank line) (record { state = s; replies = [] })
+    (heard s n (outcome deepest_line line))
+
+-- the state after the lines, the first of which has the number n
+abbrev pub state_after : State → ℕ → List (List ℕ) → State
+state_after = fold.state_after step
+
+-- what the lines have the machine write: the text of their replies
+abbrev pub written : State → ℕ → List (List ℕ) → List ℕ
+written s n lines = reply_lines (fold.replies step s n lines)
