@@ -1,10 +1,13 @@
 mod Calendar
+mod Depths
 mod Held
 mod Imported
 mod Limited
 mod Lived
 mod Loads
 mod Named
+mod Onward
+mod Refusals
 mod Runs
 mod Steps
 mod Subscriptions

@@ -142,3 +142,56 @@ unfolding step said outcome command verdict path_verdict tokens_from expression_
     json_text escape_byte json.value punctuate lex content word after_number number_of scan_numeral
     is_utf8 chars digits lib.Utf8.encode
 moments = refl
+
+-- After a transaction come its reply, the events by listener and then by document, and the live
+-- answers in the order made.
+each_in_its_order :
+    Plays
+    (codes "{\"_id\":\"b\",\"_type\":\"t\",\"n\":1}"
+    ∷ codes "{\"_id\":\"c\",\"_type\":\"t\",\"n\":2}"
+    ∷ [])
+    (codes "{\"live\":\"w\",\"query\":\"*[n > 1]._id\"}"
+    ∷ codes "{\"listen\":\"z\",\"query\":\"*[n > 1]\",\"includeResult\":true}"
+    ∷ codes "{\"live\":\"v\",\"query\":\"count(*)\"}"
+    ∷ codes "{\"listen\":\"y\",\"query\":\"*\"}"
+    ∷ codes "{\"live\":\"u\",\"query\":\"1\"}"
+    ∷ (codes "{\"mutate\":{\"mutations\":[{\"patch\":{\"query\":\"*[n > 0]\",\"inc\":"
+    ++ codes "{\"n\":1}}},{\"createOrReplace\":{\"_id\":\"a\",\"_type\":\"t\",\"n\":5}},"
+    ++ codes "{\"delete\":{\"id\":\"c\"}}]}}")
+    ∷ [])
+    (codes "{\"line\":1,\"live\":\"w\",\"result\":[\"c\"]}"
+    ∷ codes "{\"line\":2,\"listener\":\"z\",\"type\":\"welcome\"}"
+    ∷ codes "{\"line\":3,\"live\":\"v\",\"result\":2}"
+    ∷ codes "{\"line\":4,\"listener\":\"y\",\"type\":\"welcome\"}"
+    ∷ codes "{\"line\":5,\"live\":\"u\",\"result\":1}"
+    ∷ (codes "{\"line\":6,\"results\":[{\"id\":\"a\",\"operation\":\"create\"},{\"id\":\"b\","
+    ++ codes "\"operation\":\"update\"},{\"id\":\"c\",\"operation\":\"delete\"}],"
+    ++ codes "\"transactionId\":\"tx-6\"}")
+    ∷ (codes "{\"documentId\":\"a\",\"line\":6,\"listener\":\"z\",\"result\":"
+    ++ codes "{\"_createdAt\":\"1970-01-01T00:00:00Z\",\"_id\":\"a\",\"_rev\":\"tx-6\","
+    ++ codes "\"_type\":\"t\",\"_updatedAt\":\"1970-01-01T00:00:00Z\",\"n\":5},"
+    ++ codes "\"resultRev\":\"tx-6\",\"timestamp\":\"1970-01-01T00:00:00Z\","
+    ++ codes "\"transactionId\":\"tx-6\",\"transition\":\"appear\",\"type\":\"mutation\"}")
+    ∷ (codes "{\"documentId\":\"b\",\"line\":6,\"listener\":\"z\",\"previousRev\":\"import\","
+    ++ codes "\"result\":{\"_createdAt\":\"1970-01-01T00:00:00Z\",\"_id\":\"b\","
+    ++ codes "\"_rev\":\"tx-6\",\"_type\":\"t\",\"_updatedAt\":\"1970-01-01T00:00:00Z\","
+    ++ codes "\"n\":2},\"resultRev\":\"tx-6\",\"timestamp\":\"1970-01-01T00:00:00Z\","
+    ++ codes "\"transactionId\":\"tx-6\",\"transition\":\"appear\",\"type\":\"mutation\"}")
+    ∷ (codes "{\"documentId\":\"c\",\"line\":6,\"listener\":\"z\",\"previousRev\":\"import\","
+    ++ codes "\"timestamp\":\"1970-01-01T00:00:00Z\",\"transactionId\":\"tx-6\","
+    ++ codes "\"transition\":\"disappear\",\"type\":\"mutation\"}")
+    ∷ (codes "{\"documentId\":\"a\",\"line\":6,\"listener\":\"y\",\"resultRev\":\"tx-6\","
+    ++ codes "\"timestamp\":\"1970-01-01T00:00:00Z\",\"transactionId\":\"tx-6\","
+    ++ codes "\"transition\":\"appear\",\"type\":\"mutation\"}")
+    ∷ (codes "{\"documentId\":\"b\",\"line\":6,\"listener\":\"y\",\"previousRev\":\"import\","
+    ++ codes "\"resultRev\":\"tx-6\",\"timestamp\":\"1970-01-01T00:00:00Z\","
+    ++ codes "\"transactionId\":\"tx-6\",\"transition\":\"update\",\"type\":\"mutation\"}")
+    ∷ (codes "{\"documentId\":\"c\",\"line\":6,\"listener\":\"y\",\"previousRev\":\"import\","
+    ++ codes "\"timestamp\":\"1970-01-01T00:00:00Z\",\"transactionId\":\"tx-6\","
+    ++ codes "\"transition\":\"disappear\",\"type\":\"mutation\"}")
+    ∷ codes "{\"line\":6,\"live\":\"w\",\"result\":[\"a\",\"b\"]}"
+    ∷ [])
+unfolding step said outcome command verdict path_verdict tokens_from expression_in read
+    json_text escape_byte json.value punctuate lex content word after_number number_of scan_numeral
+    is_utf8 chars digits lib.Utf8.encode
+each_in_its_order = refl

@@ -1,5 +1,5 @@
 -- The laws of the plain machine: what holds in every state that a run reaches.
-use Rattle.std.specs.Prelude.{◌≡◌, ◌≤◌, ℕ, ◌+◌, ◌⊎◌, List, length, filter, Contains, Bool, true}
+use Rattle.std.specs.Prelude.{◌≡◌, ◌≤◌, ℕ, ◌+◌, ◌⊎◌, ◌++◌, List, length, filter, Contains, Bool, true}
 use Rattle.std.specs.List.{AllByRecursion, list_any}
 use Rattle.cs_value.specs.Tree.{Tree}
 use Rattle.cs_view.specs.Dataset.{is_dataset}
@@ -9,7 +9,7 @@ use Rattle.cs_reply.specs.Reply.{live}
 use Rattle.cs_gen.specs.Summary.{is_refusal as refuses}
 use Rattle.cs_machine.specs.DataFile.{dataset, loaded}
 use Rattle.cs_machine.specs.Lives.{LiveQuery, value_of, has_live_name, most_lives}
-use Rattle.cs_machine.specs.Machine.{step, state_after}
+use Rattle.cs_machine.specs.Machine.{step, state_after, written}
 use Rattle.cs_machine.specs.Replies.{Reply, said, not_done}
 use Rattle.cs_machine.specs.State.{State, begun, listens}
 
@@ -78,3 +78,11 @@ RefusedLinesChangeNothing =
     (s : State) (n : ℕ) (line : List ℕ)
     → list_any is_refusal (step s n line).replies ≡ true
     → (step s n line).state ≡ s
+
+-- lines after others do and write what they do and write from the state that the others lead to
+abbrev pub RunsGoOn : Type 0
+RunsGoOn =
+    (s : State) (n : ℕ) (xs ys : List (List ℕ))
+    → (state_after s n (xs ++ ys) ≡ state_after (state_after s n xs) (n + length xs) ys)
+    × (written s n (xs ++ ys)
+    ≡ written s n xs ++ written (state_after s n xs) (n + length xs) ys)

@@ -1,6 +1,6 @@
 //! The laws of the plain machine, for proofs: each function does nothing, and its contract is the
 //! law.
-ghost use Rattle.cs_machine.specs.Laws.{LoadedDatasetsAreHeld, RunsHoldDatasets, RunsKeepAnswersCurrent, LastAnswersAreTold, RunsNameOnce, RunsStayWithinLimits, RefusedLinesChangeNothing};
+ghost use Rattle.cs_machine.specs.Laws.{LoadedDatasetsAreHeld, RunsHoldDatasets, RunsKeepAnswersCurrent, LastAnswersAreTold, RunsNameOnce, RunsStayWithinLimits, RefusedLinesChangeNothing, RunsGoOn};
 
 use cs_docs::laws::none_dangles_where_clean;
 use cs_txn::laws::commits_keep_datasets;
@@ -43,4 +43,10 @@ pub fn runs_stay_within_limits()
 /// A line that is refused leaves the state as it is.
 pub fn refused_lines_change_nothing()
     ensures { RefusedLinesChangeNothing }
+{}
+
+/// Lines after others lead to the state, and have the machine write the bytes, that they do from the
+/// state that the others lead to.
+pub fn runs_go_on()
+    ensures { RunsGoOn }
 {}
