@@ -1,5 +1,5 @@
 -- A simple query by its parts.
-use Rattle.std.proofs.Common.{◌≡◌, List, [], ◌∷◌, map, length, sym, ap, ◌∙◌, rules, Vec, Box, Global, refl, true, false, Bool, ◌&&◌, IfNone}
+use Rattle.std.proofs.Common.{◌≡◌, ◌≤◌, ◌+◌, ℕ, List, [], ◌∷◌, map, length, sym, ap, subst, ◌∙◌, rules, Vec, Box, Global, refl, true, false, Bool, ◌&&◌, IfNone}
 use Rattle.std.specs.Prelude.{filter, IfSome, OnOk}
 use Rattle.std.proofs.Common.{Option, None, Some, Result, Ok, Err}
 use Rattle.cs_value.specs.Tree.{Tree, null, Pairs}
@@ -63,6 +63,13 @@ simple_keys docs params scope e f later k h is root is-k = ap (λ (x : Key). x �
 pub simple_cost : (docs : List Tree) (params : Pairs) (scope : List Tree) (e f : Expression) (later : Steps) (k : Key) → e ≡ chain everything (more_steps (bracket f) later) → scope ≡ null ∷ [] → k ≡ key_in f scope params
     → length (Sel k docs) ≡ cost e params docs
 simple_cost docs params scope e f later k is root is-k = ap (λ (x : Key). length (Sel x docs)) (is_key params scope e f later k is root is-k)
+
+pub simple_visits : (docs : List Tree) (params : Pairs) (scope : List Tree) (e f : Expression)
+    (later : Steps) (k : Key) (before after : ℕ) → e ≡ chain everything (more_steps (bracket f) later)
+    → scope ≡ null ∷ [] → k ≡ key_in f scope params → after ≤ before + length (Sel k docs)
+    → after ≤ before + cost e params docs
+simple_visits docs params scope e f later k before after is root is-k few =
+    subst (λ (n : ℕ). after ≤ before + n) (simple_cost docs params scope e f later k is root is-k) few
 
 pub some_then : {A : Type 0} (r : Option A) {P Q : A → Type 0} → ((x : A) → P x → Q x) → IfSome r P → IfSome r Q
 some_then None f h = tt

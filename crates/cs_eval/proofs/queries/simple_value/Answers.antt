@@ -7,7 +7,7 @@ use Rattle.cs_syntax.specs.View.{expression, step}
 use Rattle.cs_view.specs.Scopes.{scope}
 use Rattle.cs_view.specs.declared.key.Key.{Key}
 use Rattle.cs_parts.specs.Parts.{got}
-use Rattle.cs_eval.proofs.Simples.{simple_answer, simple_keys, on_ok}
+use Rattle.cs_eval.proofs.Simples.{simple_answer, simple_keys, simple_visits, on_ok}
 use Rattle.cs_eval.proofs.queries.simple_value.Goals as goal
 
 pub returns-clause-value : goal.returns-clause-value
@@ -28,3 +28,24 @@ returns-clause-keys g c =
     on_ok c.tail_of_hits.result
     (c.in_ok-add.ensures.added ∙ ap (λ (ks : List Key). c.args.keys.now ++ ks)
     (simple_keys (g.V.View.docs c.args.view.now) (fields c.args.params.now) (scope c.args.frame.now) (query c.args.query.now) f later c.in_ok-key.key c.requires.simple is c.requires.root c.in_ok-key.ensures))
+
+pub returns-in_err-found-clause-visits : goal.returns-in_err-found-clause-visits
+returns-in_err-found-clause-visits g c =
+    let f = expression c.in-Some.condition.now in
+    let later = steps_of (map step c.in-Some.later.now) in
+    let is : query c.args.query.now ≡ chain everything (more_steps (bracket f) later) = sym c.expr.ensures.kept ∙ c.in-Some.ensures.some in
+    simple_visits (g.V.View.docs c.args.view.now) (fields c.args.params.now) (scope c.args.frame.now) (query c.args.query.now) f later c.in_ok-key.key c.args.count.now c.select.new.count is c.requires.root c.in_ok-key.ensures c.select.ensures.visits
+
+pub returns-in_err-add-clause-visits : goal.returns-in_err-add-clause-visits
+returns-in_err-add-clause-visits g c =
+    let f = expression c.in-Some.condition.now in
+    let later = steps_of (map step c.in-Some.later.now) in
+    let is : query c.args.query.now ≡ chain everything (more_steps (bracket f) later) = sym c.expr.ensures.kept ∙ c.in-Some.ensures.some in
+    simple_visits (g.V.View.docs c.args.view.now) (fields c.args.params.now) (scope c.args.frame.now) (query c.args.query.now) f later c.in_ok-key.key c.args.count.now c.select.new.count is c.requires.root c.in_ok-key.ensures c.select.ensures.visits
+
+pub returns-clause-visits : goal.returns-clause-visits
+returns-clause-visits g c =
+    let f = expression c.in-Some.condition.now in
+    let later = steps_of (map step c.in-Some.later.now) in
+    let is : query c.args.query.now ≡ chain everything (more_steps (bracket f) later) = sym c.expr.ensures.kept ∙ c.in-Some.ensures.some in
+    simple_visits (g.V.View.docs c.args.view.now) (fields c.args.params.now) (scope c.args.frame.now) (query c.args.query.now) f later c.in_ok-key.key c.args.count.now c.select.new.count is c.requires.root c.in_ok-key.ensures c.select.ensures.visits

@@ -6,7 +6,7 @@ use Rattle.cs_docs.specs.Store.{docs}
 use Rattle.cs_view.specs.Dataset.{with_doc}
 use Rattle.cs_view.specs.View.{doc}
 use Rattle.cs_run.specs.Core.{seen}
-use Rattle.cs_run.proofs.Noting.{noted, forgotten}
+use Rattle.cs_run.proofs.Noting.{noted, forgotten, at_err, same_texts}
 use Rattle.cs_run.proofs.machine.Core.commit.Goals as goal
 
 pub returns-then-is_err-clause-leaves : goal.returns-then-is_err-clause-leaves
@@ -23,3 +23,8 @@ returns-else-is_err-clause-committed c =
     let one = rw tx at (btree_set_updates_text (string_bytes c.in_ok-id.id) c.args.self.now.used c.insert.new.self true c.in_ok-insert.ensures.updates) in
     let used = noted (contains_text c.args.self.now.used) (contains_text c.insert.new.self) c.args.tx.now one in
     on_ok_weaker c.insert-installed.result (λ put. ap (λ d. seen d (contains_text c.insert.new.self)) put ∙ ap (λ u. seen (with_doc (doc c.args.document) (docs c.args.self.now.docs)) u) used) c.insert-installed.ensures.put
+
+pub returns-in_err-insert-clause-leaves : goal.returns-in_err-insert-clause-leaves
+returns-in_err-insert-clause-leaves c =
+    at_err c.from_residual-in_err-insert.result
+    (ap (seen (docs c.args.self.now.docs)) (same_texts c.args.self.now.used c.insert.new.self c.in_err-insert.ensures.err))
