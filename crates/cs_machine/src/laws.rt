@@ -45,8 +45,8 @@ pub fn refused_lines_change_nothing()
     ensures { RefusedLinesChangeNothing }
 {}
 
-/// Lines after others lead to the state, and have the machine write the bytes, that they do from the
-/// state that the others lead to.
+/// Lines after others lead to the state, and have the machine write the bytes, that they do from
+/// the state that the others lead to.
 pub fn runs_go_on()
     ensures { RunsGoOn }
 {}
