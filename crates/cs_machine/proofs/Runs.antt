@@ -212,7 +212,7 @@ unfolding step said outcome command verdict path_verdict tokens_from expression_
     is_utf8 chars digits lib.Utf8.encode
 all_done = refl
 
--- The generated script without documents, and with a few.
+-- The generated script without documents.
 generated_0 :
     summary_of (generated 0)
     ≡ (codes "{\"documents\":0,\"events\":0,\"lines\":3,\"live\":1,\"refused\":0,\"re"
@@ -222,7 +222,7 @@ unfolding step said outcome command verdict path_verdict tokens_from expression_
     is_utf8 chars digits lib.Utf8.encode
 generated_0 = refl
 
--- Deletions of authors that posts refer to are refused; the others are heard.
+-- Two authors appear to the listener, and are not deleted, since posts refer to them.
 generated_20 :
     summary_of (generated 20)
     ≡ (codes "{\"documents\":20,\"events\":2,\"lines\":25,\"live\":2,\"refused\":2,\""

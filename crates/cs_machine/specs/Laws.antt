@@ -1,4 +1,4 @@
--- The laws of the plain machine: what holds in every state that a run reaches.
+-- The laws of the plain machine: of each line, and of every state that a run reaches.
 use Rattle.std.specs.Prelude.{◌≡◌, ◌≤◌, ℕ, ◌+◌, ◌⊎◌, ◌++◌, List, length, filter, Contains, Bool, true}
 use Rattle.std.specs.List.{AllByRecursion, list_any}
 use Rattle.cs_value.specs.Tree.{Tree}
