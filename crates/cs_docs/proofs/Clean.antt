@@ -1,5 +1,6 @@
 -- No reference dangles exactly where the dataset is clean.
-use Rattle.std.proofs.Common.{◌≡◌, ◌↔◌, ◌≤◌, ℕ, List, [], ◌∷◌, ◌++◌, map, length, Bool, true, false, not, ◌&&◌, cond, nat_lt, Option, Some, None, refl, arith}
+use Rattle.std.proofs.Common.{◌≡◌, ◌↔◌, ◌≤◌, ◌<◌, ℕ, List, [], ◌∷◌, ◌++◌, map, length, Bool, true, false, not, ◌&&◌, cond, nat_lt, Option, Some, None, refl, arith}
+use Rattle.std.proofs.lemmas.Bool.Decides.{nat_tests}
 use Rattle.std.proofs.lemmas.Grind.{common_steps}
 use Rattle.std.specs.List.{filter, list_all}
 use Rattle.cs_value.specs.Tree.{Tree}
@@ -63,3 +64,20 @@ fits-within-clean docs =
     let w = within (length docs) most_documents in
     let c = none-is-clean docs in
     ((λ h. (w.0 (n.0 h).0, c.0 (n.0 h).1)), (λ h. n.1 (w.1 h.0, c.1 h.1)))
+
+no_pair_is_full : (p : Option (List ℕ × List ℕ)) → of_pair p ≡ full → ⊥
+no_pair_is_full None h = cc
+no_pair_is_full (Some p) h = cc
+
+is_full : (b : Bool) (p : Option (List ℕ × List ℕ)) → (cond b full (of_pair p) ≡ full) ↔ (b ≡ true)
+is_full true p = ((λ h. refl), (λ h. refl))
+is_full false p = ((λ h. absurd (no_pair_is_full p h)), (λ h. cc))
+
+above : (n m : ℕ) → (nat_lt m n ≡ true) ↔ (m < n)
+above n m = ((λ h. grind (arith, nat_tests, h)), (λ h. grind (arith, nat_tests, h)))
+
+pub full-above : (docs : List Tree) → (verdict docs ≡ full) ↔ (most_documents < length docs)
+full-above docs =
+    let n = is_full (nat_lt most_documents (length docs)) (first_dangling docs) in
+    let w = above (length docs) most_documents in
+    ((λ h. w.0 (n.0 h)), (λ h. n.1 (w.1 h)))

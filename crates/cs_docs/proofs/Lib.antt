@@ -1,4 +1,5 @@
 pub mod Clean
+mod Entering
 mod Examples
 pub mod Placing
 pub mod Selecting

@@ -17,4 +17,4 @@ are_documents (d ∷ ds) =
 -- they are a dataset
 pub is_dataset_of : (d : Docs) → is_dataset (docs d) ≡ true
 is_dataset_of d =
-    ap (λ b. b && list_all is_document (docs d)) d.ascends ∙ are_documents d.docs.items
+    ap (λ b. b && list_all is_document (docs d)) d.shelf.ascends ∙ are_documents d.shelf.docs.items

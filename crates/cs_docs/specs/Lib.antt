@@ -1,7 +1,9 @@
 pub mod Kept
 pub mod Laws
 pub mod Limits
+pub mod Missing
 pub mod Places
 pub mod References
+pub mod Shelves
 pub mod Store
 pub mod Verdict

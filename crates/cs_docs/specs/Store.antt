@@ -1,8 +1,8 @@
--- What contracts see of the documents.
-use Rattle.std.specs.Prelude.{List, map}
+-- What contracts see of the documents of the store.
+use Rattle.std.specs.Prelude.{List}
 use Rattle.cs_value.specs.Tree.{Tree}
-use Rattle.cs_view.specs.View.{doc}
+use Rattle.cs_docs.specs.Shelves.{documents}
 use Rattle.cs_docs.specs.declared.docs.Docs.{Docs}
 
 abbrev pub docs : Docs → List Tree
-docs d = map doc d.docs.items
+docs d = documents d.shelf

@@ -1,67 +1,59 @@
-//! The documents of the store, in the order of their ids.
-ghost use Rattle.std.specs.Prelude.{◌≡◌, ◌==◌, ◌≤◌, ◌<◌, map, length, [], true, MatchResult, option_map, Some, slice_get, OnOk, OnErr};
-ghost use Rattle.cs_view.specs.Dataset.{ascending, with_doc, At};
+//! The documents of the store.
+ghost use Rattle.std.specs.Prelude.{◌≡◌, ◌<◌, length, [], true, option_map, Some, slice_get, OnOk, OnErr};
+ghost use Rattle.cs_view.specs.Dataset.{with_doc, At};
 ghost use Rattle.cs_view.specs.Document.{id_of};
 ghost use Rattle.cs_view.specs.View.{doc};
 ghost use Rattle.cs_docs.specs.Limits.{most_documents};
+ghost use Rattle.cs_docs.specs.References.{clean};
+ghost use Rattle.cs_docs.specs.Shelves.{documents};
 
+use crate::shelf::Shelf;
 use cs_value::{NoMemory, Txt};
 use cs_view::Doc;
 use std::alloc::Global;
 
-/// The most documents that the store holds: this project's profile.
-pub const MOST_DOCUMENTS: usize = 1_048_576;
-
-/// The documents of the store, in ascending order of their ids' bytes: at most [`MOST_DOCUMENTS`].
-/// Contracts speak of them by the list of their trees.
+/// The documents of the store: at most [`crate::MOST_DOCUMENTS`], in ascending order of their ids'
+/// bytes, and each strong reference in one names one of them. Contracts speak of them by the list
+/// of their trees.
 #[derive(Drop)]
 pub struct Docs {
-    docs: Vec<Doc>,
-    pub ghost ascends: { ascending (map doc docs.items) ≡ true },
-    pub ghost within: { length docs.items ≤ most_documents },
+    shelf: Shelf,
+    pub ghost clean: { clean (documents shelf) ≡ true },
 }
 
 impl Docs {
     ghost use Rattle.cs_docs.specs.Store.{docs};
-    ghost use Rattle.cs_docs.specs.Places.{HasId, IsGapFor};
+    ghost use Rattle.cs_docs.specs.Places.{IsGapFor};
 
     /// No documents. It takes no memory.
     pub fn new(alloc: Global) -> Docs
         ensures { docs result ≡ [] }
     {
         Docs {
-            docs: Vec::new(alloc),
+            shelf: Shelf::new(alloc),
         }
     }
 
-    /// These documents, whose ids ascend strictly, within the limit. They are moved, not copied.
-    pub fn of(documents: Vec<Doc>) -> Docs
-        requires ascends { ascending (map doc documents.items) ≡ true }
-        requires within { length documents.items ≤ most_documents }
-        ensures { docs result ≡ map doc documents.items }
+    /// These documents, of which no strong reference dangles. They are moved, not copied.
+    pub fn of(shelf: Shelf) -> Docs
+        requires { clean (documents shelf) ≡ true }
+        ensures { docs result ≡ documents shelf }
     {
-        Docs { docs: documents }
+        Docs { shelf }
+    }
+
+    /// The documents as they stand in the order of their ids.
+    pub fn shelf(&self) -> &Shelf
+        ensures { documents result.now ≡ docs self.now }
+    {
+        &self.shelf
     }
 
     /// How many documents there are.
     pub fn len(&self) -> u32
         ensures { result ≡ length (docs self.now) }
     {
-        self.docs.len() as u32
-    }
-
-    /// Whether there is no room for a document more.
-    pub fn is_full(&self) -> bool
-        ensures { result ≡ (length (docs self.now) == most_documents) }
-    {
-        self.docs.len() == MOST_DOCUMENTS
-    }
-
-    /// The documents themselves, in the order of their ids.
-    pub fn as_slice(&self) -> &[Doc]
-        ensures { map doc result.now ≡ docs self.now }
-    {
-        self.docs.as_slice()
+        self.shelf.len()
     }
 
     /// The document at a place, counted from 0 in the order of the ids.
@@ -69,38 +61,26 @@ impl Docs {
         requires { place < length (docs self.now) }
         ensures { slice_get (docs self.now) place ≡ Some (doc result.now) }
     {
-        &self.docs[place as usize]
+        self.shelf.at(place)
     }
 
     /// The document with the id. `None` exactly where there is none.
     pub fn get(&self, id: &Txt) -> Option<&Doc>
         ensures { option_map (λ d. doc d.now) result ≡ At id.now (docs self.now) }
     {
-        match self.search(id.as_str()) {
-            Ok(place) => Some(&self.docs[place]),
-            Err(_) => None,
-        }
+        self.shelf.get(id)
     }
 
-    /// The place of the document with the id. `Err` exactly where there is none: the place where it
-    /// would go, which is that of the first document with a greater id, or else the number of the
-    /// documents.
-    pub fn search(&self, id: &str) -> Result<usize, usize>
-        ensures { MatchResult result (HasId id.now (docs self.now))
-            (IsGapFor id.now (docs self.now)) }
-    {
-        self.docs
-            .binary_search_by(|document| document.id().as_str().cmp(id))
-    }
-
-    /// Puts a document at the place where it would go, as [`Docs::search`] gives it, where there is
-    /// room for it. `NoMemory` where the allocator has none; nothing changes then.
+    /// Puts a document at the place where it would go, as [`Shelf::search`] gives it, where there
+    /// is room for it and no strong reference dangles afterwards. `NoMemory` where the allocator has
+    /// none; nothing changes then.
     pub fn insert(&mut self, place: usize, document: Doc) -> Result<(), NoMemory>
         requires gap { IsGapFor (id_of (doc document)) (docs self.old) place }
         requires room { length (docs self.old) < most_documents }
+        requires clean { clean (with_doc (doc document) (docs self.old)) ≡ true }
         ensures put { OnOk result (docs self.new ≡ with_doc (doc document) (docs self.old)) }
         ensures kept { OnErr result (docs self.new ≡ docs self.old) }
     {
-        Ok(self.docs.insert(place, document)?)
+        self.shelf.insert(place, document)
     }
 }

@@ -3,8 +3,12 @@
 
 mod docs;
 pub mod laws;
+mod references;
+mod shelf;
 #[cfg(test)]
 mod tests;
 mod view;
 
-pub use docs::{Docs, MOST_DOCUMENTS};
+pub use docs::Docs;
+pub use references::Dangling;
+pub use shelf::{MOST_DOCUMENTS, Shelf};

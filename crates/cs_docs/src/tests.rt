@@ -29,23 +29,26 @@ fn document<'x>(alloc: Global, id: &'x str, word: &'x str) -> Result<Doc, Fail> 
     }
 }
 
-fn put(docs: &mut Docs, document: Doc) -> Result<(), Fail> {
-    if docs.is_full() {
+fn put(shelf: &mut Shelf, document: Doc) -> Result<(), Fail> {
+    if shelf.is_full() {
         return Err(Fail::new("no room"));
     }
-    match docs.search(document.id().as_str()) {
+    match shelf.search(document.id().as_str()) {
         Ok(_) => Err(Fail::new("there already")),
-        Err(place) => Ok(docs.insert(place, document)?),
+        Err(place) => Ok(shelf.insert(place, document)?),
     }
 }
 
 // The documents a, b and c, of which b has another word.
 fn three(alloc: Global) -> Result<Docs, Fail> {
-    let mut docs = Docs::new(alloc);
-    put(&mut docs, document(alloc, "b", "y")?)?;
-    put(&mut docs, document(alloc, "c", "x")?)?;
-    put(&mut docs, document(alloc, "a", "x")?)?;
-    Ok(docs)
+    let mut shelf = Shelf::new(alloc);
+    put(&mut shelf, document(alloc, "b", "y")?)?;
+    put(&mut shelf, document(alloc, "c", "x")?)?;
+    put(&mut shelf, document(alloc, "a", "x")?)?;
+    match shelf.first_dangling() {
+        None => Ok(Docs::of(shelf)),
+        Some(_) => Err(Fail::new("a reference dangles")),
+    }
 }
 
 // The ids of the documents of a view that have the key.

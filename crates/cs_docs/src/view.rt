@@ -58,7 +58,7 @@ fn place_of(docs: &Docs, id: &Txt) -> Option<u32>
     ensures { option_map (slice_get (docs_of docs.now)) result
         ≡ option_map Some (At id.now (docs_of docs.now)) }
 {
-    match docs.search(id.as_str()) {
+    match docs.shelf().search(id.as_str()) {
         Ok(place) => Some(place as u32),
         Err(_) => None,
     }

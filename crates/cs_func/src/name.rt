@@ -27,19 +27,31 @@ macro_rules! names {
     };
 }
 
+static NAMES: [Name; 16] = names!(
+    "array::compact" => Compact,
+    "array::join" => Join,
+    "array::unique" => Unique,
+    "count" => Count,
+    "defined" => Defined,
+    "global::count" => Count,
+    "global::defined" => Defined,
+    "global::length" => Length,
+    "global::string" => Text,
+    "length" => Length,
+    "math::max" => Max,
+    "math::min" => Min,
+    "math::sum" => Sum,
+    "string" => Text,
+    "string::split" => Split,
+    "string::startsWith" => StartsWith
+);
+
 /// The function of the name, with its namespace, or with `global::` before a name without one:
 /// `None` exactly where no function of this crate has it.
 pub fn named(name: &str) -> Option<Function>
     ensures { result ≡ named name.now }
 {
-    let rows = names!(
-        "array::compact" => Compact, "array::join" => Join, "array::unique" => Unique,
-        "count" => Count, "defined" => Defined, "global::count" => Count,
-        "global::defined" => Defined, "global::length" => Length, "global::string" => Text,
-        "length" => Length, "math::max" => Max, "math::min" => Min, "math::sum" => Sum,
-        "string" => Text, "string::split" => Split, "string::startsWith" => StartsWith
-    );
-    let table = Table::over(&rows);
+    let table = Table::over(&NAMES);
     match table.find(name) {
         Some(row) => Some(row.function),
         None => None,

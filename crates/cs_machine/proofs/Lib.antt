@@ -1,11 +1,13 @@
 mod Calendar
 mod Depths
+mod Fullness
 mod Held
 mod Imported
 mod Limited
 mod Lived
 mod Loads
 mod Named
+mod Noted
 mod Onward
 mod Refusals
 mod Runs

@@ -214,7 +214,7 @@ all_done = refl
 
 -- The generated script without documents.
 generated_0 :
-    summary_of (generated 0)
+    summary_of step (generated 0)
     ≡ (codes "{\"documents\":0,\"events\":0,\"lines\":3,\"live\":1,\"refused\":0,\"re"
     ++ codes "plies\":3}\n")
 unfolding step said outcome command verdict path_verdict tokens_from expression_in read
@@ -224,7 +224,7 @@ generated_0 = refl
 
 -- Two authors appear to the listener, and are not deleted, since posts refer to them.
 generated_20 :
-    summary_of (generated 20)
+    summary_of step (generated 20)
     ≡ (codes "{\"documents\":20,\"events\":2,\"lines\":25,\"live\":2,\"refused\":2,\""
     ++ codes "replies\":28}\n")
 unfolding step said outcome command verdict path_verdict tokens_from expression_in read

@@ -30,7 +30,8 @@ pub record Cases (P : Stepped State → Type 0) (s : State) : Type 0 where
   pub blank : P (record { state = s; replies = [] })
   pub refuses : (r : why.Refusal) → P (refuse s r)
   pub refuses_transaction : (r : Refused) → P (record { state = s; replies = not_done r ∷ [] })
-  pub installs : (txn : Transaction) (docs : List Tree) → commit txn s.moment s.docs ≡ Ok docs
+  pub installs : (txn : Transaction) (docs : List Tree) → s.is_used txn.id ≡ false
+      → commit txn s.moment s.docs ≡ Ok docs
       → P (installed s txn.id docs (changes_between s.docs docs))
   pub finds : (t : Tree) → P (answered s (found t))
   pub adds_live : (l : LiveQuery) → is_taken l.name s ≡ false
@@ -47,16 +48,17 @@ either P false x y g h = h refl
 
 -- ---- mutate
 outcome_case : (P : Stepped State → Type 0) (s : State) → Cases P s → (txn : Transaction)
-    (o : Committed) → commit txn s.moment s.docs ≡ o → P (by_outcome s txn.id o)
-outcome_case P s c txn (Ok docs) e = c.installs txn docs e
-outcome_case P s c txn (Err r) e = c.refuses_transaction r
+    (o : Committed) → s.is_used txn.id ≡ false → commit txn s.moment s.docs ≡ o
+    → P (by_outcome s txn.id o)
+outcome_case P s c txn (Ok docs) unused e = c.installs txn docs unused e
+outcome_case P s c txn (Err r) unused e = c.refuses_transaction r
 
 transaction_case : (P : Stepped State → Type 0) (s : State) → Cases P s → (txn : Transaction)
     → P (by_transaction s txn)
 transaction_case P s c txn =
     either P (s.is_used txn.id) (refuse s (why.tx_used txn.id))
     (by_outcome s txn.id (commit txn s.moment s.docs)) (λ u. c.refuses (why.tx_used txn.id))
-    (λ u. outcome_case P s c txn (commit txn s.moment s.docs) refl)
+    (λ unused. outcome_case P s c txn (commit txn s.moment s.docs) unused refl)
 
 body_case : (P : Stepped State → Type 0) (s : State) → Cases P s → (b : Body) → P (by_body s b)
 body_case P s c no_command = c.refuses why.bad_command
@@ -128,12 +130,12 @@ row_case P s c n (at moment) =
     (refuse s why.bad_moment) (λ is. c.sets moment) (λ is. c.refuses why.bad_moment)
 
 command_case : (P : Stepped State → Type 0) (s : State) → Cases P s → (n : ℕ)
-    (r : Option Request) → P (by_command s n r)
+    (r : Option Request) → P (by_command row s n r)
 command_case P s c n None = c.refuses why.bad_command
 command_case P s c n (Some r) = row_case P s c n r
 
 heard_case : (P : Stepped State → Type 0) (s : State) → Cases P s → (n : ℕ) (o : Outcome)
-    → P (heard s n o)
+    → P (heard row s n o)
 heard_case P s c n not_json = c.refuses why.not_json
 heard_case P s c n too_deep = c.refuses why.too_deep
 heard_case P s c n not_whole = c.refuses why.not_whole
@@ -145,7 +147,7 @@ pub step-case : (P : Stepped State → Type 0) (s : State) → Cases P s → (n 
 unfolding step
 step-case P s c n line =
     either P (is_blank line) (record { state = s; replies = [] })
-    (heard s n (outcome deepest_line line)) (λ is. c.blank)
+    (heard row s n (outcome deepest_line line)) (λ is. c.blank)
     (λ is. heard_case P s c n (outcome deepest_line line))
 
 -- what each line keeps of the state, all lines keep

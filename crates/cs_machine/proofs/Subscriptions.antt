@@ -117,7 +117,7 @@ unfolding step said outcome command verdict path_verdict tokens_from expression_
     is_utf8 chars digits lib.Utf8.encode
 made_ids = refl
 
--- A line sets the moment, which stamps documents.
+-- A line sets the moment, which stamps documents, and tells no live answer.
 moments :
     Plays
     []
@@ -127,6 +127,8 @@ moments :
     ∷ codes "{\"at\":\"2024-03-01T00:00:00Z\"}"
     ∷ codes "{\"mutate\":{\"mutations\":[{\"patch\":{\"id\":\"a\",\"set\":{\"n\":1}}}]}}"
     ∷ codes "{\"query\":\"*[0]{_createdAt, _updatedAt, _rev}\"}"
+    ∷ codes "{\"live\":\"v\",\"query\":\"1\"}"
+    ∷ codes "{\"at\":\"2024-03-02T00:00:00Z\"}"
     ∷ [])
     (codes "{\"error\":\"bad-moment\",\"line\":1}"
     ∷ codes "{\"at\":\"2024-02-29T12:00:00Z\",\"line\":2}"
@@ -137,6 +139,8 @@ moments :
     ++ codes "\"transactionId\":\"tx-5\"}")
     ∷ (codes "{\"line\":6,\"result\":{\"_createdAt\":\"2024-02-29T12:00:00Z\","
     ++ codes "\"_rev\":\"tx-5\",\"_updatedAt\":\"2024-03-01T00:00:00Z\"}}")
+    ∷ codes "{\"line\":7,\"live\":\"v\",\"result\":1}"
+    ∷ codes "{\"at\":\"2024-03-02T00:00:00Z\",\"line\":8}"
     ∷ [])
 unfolding step said outcome command verdict path_verdict tokens_from expression_in read
     json_text escape_byte json.value punctuate lex content word after_number number_of scan_numeral

@@ -122,7 +122,7 @@ told_cases s = record {
   blank = as_before s [];
   refuses = λ r. as_before s (refuse s r).replies;
   refuses_transaction = λ r. as_before s (not_done r ∷ []);
-  installs = λ txn docs e.
+  installs = λ txn docs unused e.
       let cs = changes_between s.docs docs in
       each_refreshed (Contains s.lives) (IsTellable docs (filter (is_stale docs) s.lives))
       (IsTold s (installed s txn.id docs cs).replies) docs s.lives

@@ -35,7 +35,7 @@ unchanged_cases s = record {
   blank = λ h. refl;
   refuses = λ r h. refl;
   refuses_transaction = λ r h. refl;
-  installs = λ txn docs e h. absurd (true≢false (sym h ∙ commits_refuse_none s txn.id docs
+  installs = λ txn docs unused e h. absurd (true≢false (sym h ∙ commits_refuse_none s txn.id docs
       (changes_between s.docs docs)));
   finds = λ t h. refl;
   adds_live = λ l free room is h. absurd (true≢false (sym h));

@@ -10,8 +10,8 @@ use Rattle.cs_reply.specs.Refusal as why
 use Rattle.cs_reply.specs.Reply as plain
 use Rattle.cs_reply.specs.Stated.{Stop, long_line, much, bad, dangling, stated_line, script as script_source}
 use Rattle.cs_machine.specs.DataFile.{Loaded, dataset, stopped, loaded}
-use Rattle.cs_machine.specs.Fold.{replies}
-use Rattle.cs_machine.specs.Machine.{step, state_after, written}
+use Rattle.cs_machine.specs.Fold.{Step, state_after, replies, written}
+use Rattle.cs_machine.specs.Machine.{step}
 use Rattle.cs_machine.specs.Replies.{Reply, said, not_done}
 use Rattle.cs_machine.specs.State.{State, begun}
 
@@ -43,9 +43,10 @@ feed_ends (LineTooLong n) = bad_input
 feed_ends (SourceTooMuch n) = bad_input
 feed_ends (More n line rest) = feed_ends rest
 
--- what a script has the machine write from a state, and how it ends
-abbrev pub script_writes : State → List ℕ → List ℕ
-script_writes s script = written s 1 (given_lines (feed_of script)) ++ last_line (feed_of script)
+-- what a script has a machine write from a state, and how it ends
+abbrev pub script_writes : Step State → State → List ℕ → List ℕ
+script_writes step s script =
+    written step s 1 (given_lines (feed_of script)) ++ last_line (feed_of script)
 
 abbrev pub script_ends : List ℕ → Ending
 script_ends script = feed_ends (feed_of script)
@@ -73,9 +74,9 @@ abbrev pub start_with : Option (List ℕ) → Files → Start
 start_with None files = begins (begun [])
 start_with (Some name) files = start_of (loaded (file_bytes files name))
 
-abbrev pub start_writes : Start → List ℕ → List ℕ
-start_writes (begins s) script = script_writes s script
-start_writes (stops stop) script = stated_line stop
+abbrev pub start_writes : Step State → Start → List ℕ → List ℕ
+start_writes step (begins s) script = script_writes step s script
+start_writes step (stops stop) script = stated_line stop
 
 abbrev pub start_ends : Start → List ℕ → Ending
 start_ends (begins s) script = script_ends script
@@ -88,9 +89,9 @@ counted (said r) = r
 counted (not_done r) = plain.refused why.bad_tx
 
 -- the summary of lines, played from no documents
-abbrev pub summary_of : List (List ℕ) → List ℕ
-summary_of lines =
-    summary_line (length (state_after (begun []) 1 lines).docs) (length lines)
+abbrev pub summary_of : Step State → List (List ℕ) → List ℕ
+summary_of step lines =
+    summary_line (length (state_after step (begun []) 1 lines).docs) (length lines)
     (map (λ r. counted r.1) (replies step (begun []) 1 lines))
 
 -- ---- the run
@@ -105,11 +106,16 @@ pub data Task : Type 0 where
 abbrev pub usage_line : List ℕ
 usage_line = codes "{\"error\":\"usage\"}\n"
 
+-- what a run of a machine whose step is given is to write
+abbrev pub expected_by : Step State → Task → Files → List ℕ
+expected_by step no_task files = usage_line
+expected_by step (play data_name script) files =
+    start_writes step (start_with data_name files) (file_bytes files script)
+expected_by step (generate n) files = summary_of step (generated n)
+
+-- what a run of the plain machine is to write
 abbrev pub expected : Task → Files → List ℕ
-expected no_task files = usage_line
-expected (play data_name script) files =
-    start_writes (start_with data_name files) (file_bytes files script)
-expected (generate n) files = summary_of (generated n)
+expected = expected_by step
 
 abbrev pub expected_end : Task → Files → Ending
 expected_end no_task files = bad_usage

@@ -1,7 +1,7 @@
 -- A machine over the lines of a script, whatever its states are: each line leads to a state, and to
 -- replies.
 use Rattle.std.specs.Prelude.{ℕ, ◌+◌, List, [], ◌∷◌, ◌++◌}
-use Rattle.cs_machine.specs.Replies.{Reply, numbered}
+use Rattle.cs_machine.specs.Replies.{Reply, numbered, reply_lines}
 
 -- what one line leads to
 pub record Stepped (S : Type 0) : Type 0 where
@@ -22,3 +22,7 @@ abbrev pub replies : {S : Type 0} → Step S → S → ℕ → List (List ℕ) �
 replies step s n [] = []
 replies step s n (line ∷ lines) =
     numbered n (step s n line).replies ++ replies step (step s n line).state (n + 1) lines
+
+-- what the lines have a machine write: the text of their replies
+abbrev pub written : {S : Type 0} → Step S → S → ℕ → List (List ℕ) → List ℕ
+written step s n lines = reply_lines (replies step s n lines)

@@ -1,11 +1,12 @@
 -- The laws of the plain machine: of each line, and of every state that a run reaches.
-use Rattle.std.specs.Prelude.{◌≡◌, ◌≤◌, ℕ, ◌+◌, ◌⊎◌, ◌++◌, List, length, filter, Contains, Bool, true}
+use Rattle.std.specs.Prelude.{◌≡◌, ◌≤◌, ℕ, ◌+◌, ◌⊎◌, ◌++◌, List, length, filter, Contains, Bool, true, false}
 use Rattle.std.specs.List.{AllByRecursion, list_any}
 use Rattle.cs_value.specs.Tree.{Tree}
 use Rattle.cs_view.specs.Dataset.{is_dataset}
 use Rattle.cs_docs.specs.Limits.{most_documents}
 use Rattle.cs_docs.specs.References.{clean}
-use Rattle.cs_reply.specs.Reply.{live}
+use Rattle.std.specs.Str.{bytes_eq}
+use Rattle.cs_reply.specs.Reply.{live, committed}
 use Rattle.cs_gen.specs.Summary.{is_refusal as refuses}
 use Rattle.cs_machine.specs.DataFile.{dataset, loaded}
 use Rattle.cs_machine.specs.Lives.{LiveQuery, value_of, has_live_name, most_lives}
@@ -78,6 +79,25 @@ RefusedLinesChangeNothing =
     (s : State) (n : ℕ) (line : List ℕ)
     → list_any is_refusal (step s n line).replies ≡ true
     → (step s n line).state ≡ s
+
+-- the reply tells that the transaction of the id was accepted
+abbrev pub accepts : List ℕ → Reply → Bool
+accepts tx (said (committed id outcomes)) = bytes_eq tx id
+accepts tx r = false
+
+-- the id of an accepted transaction was not used before it, and is from then on
+abbrev pub IdsAreUsedOnce : Type 0
+IdsAreUsedOnce =
+    (s : State) (n : ℕ) (line tx : List ℕ)
+    → list_any (accepts tx) (step s n line).replies ≡ true
+    → (s.is_used tx ≡ false) × ((step s n line).state.is_used tx ≡ true)
+
+-- an id that is used stays so
+abbrev pub UsedIdsStayUsed : Type 0
+UsedIdsStayUsed =
+    (s : State) (n : ℕ) (line id : List ℕ)
+    → s.is_used id ≡ true
+    → (step s n line).state.is_used id ≡ true
 
 -- lines after others do and write what they do and write from the state that the others lead to
 abbrev pub RunsGoOn : Type 0

@@ -10,7 +10,6 @@ use Rattle.cs_reply.specs.Refusal as why
 use Rattle.cs_machine.specs.Fold.{Stepped}
 use Rattle.cs_machine.specs.Fold as fold
 use Rattle.cs_machine.specs.Refused.{refuse}
-use Rattle.cs_machine.specs.Replies.{reply_lines}
 use Rattle.cs_machine.specs.Rows.{row}
 use Rattle.cs_machine.specs.State.{State}
 
@@ -25,31 +24,39 @@ is_blank line = list_all is_blank_byte line
 abbrev pub deepest_line : ℕ
 deepest_line = 64
 
-abbrev pub by_command : State → ℕ → Option Request → Stepped State
-by_command s n None = refuse s why.bad_command
-by_command s n (Some request) = row s n request
+-- what each command leads to, in a state and on the line of a number
+abbrev pub Table : Type 0
+Table = State → ℕ → Request → Stepped State
+
+abbrev pub by_command : Table → State → ℕ → Option Request → Stepped State
+by_command rows s n None = refuse s why.bad_command
+by_command rows s n (Some request) = rows s n request
 
 -- the value of a line is done as the command that it is
-abbrev pub obeyed : State → ℕ → Tree → Stepped State
-obeyed s n t = by_command s n (command t)
+abbrev pub obeyed : Table → State → ℕ → Tree → Stepped State
+obeyed rows s n t = by_command rows s n (command t)
 
 -- a line that was read, or the first fault of its JSON
-abbrev pub heard : State → ℕ → Outcome → Stepped State
-heard s n not_json = refuse s why.not_json
-heard s n too_deep = refuse s why.too_deep
-heard s n not_whole = refuse s why.not_whole
-heard s n (value t) = obeyed s n t
+abbrev pub heard : Table → State → ℕ → Outcome → Stepped State
+heard rows s n not_json = refuse s why.not_json
+heard rows s n too_deep = refuse s why.too_deep
+heard rows s n not_whole = refuse s why.not_whole
+heard rows s n (value t) = obeyed rows s n t
 
--- what the line with this number leads to: a blank line to nothing
-unfoldable pub step : State → ℕ → List ℕ → Stepped State
-step s n line =
+-- what the line with this number leads to, by the table of the commands: a blank line to nothing
+abbrev pub step_by : Table → State → ℕ → List ℕ → Stepped State
+step_by rows s n line =
     cond (is_blank line) (record { state = s; replies = [] })
-    (heard s n (outcome deepest_line line))
+    (heard rows s n (outcome deepest_line line))
+
+-- the step of the plain machine
+unfoldable pub step : State → ℕ → List ℕ → Stepped State
+step = step_by row
 
 -- the state after the lines, the first of which has the number n
 abbrev pub state_after : State → ℕ → List (List ℕ) → State
 state_after = fold.state_after step
 
--- what the lines have the machine write: the text of their replies
+-- what the lines have the machine write
 abbrev pub written : State → ℕ → List (List ℕ) → List ℕ
-written s n lines = reply_lines (fold.replies step s n lines)
+written = fold.written step

@@ -1,6 +1,6 @@
 //! The laws of the plain machine, for proofs: each function does nothing, and its contract is the
 //! law.
-ghost use Rattle.cs_machine.specs.Laws.{LoadedDatasetsAreHeld, RunsHoldDatasets, RunsKeepAnswersCurrent, LastAnswersAreTold, RunsNameOnce, RunsStayWithinLimits, RefusedLinesChangeNothing, RunsGoOn};
+ghost use Rattle.cs_machine.specs.Laws.{LoadedDatasetsAreHeld, RunsHoldDatasets, RunsKeepAnswersCurrent, LastAnswersAreTold, RunsNameOnce, RunsStayWithinLimits, RefusedLinesChangeNothing, IdsAreUsedOnce, UsedIdsStayUsed, RunsGoOn};
 
 use cs_docs::laws::none_dangles_where_clean;
 use cs_txn::laws::commits_keep_datasets;
@@ -43,6 +43,16 @@ pub fn runs_stay_within_limits()
 /// A line that is refused leaves the state as it is.
 pub fn refused_lines_change_nothing()
     ensures { RefusedLinesChangeNothing }
+{}
+
+/// The id of an accepted transaction was not used before it, and is from then on.
+pub fn ids_are_used_once()
+    ensures { IdsAreUsedOnce }
+{}
+
+/// An id that is used stays so, whatever lines come.
+pub fn used_ids_stay_used()
+    ensures { UsedIdsStayUsed }
 {}
 
 /// Lines after others lead to the state, and have the machine write the bytes, that they do from

@@ -1,114 +1,245 @@
--- What a reply that was written does, and a create from the place that its id has, or would have, among the documents.
-use Rattle.std.proofs.Common.{◌≡◌, ◌∙◌, ap, sym, refl, subst, ℕ, List, [], ◌∷◌, ◌++◌, length, is_some, true, false, ◌==◌, ◌≤◌, Option, None, Some, IfSome, option_and_then, arith}
-use Rattle.std.proofs.lemmas.List.{append-nil}
-use Rattle.cs_value.specs.Tree.{Tree}
-use Rattle.cs_view.specs.Document.{id_of}
+-- The transaction of one create of an object that refers to nothing, as far as it is built.
+use Rattle.std.proofs.Common.{◌≡◌, ◌∙◌, ap, sym, refl, subst, ℕ, List, [], ◌∷◌, length, is_some, Bool, true, false, ◌&&◌, not, cond, ◌==◌, Option, None, Some, Ok, Err, option_and_then, bytes_eq, codes}
+use Rattle.std.proofs.lemmas.Slice.Eq.{bytes_eq-Decides}
+use Rattle.cs_value.specs.Tree.{Tree, null, boolean, integer, text, list, object, no_trees, more_trees, Pairs, no_pairs, more_pairs}
+use Rattle.cs_value.specs.Pairs.{attribute}
+use Rattle.cs_value.specs.Words.{as_text}
+use Rattle.cs_view.specs.Document.{is_body, is_shallow, id_of, passes, has_type}
+use Rattle.cs_value.specs.Id.{is_id}
+use Rattle.cs_view.specs.Changes.{changes_between}
 use Rattle.cs_view.specs.Dataset.{stands, with_doc}
+use Rattle.cs_view.proofs.Booleans.{and-left, and-right}
 use Rattle.cs_docs.specs.Limits.{most_documents}
 use Rattle.cs_docs.specs.Places.{HasId, IsGapFor}
-use Rattle.cs_reply.specs.Reply.{Reply, reply_tree, written_line, reply_lines, numbered, committed, create}
-use Rattle.cs_reply.specs.Refusal.{Refusal, not_built, tx_used, exists, deep_query, syntax, bad_token as bad_token_at}
-use Rattle.cs_reply.specs.View.{Appended}
-use Rattle.cs_run.specs.Does.{Does, creating}
-use Rattle.cs_run.specs.Fold.{Stepped}
-use Rattle.cs_run.specs.Install.{stamped, tx_of_line}
-use Rattle.cs_run.specs.Refused.{refuse, of_fault, why_none, by_reading, with_query}
-use Rattle.cs_run.specs.State.{State, with_docs, with_used}
-use Rattle.cs_syntax.specs.Expression.{Expression}
-use Rattle.cs_json.specs.Reading.{outcome}
-use Rattle.cs_parse.specs.Verdict.{Reading, query, bad_token, too_deep, no_syntax, faulty, verdict}
-use Rattle.cs_wire.specs.Commands.{Request}
-use Rattle.cs_wire.specs.Commands as request
-use Rattle.cs_wire.specs.Within.{IsWithin}
-use Rattle.cs_run.specs.Command.{is_blank, deepest_line}
-use Rattle.cs_run.specs.Machine.{heard, step}
+use Rattle.cs_docs.specs.Verdict.{fits, verdict}
+use Rattle.cs_reply.specs.Reply.{committed, create as created}
+use Rattle.cs_reply.specs.Refusal.{not_built, tx_used, exists}
+use Rattle.cs_txn.specs.Body.{body_of, transaction, tx_of_line}
+use Rattle.cs_txn.specs.Commit.{commit}
+use Rattle.cs_txn.specs.Install.{entered}
+use Rattle.cs_txn.specs.Transaction.{exists as exists_already}
+use Rattle.cs_machine.specs.Refused.{refuse}
+use Rattle.cs_machine.specs.Replies.{said}
+use Rattle.cs_machine.specs.Rows.{by_body}
+use Rattle.cs_machine.specs.State.{State, first_moment, with_docs, with_used}
+use Rattle.cs_wire.specs.Commands.{mutate}
+use Rattle.cs_run.specs.Built.{can_create, built_row}
+use Rattle.cs_run.specs.Command.{names_ref, is_creatable, sole_attribute, sole_pair, sole_member, created_by}
+use Rattle.cs_run.specs.Core.{seen}
+use Rattle.cs_run.specs.Does.{AreAlike, one_create, creating}
 use Rattle.cs_run.proofs.Placing.{gap_absent}
+use Rattle.cs_run.proofs.Replying.{alike}
 
-one_line : (n : ℕ) (r : Reply) → reply_lines (numbered n (r ∷ [])) ≡ written_line (reply_tree n r)
-one_line n r = append-nil (written_line (reply_tree n r))
+-- ---- what is created
+-- a body has an attribute `_id`
+some_text : (t : Option Tree) → passes is_id (option_and_then as_text t) ≡ true → is_some t ≡ true
+some_text None h = cc
+some_text (Some t) h = refl
 
--- a reply alone was written
-pub says : (before after : List ℕ) (s t : State) (n : ℕ) (r : Reply) → s ≡ t → Appended before after (reply_tree n r) → Does before after s n (record { state = t; replies = r ∷ [] })
-says before after s t n r e h = record { written = h ∙ ap (λ v. before ++ v) (sym (one_line n r)); state_is = e }
+has_id : (t : Tree) → is_body t ≡ true → is_some (attribute (codes "_id") t) ≡ true
+has_id null h = cc
+has_id (boolean b) h = cc
+has_id (integer n) h = cc
+has_id (text s) h = cc
+has_id (list ts) h = cc
+has_id (object ps) h =
+    some_text (attribute (codes "_id") (object ps)) (and-left _ (has_type (object ps)) h)
 
--- the same step by another word
-pub does_as : (before after : List ℕ) (s : State) (n : ℕ) (one other : Stepped State) → other ≡ one → Does before after s n one → Does before after s n other
-does_as before after s n one other e h = subst (λ o. Does before after s n o) (sym e) h
+pub record Creatable (t : Tree) : Type 0 where
+  pub body : is_body t ≡ true
+  pub shallow : is_shallow t ≡ true
+  pub free : names_ref t ≡ false
 
-stands_there : (id : List ℕ) (docs : List Tree) (place : ℕ) → HasId id docs place → stands id docs ≡ true
+not_true : (b : Bool) → not b ≡ true → b ≡ false
+not_true true h = cc
+not_true false h = refl
+
+pub creatable : (t : Tree) → is_creatable t ≡ true → Creatable t
+creatable t h = record {
+  body = and-left (is_body t) _ (and-left (is_body t && is_shallow t) _ h);
+  shallow = and-right (is_body t) _ (and-left (is_body t && is_shallow t) _ h);
+  free = not_true (names_ref t) (and-right (is_body t && is_shallow t) _ h);
+}
+
+-- ---- its transaction
+-- a document of its id stands already
+fails : (n : ℕ) (moment : List ℕ) (docs : List Tree) (t : Tree)
+    → Creatable t
+    → stands (id_of t) docs ≡ true
+    → commit (one_create n t) moment docs
+    ≡ Err (record { mutation = Some 0; cause = exists_already (id_of t) })
+fails n moment docs t c there = rw (has_id t c.body, c.body, c.shallow, there) refl
+
+-- none does, and the dataset after it can be held
+holds : (n : ℕ) (moment : List ℕ) (docs : List Tree) (t : Tree)
+    → Creatable t
+    → stands (id_of t) docs ≡ false
+    → verdict (with_doc (entered (tx_of_line n) moment t) docs) ≡ fits
+    → commit (one_create n t) moment docs ≡ Ok (with_doc (entered (tx_of_line n) moment t) docs)
+holds n moment docs t c free fit = rw (has_id t c.body, c.body, c.shallow, free, fit) refl
+
+-- ---- its row
+stands_there : (id : List ℕ) (docs : List Tree) (place : ℕ)
+    → HasId id docs place
+    → stands id docs ≡ true
 stands_there id docs place h = ap is_some h.1
 
-stands_not : (id : List ℕ) (docs : List Tree) (place : ℕ) → IsGapFor id docs place → stands id docs ≡ false
+stands_not : (id : List ℕ) (docs : List Tree) (place : ℕ)
+    → IsGapFor id docs place
+    → stands id docs ≡ false
 stands_not id docs place h = ap is_some (gap_absent id docs place h)
 
--- a document of the id stands already
-module _ (s : State) (n : ℕ) (t : Tree) (id tx : List ℕ) (place : ℕ) (is_tx : tx ≡ tx_of_line n) (e : id ≡ id_of t) (h : HasId id s.docs place) where
-  pub taken_used : s.is_used tx ≡ true → creating s n t ≡ refuse s (tx_used tx)
-  taken_used used =
-      let there : stands (id_of t) s.docs ≡ true = subst (λ i. stands i s.docs ≡ true) e (stands_there id s.docs place h) in
-      let is_used : s.is_used (tx_of_line n) ≡ true = subst (λ x. s.is_used x ≡ true) is_tx used in
-      rw (there, is_used, is_tx) refl
+module _ (ds : List Tree) (is_used : List ℕ → Bool) (n : ℕ) (t : Tree) (id tx : List ℕ) (place : ℕ)
+    (c : Creatable t) (is_tx : tx ≡ tx_of_line n) (e : id ≡ id_of t) where
+  abbrev s : State
+  s = seen ds is_used
 
-  pub taken_exists : s.is_used tx ≡ false → creating s n t ≡ refuse s (exists 0 id)
-  taken_exists used =
-      let there : stands (id_of t) s.docs ≡ true = subst (λ i. stands i s.docs ≡ true) e (stands_there id s.docs place h) in
-      let is_used : s.is_used (tx_of_line n) ≡ false = subst (λ x. s.is_used x ≡ false) is_tx used in
-      rw (there, is_used, e) refl
+  -- a document of the id stands already
+  there : HasId id ds place → stands (id_of t) ds ≡ true
+  there h = subst (λ i. stands i ds ≡ true) e (stands_there id ds place h)
 
--- none does, and it would stand at the place
-module _ (s : State) (n : ℕ) (t : Tree) (id tx : List ℕ) (place : ℕ) (is_tx : tx ≡ tx_of_line n) (e : id ≡ id_of t) (h : IsGapFor id s.docs place) where
-  pub free_full : (length s.docs == most_documents) ≡ true → creating s n t ≡ refuse s not_built
-  free_full full =
-      let free : stands (id_of t) s.docs ≡ false = subst (λ i. stands i s.docs ≡ false) e (stands_not id s.docs place h) in
-      rw (free, full) refl
+  pub taken_used : HasId id ds place
+      → is_used tx ≡ true
+      → AreAlike n (creating s n t) (refuse s (tx_used tx))
+  taken_used h used =
+      let is : is_used (tx_of_line n) ≡ true = subst (λ x. is_used x ≡ true) is_tx used in
+      alike n (creating s n t) (refuse s (tx_used tx)) (rw (there h, is, is_tx) refl)
 
-  pub free_used : (length s.docs == most_documents) ≡ false → s.is_used tx ≡ true → creating s n t ≡ refuse s (tx_used tx)
-  free_used room used =
-      let free : stands (id_of t) s.docs ≡ false = subst (λ i. stands i s.docs ≡ false) e (stands_not id s.docs place h) in
-      let is_used : s.is_used (tx_of_line n) ≡ true = subst (λ x. s.is_used x ≡ true) is_tx used in
-      rw (free, room, is_used, is_tx) refl
+  pub taken_exists : HasId id ds place
+      → is_used tx ≡ false
+      → AreAlike n (creating s n t) (refuse s (exists 0 id))
+  taken_exists h used =
+      let is : is_used (tx_of_line n) ≡ false = subst (λ x. is_used x ≡ false) is_tx used in
+      rw (there h, is, fails n first_moment ds t c (there h), e)
+      (record { same_state = refl; same_text = refl })
 
-  -- in a state without live queries and listeners it is installed, and nothing else is said
-  pub free_installed : s.lives ≡ [] → s.listeners ≡ [] → (length s.docs == most_documents) ≡ false → s.is_used tx ≡ false
-      → creating s n t ≡ record { state = with_used tx (with_docs (with_doc (stamped tx s.moment t) s.docs) s); replies = committed tx ((id, create) ∷ []) ∷ [] }
-  free_installed no_lives no_listeners room used =
-      let free : stands (id_of t) s.docs ≡ false = subst (λ i. stands i s.docs ≡ false) e (stands_not id s.docs place h) in
-      let is_used : s.is_used (tx_of_line n) ≡ false = subst (λ x. s.is_used x ≡ false) is_tx used in
-      rw (free, room, is_used, is_tx, e, no_lives, no_listeners) refl
+  -- none does, and it would stand at the place
+  free : IsGapFor id ds place → stands (id_of t) ds ≡ false
+  free h = subst (λ i. stands i ds ≡ false) e (stands_not id ds place h)
 
--- nothing is said, and nothing changes
-pub silent : (before : List ℕ) (s : State) (n : ℕ) → Does before before s n (record { state = s; replies = [] })
-silent before s n = record { written = sym (append-nil before); state_is = refl }
+  pub free_full : IsGapFor id ds place
+      → (length ds == most_documents) ≡ true
+      → AreAlike n (creating s n t) (refuse s not_built)
+  free_full h full = alike n (creating s n t) (refuse s not_built) (rw (free h, full) refl)
 
-pub step_blank : (s : State) (n : ℕ) (line : List ℕ) → is_blank line ≡ true → step s n line ≡ record { state = s; replies = [] }
-unfolding step
-step_blank s n line b = rw b refl
+  pub free_used : IsGapFor id ds place
+      → (length ds == most_documents) ≡ false
+      → is_used tx ≡ true
+      → AreAlike n (creating s n t) (refuse s (tx_used tx))
+  free_used h room used =
+      let is : is_used (tx_of_line n) ≡ true = subst (λ x. is_used x ≡ true) is_tx used in
+      alike n (creating s n t) (refuse s (tx_used tx)) (rw (free h, room, is, is_tx) refl)
 
-pub step_heard : (s : State) (n : ℕ) (line : List ℕ) → is_blank line ≡ false → step s n line ≡ heard s n (outcome deepest_line line)
-unfolding step
-step_heard s n line b = rw b refl
+  pub free_installed : IsGapFor id ds place
+      → (length ds == most_documents) ≡ false
+      → is_used tx ≡ false
+      → verdict (with_doc (entered (tx_of_line n) first_moment t) ds) ≡ fits
+      → changes_between ds (with_doc (entered (tx_of_line n) first_moment t) ds)
+      ≡ (id, (None, Some (entered (tx_of_line n) first_moment t))) ∷ []
+      → creating s n t
+      ≡ record {
+        state = with_used tx (with_docs (with_doc (entered tx first_moment t) ds) s);
+        replies = said (committed tx ((id, created) ∷ [])) ∷ [];
+      }
+  free_installed h room used fit one =
+      let is : is_used (tx_of_line n) ≡ false = subst (λ x. is_used x ≡ false) is_tx used in
+      rw (free h, room, is, holds n first_moment ds t c (free h) fit, one, is_tx) refl
 
-by_why : (s : State) (next : Expression → Stepped State) (r : Reading) (w : Refusal) → Some w ≡ why_none r → by_reading s r next ≡ refuse s w
-by_why s next (query e) w h = cc
-by_why s next (bad_token at) w h = let same : w ≡ bad_token_at at = cc in rw same refl
-by_why s next too_deep w h = let same : w ≡ deep_query = cc in rw same refl
-by_why s next no_syntax w h = let same : w ≡ syntax = cc in rw same refl
-by_why s next (faulty f) w h = let same : w ≡ of_fault f = cc in rw same refl
+-- ---- a body of one create
+sole_pair_is : (name : List ℕ) (ps : Pairs) (t : Tree)
+    → sole_pair name ps ≡ Some t
+    → ps ≡ more_pairs name t no_pairs
+sole_pair_is name no_pairs t h = cc
+sole_pair_is name (more_pairs k u no_pairs) t h =
+    elim (bytes_eq name k) as (λ b. bytes_eq name k ≡ b → cond b (Some u) None ≡ Some t
+    → more_pairs k u no_pairs ≡ more_pairs name t no_pairs) [
+      | true ↦ λ same is.
+          let one : name ≡ k = (bytes_eq-Decides name k).0 same in
+          let value : u ≡ t = cc in
+          rw (one, value) refl
+      | false ↦ λ other is. cc
+    ] refl h
+sole_pair_is name (more_pairs k u (more_pairs l v ps)) t h = cc
 
--- a text is no query, for what is told of its reading
-pub refused_text : (s : State) (text : List ℕ) (next : Expression → Stepped State) (told : Option Reading) (w : Refusal) → IfSome told (λ r. verdict text ≡ r) → Some w ≡ option_and_then why_none told → with_query s text next ≡ refuse s w
-refused_text s text next None w h e = cc
-refused_text s text next (Some r) w h e = ap (λ v. by_reading s v next) h ∙ by_why s next r w e
+sole_attribute_is : (name : List ℕ) (u t : Tree)
+    → sole_attribute name u ≡ Some t
+    → u ≡ object (more_pairs name t no_pairs)
+sole_attribute_is name null t h = cc
+sole_attribute_is name (boolean b) t h = cc
+sole_attribute_is name (integer n) t h = cc
+sole_attribute_is name (text s) t h = cc
+sole_attribute_is name (list ts) t h = cc
+sole_attribute_is name (object ps) t h = ap object (sole_pair_is name ps t h)
 
--- it is one
-pub read_text : (s : State) (text : List ℕ) (next : Expression → Stepped State) (e : Expression) → verdict text ≡ query e → with_query s text next ≡ next e
-read_text s text next e h = ap (λ v. by_reading s v next) h
+sole_member_is : (u t : Tree) → sole_member u ≡ Some t → u ≡ list (more_trees t no_trees)
+sole_member_is null t h = cc
+sole_member_is (boolean b) t h = cc
+sole_member_is (integer n) t h = cc
+sole_member_is (text s) t h = cc
+sole_member_is (list no_trees) t h = cc
+sole_member_is (list (more_trees u no_trees)) t h = let same : u ≡ t = cc in rw same refl
+sole_member_is (list (more_trees u (more_trees v ts))) t h = cc
+sole_member_is (object ps) t h = cc
 
--- a bound on a request's texts, from a lower one
-pub within_more : (m n : ℕ) (r : Request) → m ≤ n → IsWithin m r → IsWithin n r
-within_more m n (request.mutate body) le h = omega (arith, le, h)
-within_more m n (request.query text params) le h = (omega (arith, le, h.0), omega (arith, le, h.1))
-within_more m n (request.live name text params) le h = (omega (arith, le, h.0), omega (arith, le, h.1), omega (arith, le, h.2))
-within_more m n (request.listen name text params result previous) le h = (omega (arith, le, h.0), omega (arith, le, h.1), omega (arith, le, h.2))
-within_more m n (request.stop name) le h = omega (arith, le, h)
-within_more m n (request.at moment) le h = omega (arith, le, h)
+abbrev creates : Tree → Tree
+creates t =
+    object
+    (more_pairs (codes "mutations")
+    (list (more_trees (object (more_pairs (codes "create") t no_pairs)) no_trees)) no_pairs)
+
+creatable_is : (u t : Tree) → cond (is_creatable u) (Some u) None ≡ Some t → u ≡ t
+creatable_is u t h =
+    elim (is_creatable u) as (λ b. cond b (Some u) None ≡ Some t → u ≡ t) [
+      | true ↦ λ is. cc
+      | false ↦ λ is. cc
+    ] h
+
+by_create : (a : Option Tree) (t : Tree)
+    → option_and_then (λ u. cond (is_creatable u) (Some u) None) a ≡ Some t
+    → a ≡ Some t
+by_create None t h = cc
+by_create (Some u) t h = ap Some (creatable_is u t h)
+
+by_member : (a : Option Tree) (t : Tree)
+    → option_and_then (λ m. option_and_then (λ u. cond (is_creatable u) (Some u) None)
+    (sole_attribute (codes "create") m)) a
+    ≡ Some t
+    → a ≡ Some (object (more_pairs (codes "create") t no_pairs))
+by_member None t h = cc
+by_member (Some m) t h =
+    ap Some
+    (sole_attribute_is (codes "create") m t (by_create (sole_attribute (codes "create") m) t h))
+
+by_mutations : (a : Option Tree) (t : Tree)
+    → option_and_then (λ ms. option_and_then (λ m. option_and_then
+    (λ u. cond (is_creatable u) (Some u) None) (sole_attribute (codes "create") m))
+    (sole_member ms)) a
+    ≡ Some t
+    → a ≡ Some (list (more_trees (object (more_pairs (codes "create") t no_pairs)) no_trees))
+by_mutations None t h = cc
+by_mutations (Some ms) t h =
+    ap Some (sole_member_is ms _ (by_member (sole_member ms) t h))
+
+body_is : (body t : Tree) → created_by body ≡ Some t → body ≡ creates t
+body_is body t h =
+    sole_attribute_is (codes "mutations") body _
+    (by_mutations (sole_attribute (codes "mutations") body) t h)
+
+read_as : (n : ℕ) (t : Tree) → body_of (creates t) n ≡ transaction (one_create n t)
+read_as n t = refl
+
+-- the row of a body of one create
+pub row_of_create : (s1 : State) (n : ℕ) (body t : Tree)
+    → Some t ≡ created_by body
+    → built_row s1 n (mutate body) ≡ creating s1 n t
+row_of_create s1 n body t h =
+    ap (λ o. cond (can_create s1 o) (by_body s1 (body_of body n)) (refuse s1 not_built)) (sym h)
+    ∙ ap (λ b. cond (can_create s1 (Some t)) (by_body s1 b) (refuse s1 not_built))
+    (ap (λ u. body_of u n) (body_is body t (sym h)) ∙ read_as n t)
+
+-- the row of any other
+pub row_of_none : (s1 : State) (n : ℕ) (body : Tree)
+    → None ≡ created_by body
+    → built_row s1 n (mutate body) ≡ refuse s1 not_built
+row_of_none s1 n body h =
+    ap (λ o. cond (can_create s1 o) (by_body s1 (body_of body n)) (refuse s1 not_built)) (sym h)

@@ -2,11 +2,11 @@
 use Rattle.std.proofs.Common.{◌≡◌, ◌∙◌, ap, sym, refl, ℕ, zero, suc, List, [], ◌∷◌, ◌++◌, take, drop, length, ◌+◌, ◌≤◌, append_assoc, arith}
 use Rattle.std.proofs.lemmas.List.{append-nil}
 use Rattle.std.proofs.lemmas.Grind.{flat_map-append}
-use Rattle.cs_reply.specs.Reply.{reply_line, reply_lines, numbered}
-use Rattle.cs_run.specs.Fold.{Step, replies}
-use Rattle.cs_run.specs.Fold as fold
-use Rattle.cs_run.specs.Machine.{step, step_writes, step_state, state_after, written}
-use Rattle.cs_run.specs.State.{State}
+use Rattle.cs_machine.specs.Replies.{reply_line, reply_lines, numbered}
+use Rattle.cs_machine.specs.Fold.{Step, replies}
+use Rattle.cs_machine.specs.Fold as fold
+use Rattle.cs_run.specs.Built.{step, step_writes, step_state, state_after, written}
+use Rattle.cs_machine.specs.State.{State}
 
 -- the list after k elements begins with x
 pub record Next {X : Type 0} (k : ℕ) (all : List X) (x : X) (rest : List X) : Type 0 where

@@ -7,9 +7,10 @@ use Rattle.std.specs.Io.KnownBytes.{Appends}
 use Rattle.cs_io.specs.Bytes.{AppendsPartOf}
 use Rattle.cs_io.specs.Names.{Files, told_bytes, is_open, number_is}
 use Rattle.cs_io.specs.declared.library.Asked.{Asked}
-use Rattle.cs_run.specs.Expected.{begins, script_writes, first_replies, Causes}
+use Rattle.cs_machine.specs.Expected.{begins}
+use Rattle.cs_run.specs.Expected.{script_writes, first_replies, status_of, Causes}
 use Rattle.cs_run.specs.Headline.{ToldRun, RunWrites, IsComplete, start, script, script_number, added}
-use Rattle.cs_run.specs.State.{State, begun}
+use Rattle.cs_machine.specs.State.{State, begun}
 use Rattle.cs_run.specs.Script.{ScriptWrites, ToldWrites, ToldStarts, AsksNamed}
 use Rattle.cs_docs.specs.Store.{docs}
 use Rattle.cs_run.specs.Words.{takes_words, data_of, script_of, names_of}
@@ -52,8 +53,8 @@ part_from old new p more all h e = part_of old new new p [] more all h (part_nil
 
 script_run : (st : Status) (words : List (List ℕ)) (old new : Option (List ℕ)) (files : Files) (asked : List Asked) (left : ℕ → Option (List ℕ)) (number : ℕ) (s : State) (rest : List ℕ) → takes_words words ≡ true → script_number (names_of words) asked ≡ Some number → start words files ≡ begins s
     → left number ≡ Some rest → ScriptWrites s st old new (script words files) rest → RunWrites st words old new files asked left
-script_run Done words old new files asked left number s rest w n b l h = (rw (w, b) h.0, rw (w, b) h.1, rw n (l ∙ ap Some h.2))
-script_run Input words old new files asked left number s rest w n b l h = (rw (w, b) h.0, rw (w, b) h.1)
+script_run Done words old new files asked left number s rest w n b l h = (rw (w, b) (ap status_of h.0), rw (w, b) h.1, rw n (l ∙ ap Some h.2))
+script_run Input words old new files asked left number s rest w n b l h = (rw (w, b) (ap status_of h.0), rw (w, b) h.1)
 script_run ReadFault words old new files asked left number s rest w n b l h = rw (n, b, l) h
 script_run WriteFault words old new files asked left number s rest w n b l h = rw (w, b) h
 script_run NoMemory words old new files asked left number s rest w n b l h =

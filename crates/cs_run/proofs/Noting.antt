@@ -8,7 +8,7 @@ use Rattle.std.specs.Cmp.Lexicographic.{slice_cmp}
 use Rattle.std.specs.List.{list_any}
 use Rattle.std.specs.Prelude.{OnErr, Result, Ok, Err}
 use Rattle.std.specs.Str.{bytes_eq}
-use Rattle.cs_run.specs.State.{and_used}
+use Rattle.cs_machine.specs.State.{and_used}
 
 -- an id more
 pub noted : (old new : List ℕ → Bool) (tx : List ℕ) → ((id : List ℕ) → new id ≡ cond (bytes_eq tx id) true (old id)) → new ≡ and_used tx old

@@ -11,9 +11,10 @@ use Rattle.cs_io.specs.declared.lines.LineFault.{LineFault}
 use Rattle.cs_io.specs.declared.lines.LineFault.TheVariants.{Read, TooLong, TooMuch}
 use Rattle.cs_io.specs.Laws.{given_lines}
 use Rattle.std.specs.Io.KnownBytes.{Keeps}
-use Rattle.cs_run.specs.Machine.{written, state_after, step_state, step_writes}
-use Rattle.cs_run.specs.State.{State}
-use Rattle.cs_run.specs.Expected.{feed_status, last_line, script_writes, script_ends, first_replies}
+use Rattle.cs_run.specs.Built.{written, state_after, step_state, step_writes}
+use Rattle.cs_machine.specs.State.{State}
+use Rattle.cs_machine.specs.Expected.{bad_input, feed_ends, last_line, script_ends}
+use Rattle.cs_run.specs.Expected.{script_writes, first_replies}
 use Rattle.cs_run.specs.Script.{ScriptWrites, ToldWrites, LineStops, Stated}
 use Rattle.cs_run.specs.declared.status.Status.{Status}
 use Rattle.cs_run.specs.declared.status.Status.TheVariants as status
@@ -32,7 +33,7 @@ pub record Played (s0 : State) (script : List ℕ) (old now : Option (List ℕ))
   pub rest_is : rest_at r left ≡ Some rest
   pub lines : drop r.given (given_lines (feed_of script)) ≡ given_lines (feed (r.given + 1) r.taken [] rest)
   pub within : r.given ≤ length (given_lines (feed_of script))
-  pub ends : script_ends script ≡ feed_status (feed (r.given + 1) r.taken [] rest)
+  pub ends : script_ends script ≡ feed_ends (feed (r.given + 1) r.taken [] rest)
   pub last : last_line (feed_of script) ≡ last_line (feed (r.given + 1) r.taken [] rest)
   pub state_is : state ≡ state_after s0 1 (take r.given (given_lines (feed_of script)))
   pub wrote : Appends old now (first_replies s0 r.given script)
@@ -146,7 +147,7 @@ front_is all w rest e =
     rw e (take_at w rest (length (w ++ rest) - length rest) (rw e at size))
 
 -- a stated line behind the replies so far
-input_writes : (s0 : State) (st : Status) (line script : List ℕ) (old now now' : Option (List ℕ)) (k : ℕ) (x : List ℕ) → k ≤ length (given_lines (feed_of script)) → Appends old now (first_replies s0 k script) → script_writes s0 script ≡ first_replies s0 k script ++ line → script_ends script ≡ status.Input → Stated st status.Input line now now' → ScriptWrites s0 st old now' script x
+input_writes : (s0 : State) (st : Status) (line script : List ℕ) (old now now' : Option (List ℕ)) (k : ℕ) (x : List ℕ) → k ≤ length (given_lines (feed_of script)) → Appends old now (first_replies s0 k script) → script_writes s0 script ≡ first_replies s0 k script ++ line → script_ends script ≡ bad_input → Stated st status.Input line now now' → ScriptWrites s0 st old now' script x
 input_writes s0 status.WriteFault line script old now now' k x within a due ends h = part_of old now now' (first_replies s0 k script) line [] (script_writes s0 script) a h.part (due ∙ sym (append-nil (first_replies s0 k script ++ line)))
 input_writes s0 status.Input line script old now now' k x within a due ends h = let w = h.whole (λ e. cc) (λ e. cc) in (ends, subst (λ v. Appends old now' v) (sym due) (appends_both old now now' (first_replies s0 k script) line a w.1))
 input_writes s0 status.NoMemory line script old now now' k x within a due ends h = (k, within, subst (λ v. Appends old now' v) (append-nil (first_replies s0 k script)) (appends_both old now now' (first_replies s0 k script) [] a (h.none refl)))
@@ -176,13 +177,13 @@ module _ {s0 : State} {script : List ℕ} {old now : Option (List ℕ)} {state :
       record { rest = x.0; rest_is = x.1; writes = (r.given, p.within, p.wrote) }
 
   -- what is written behind all replies
-  stop_input : (f : Feed) (st : Status) (line : List ℕ) (now' : Option (List ℕ)) → feed (r.given + 1) r.taken [] p.rest ≡ f → given_lines f ≡ [] → last_line f ≡ line → feed_status f ≡ status.Input → Stated st status.Input line now now' → Ends s0 st script old now' left'
+  stop_input : (f : Feed) (st : Status) (line : List ℕ) (now' : Option (List ℕ)) → feed (r.given + 1) r.taken [] p.rest ≡ f → given_lines f ≡ [] → last_line f ≡ line → feed_ends f ≡ bad_input → Stated st status.Input line now now' → Ends s0 st script old now' left'
   stop_input f st line now' is none last ends stated =
       let z = given_told r r' left left' p.rest p.rest_is res a.gives in
       let x = left_from_rest r' left' z.0 z.1 in
       let all = all_given r.given (given_lines (feed_of script)) (p.lines ∙ ap given_lines is ∙ none) in
       let due : script_writes s0 script ≡ first_replies s0 r.given script ++ line = ap (λ v. written s0 1 (given_lines (feed_of script)) ++ v) (p.last ∙ ap last_line is ∙ last) ∙ ap (λ v. written s0 1 v ++ line) (sym all) in
-      record { rest = x.0; rest_is = x.1; writes = input_writes s0 st line script old now now' r.given x.0 p.within p.wrote due (p.ends ∙ ap feed_status is ∙ ends) stated }
+      record { rest = x.0; rest_is = x.1; writes = input_writes s0 st line script old now now' r.given x.0 p.within p.wrote due (p.ends ∙ ap feed_ends is ∙ ends) stated }
 
 -- where a line, or the script, is too long
 pub stop_long : {s0 : State} {script : List ℕ} {old now now' : Option (List ℕ)} {state : State} {r r' : Reader} {left left' : Option (List ℕ)} {n : ℕ} {st : Status} → Played s0 script old now state r left → Answer (Err (TooLong n)) r r' left left' → Stated st status.Input (stated_line (long_line script_source n)) now now' → Ends s0 st script old now' left'
@@ -203,7 +204,7 @@ stop_done {s0} {script} {old} {now} {state} {r} {r'} {left} {left'} p a =
     let all = all_given r.given (given_lines (feed_of script)) (p.lines ∙ ap given_lines end) in
     let due : script_writes s0 script ≡ first_replies s0 r.given script = ap (λ v. written s0 1 (given_lines (feed_of script)) ++ v) (p.last ∙ ap last_line end) ∙ append-nil (written s0 1 (given_lines (feed_of script))) ∙ ap (λ v. written s0 1 v) (sym all) in
     let empty : r'.ahead ++ x.0 ≡ [] = x.2 ∙ none in
-    record { rest = x.0; rest_is = x.1; writes = (p.ends ∙ ap feed_status end, subst (λ v. Appends old now v) (sym due) p.wrote, no_back r'.ahead x.0 empty) }
+    record { rest = x.0; rest_is = x.1; writes = (p.ends ∙ ap feed_ends end, subst (λ v. Appends old now v) (sym due) p.wrote, no_back r'.ahead x.0 empty) }
 
 -- where a read failed
 pub stop_read : {s0 : State} {script : List ℕ} {old now : Option (List ℕ)} {state : State} {r r' : Reader} {left left' : Option (List ℕ)} → Played s0 script old now state r left → Answer (Err Read) r r' left left' → r.ended ≡ false → r'.ahead ≡ [] → Ends s0 status.ReadFault script old now left'
@@ -235,7 +236,7 @@ module _ {s0 : State} {script : List ℕ} {old now : Option (List ℕ)} {state :
         rest_is = z.1;
         lines = ap (λ k. drop k (given_lines (feed_of script))) given ∙ nx.left;
         within = omega (arith, nx.within, given);
-        ends = p.ends ∙ ap feed_status z.2;
+        ends = p.ends ∙ ap feed_ends z.2;
         last = p.last ∙ ap last_line z.2;
         state_is = st ∙ ap (λ s. step_state s l.number l.bytes.items) p.state_is ∙ ap (λ m. step_state (state_after s0 1 (take r.given (given_lines (feed_of script)))) m l.bytes.items) (sym at) ∙ sym (state_push s0 1 (take r.given (given_lines (feed_of script))) l.bytes.items) ∙ ap (λ v. state_after s0 1 v) (sym taken);
         wrote = subst (λ v. Appends old now' v) (sym (ap (λ k. first_replies s0 k script) given ∙ more_replies s0 r.given state l.number script l.bytes.items rest_lines drops p.state_is number)) (appends_both old now now' (first_replies s0 r.given script) (step_writes state l.number l.bytes.items) p.wrote wrote);

@@ -5,9 +5,9 @@ use Rattle.cs_value.specs.Tree.{Tree}
 use Rattle.cs_json.specs.Reading.{value, outcome}
 use Rattle.cs_view.specs.Document.{is_body, id_of, deepest_document}
 use Rattle.cs_view.specs.Dataset.{stands}
-use Rattle.cs_run.specs.Command.{is_blank}
+use Rattle.cs_machine.specs.Machine.{is_blank}
 use Rattle.cs_reply.specs.Stated.{repeated, full}
-use Rattle.cs_run.specs.DataFile.{nothing, a_document, refused, imported, of_body, of_outcome, said}
+use Rattle.cs_machine.specs.DataFile.{nothing, a_document, refused, imported, of_body, of_outcome, said}
 use Rattle.cs_docs.specs.Limits.{most_documents}
 
 -- the id that a body gives

@@ -1,50 +1,35 @@
--- What a run writes, from its words and the files: this project's profile.
-use Rattle.std.specs.Prelude.{◌≡◌, ◌⊎◌, ℕ, ◌-◌, cond, ◌==◌, List, [], ◌∷◌, map, length, take, drop, Option, None, Some, ⊤, MatchOption, codes}
+-- What a run writes so far, from its words and the files: this project's profile.
+use Rattle.std.specs.Prelude.{◌≡◌, ◌⊎◌, ℕ, ◌-◌, cond, ◌==◌, List, [], ◌∷◌, map, length, take, drop, Option, None, Some, ⊤, MatchOption}
 use Rattle.std.specs.Io.KnownBytes.{Appends}
 use Rattle.cs_io.specs.Bytes.{AppendsPartOf}
 use Rattle.cs_io.specs.Causes.{Rose}
 use Rattle.cs_io.specs.Lines.{whole_lines}
 use Rattle.cs_io.specs.Names.{Files, file_bytes}
 use Rattle.cs_io.specs.declared.library.Asked.{Asked}
-use Rattle.cs_run.specs.DataFile.{loaded}
-use Rattle.cs_reply.specs.Stated.{stated_line}
-use Rattle.cs_run.specs.Expected.{script_writes, script_ends, Start, begins, stops, start_of, stop_status, WroteReplies}
-use Rattle.cs_run.specs.Machine.{written}
-use Rattle.cs_run.specs.State.{begun}
+use Rattle.cs_machine.specs.Expected.{Task, no_task, play, expected_by, expected_end, usage_line, Start, begins, stops, start_with}
+use Rattle.cs_run.specs.Built.{step, written}
+use Rattle.cs_run.specs.Expected.{status_of, WroteReplies}
 use Rattle.cs_run.specs.Words.{takes_words, data_of, script_of, names_of}
 use Rattle.cs_run.specs.declared.status.Status.{Status}
 use Rattle.cs_run.specs.declared.status.Status.TheVariants.{Done, ReadFault, Usage, Data, Input, WriteFault, NoMemory, OpenFault}
 
--- what is written where the words are refused
-abbrev pub usage_line : List ℕ
-usage_line = codes "{\"error\":\"usage\"}\n"
+-- what the words ask for
+abbrev pub task_of : List (List ℕ) → Task
+task_of words = cond (takes_words words) (play (data_of words) (script_of words)) no_task
 
--- where a run begins: with the dataset of the data file, where one is named
-abbrev pub start_with : Option (List ℕ) → Files → Start
-start_with None files = begins (begun [])
-start_with (Some name) files = start_of (loaded (file_bytes files name))
+-- what the run of the machine is to write, as far as it is built, and its status
+abbrev pub expected : List (List ℕ) → Files → List ℕ
+expected words files = expected_by step (task_of words) files
 
+abbrev pub expected_status : List (List ℕ) → Files → Status
+expected_status words files = status_of (expected_end (task_of words) files)
+
+-- where a run begins whose words are taken, and the script that it plays
 abbrev pub start : List (List ℕ) → Files → Start
 start words files = start_with (data_of words) files
 
 abbrev pub script : List (List ℕ) → Files → List ℕ
 script words files = file_bytes files (script_of words)
-
-abbrev pub start_writes : Start → List ℕ → List ℕ
-start_writes (begins s) bytes = script_writes s bytes
-start_writes (stops stop) bytes = stated_line stop
-
-abbrev pub start_ends : Start → List ℕ → Status
-start_ends (begins s) bytes = script_ends bytes
-start_ends (stops stop) bytes = stop_status stop
-
-abbrev pub expected : List (List ℕ) → Files → List ℕ
-expected words files =
-    cond (takes_words words) (start_writes (start words files) (script words files)) usage_line
-
-abbrev pub expected_status : List (List ℕ) → Files → Status
-expected_status words files =
-    cond (takes_words words) (start_ends (start words files) (script words files)) Usage
 
 -- what a list got
 abbrev pub added : {X : Type 0} → List X → List X → List X

@@ -10,11 +10,12 @@ use Rattle.cs_io.specs.declared.library.Asked.{Asked}
 use Rattle.cs_docs.specs.Store.{docs}
 use Rattle.cs_docs.specs.declared.docs.Docs.{Docs}
 use Rattle.cs_reply.specs.Stated.{stated_line}
-use Rattle.cs_run.specs.Expected.{Start, begins, stops, script_writes, script_ends, stop_status, WroteReplies}
-use Rattle.cs_run.specs.Headline.{start_with, taken_of}
+use Rattle.cs_machine.specs.Expected.{done, bad_input, Start, begins, stops, start_with, script_ends}
+use Rattle.cs_run.specs.Expected.{script_writes, stop_status, WroteReplies}
+use Rattle.cs_run.specs.Headline.{taken_of}
 use Rattle.cs_run.specs.Loading.{AsksFor, stop_of}
-use Rattle.cs_run.specs.Machine.{written}
-use Rattle.cs_run.specs.State.{State, begun}
+use Rattle.cs_run.specs.Built.{written}
+use Rattle.cs_machine.specs.State.{State, begun}
 use Rattle.cs_run.specs.declared.fault.LoadFault.{LoadFault}
 use Rattle.cs_run.specs.declared.fault.LoadFault.TheVariants as fault
 use Rattle.cs_run.specs.declared.status.Status.{Status}
@@ -47,9 +48,9 @@ LineStops OpenFault old new reply = ⊥
 -- what was written of a script of which `rest` is left, by how the run ended
 abbrev pub ScriptWrites : State → Status → Option (List ℕ) → Option (List ℕ) → List ℕ → List ℕ
     → Type 0
-ScriptWrites s Done old new script rest = (script_ends script ≡ Done)
+ScriptWrites s Done old new script rest = (script_ends script ≡ done)
     × Appends old new (script_writes s script) × (rest ≡ [])
-ScriptWrites s Input old new script rest = (script_ends script ≡ Input)
+ScriptWrites s Input old new script rest = (script_ends script ≡ bad_input)
     × Appends old new (script_writes s script)
 ScriptWrites s ReadFault old new script rest =
     Appends old new (written s 1 (whole_lines (taken_of script rest)))

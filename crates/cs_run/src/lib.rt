@@ -17,7 +17,6 @@ mod query;
 mod query_tests;
 #[cfg(test)]
 mod record_tests;
-mod references;
 mod refs;
 mod refusal;
 mod stamp;

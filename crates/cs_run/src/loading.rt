@@ -5,17 +5,17 @@ ghost use Rattle.cs_json.specs.Reading.{outcome, value};
 ghost use Rattle.cs_view.specs.Dataset.{ascending, with_doc};
 ghost use Rattle.cs_view.specs.Document.{is_body, is_shallow, id_of, deepest_document};
 ghost use Rattle.cs_view.specs.View.{doc};
-ghost use Rattle.cs_run.specs.DataFile.{a_document, imported, of_body, of_outcome, said};
+ghost use Rattle.cs_machine.specs.DataFile.{a_document, imported, of_body, of_outcome, said};
 ghost use Rattle.cs_run.specs.Gathered.{gathered, AreById};
 ghost use Rattle.cs_run.specs.Refusals.{IsRefused};
-ghost use Rattle.cs_docs.specs.Store.{docs};
+ghost use Rattle.cs_docs.specs.Shelves.{documents};
 ghost use Rattle.cs_docs.specs.Limits.{most_documents};
 
 use crate::blank::is_blank;
 use crate::fault::DataCause;
 use crate::import::imported;
 use crate::refusal::{LineRefusal, json_refusal};
-use cs_docs::{Docs, MOST_DOCUMENTS};
+use cs_docs::{MOST_DOCUMENTS, Shelf};
 use cs_value::{NoMemory, Txt, Val};
 use cs_view::{DEEPEST_DOCUMENT, Doc, is_body};
 use std::alloc::Global;
@@ -131,8 +131,8 @@ impl Loading {
     }
 
     /// The documents, moved and not copied.
-    pub(crate) fn into_docs(self) -> Result<Docs, NoMemory>
-        ensures { IfOk result (λ d. docs d ≡ so_far self) }
+    pub(crate) fn into_shelf(self) -> Result<Shelf, NoMemory>
+        ensures { IfOk result (λ shelf. documents shelf ≡ so_far self) }
     {
         let Loading {
             alloc,
@@ -143,6 +143,6 @@ impl Loading {
         for document in documents.into_values() {
             docs.push(document)?;
         }
-        Ok(Docs::of(docs))
+        Ok(Shelf::of(docs))
     }
 }

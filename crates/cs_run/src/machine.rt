@@ -8,13 +8,14 @@ ghost use Rattle.cs_wire.specs.View.{request};
 ghost use Rattle.cs_wire.specs.Within.{IsWithin};
 ghost use Rattle.cs_docs.specs.Store.{docs as docs_of};
 ghost use Rattle.cs_reply.specs.View.{refusal};
-ghost use Rattle.cs_run.specs.Command.{is_blank, deepest_line};
+ghost use Rattle.cs_machine.specs.Machine.{is_blank, deepest_line};
 ghost use Rattle.cs_run.specs.Core.{state};
 ghost use Rattle.cs_run.specs.Does.{Does, Leaves};
 ghost use Rattle.cs_wire.specs.Rows.{command};
-ghost use Rattle.cs_run.specs.Machine.{by_command, done, heard, step, step_writes, step_state};
-ghost use Rattle.cs_run.specs.Refused.{refuse};
-ghost use Rattle.cs_run.specs.State.{begun};
+ghost use Rattle.cs_machine.specs.Machine.{by_command, heard};
+ghost use Rattle.cs_run.specs.Built.{built_row, step, step_writes, step_state};
+ghost use Rattle.cs_machine.specs.Refused.{refuse};
+ghost use Rattle.cs_machine.specs.State.{begun};
 
 use crate::blank::is_blank;
 use cs_docs::Docs;
@@ -162,7 +163,7 @@ impl Core {
     ) -> Result<(), NoMemory>
         requires { length line.now ≤ longest_line }
         ensures does { OnOk result (Does out.old.items out.new.items (state self.new) number
-            (heard (state self.old) number (outcome deepest_line line.now))) }
+            (heard built_row (state self.old) number (outcome deepest_line line.now))) }
         ensures leaves { OnErr result (Leaves self.old self.new) }
     {
         match cs_json::read(self.alloc, line, DEEPEST_LINE) {
@@ -184,7 +185,7 @@ impl Core {
     ) -> Result<(), NoMemory>
         requires short { widest (tree val) ≤ longest_line }
         ensures does { OnOk result (Does out.old.items out.new.items (state self.new) line
-            (by_command (state self.old) line (command (tree val)))) }
+            (by_command built_row (state self.old) line (command (tree val)))) }
         ensures leaves { OnErr result (Leaves self.old self.new) }
     {
         commands_are_within();
@@ -204,7 +205,7 @@ impl Core {
     ) -> Result<(), NoMemory>
         requires short { IsWithin longest_line (request command) }
         ensures does { OnOk result (Does out.old.items out.new.items (state self.new) line
-            (done (state self.old) line (request command))) }
+            (built_row (state self.old) line (request command))) }
         ensures leaves { OnErr result (Leaves self.old self.new) }
     {
         match command {

@@ -4,34 +4,38 @@ ghost use Rattle.std.specs.Prelude.{◌≡◌, ◌<◌, ℕ, ◌∷◌, [], OnOk
 ghost use Rattle.std.specs.BTreeSet.{contains_text};
 ghost use Rattle.cs_value.specs.Tree.{Tree};
 ghost use Rattle.cs_value.specs.View.{tree};
-ghost use Rattle.cs_view.specs.Document.{is_body, is_shallow, id_of};
+ghost use Rattle.cs_view.specs.Document.{id_of};
 ghost use Rattle.cs_view.specs.Dataset.{with_doc};
 ghost use Rattle.cs_view.specs.View.{doc};
 ghost use Rattle.cs_wire.specs.Commands.{mutate};
 ghost use Rattle.cs_docs.specs.Places.{IsGapFor};
 ghost use Rattle.cs_docs.specs.Store.{docs as docs_of};
 ghost use Rattle.cs_docs.specs.Limits.{most_documents};
+ghost use Rattle.cs_docs.specs.References.{clean};
+ghost use Rattle.cs_run.specs.Command.{is_creatable};
 ghost use Rattle.cs_reply.specs.Reply.{reply_tree, committed, create};
 ghost use Rattle.cs_reply.specs.View.{refusal, Appended};
 ghost use Rattle.cs_run.specs.Core.{state};
-ghost use Rattle.cs_run.specs.Does.{Does, Leaves, creating};
-ghost use Rattle.cs_run.specs.Install.{tx_of_line};
-ghost use Rattle.cs_run.specs.Machine.{done};
-ghost use Rattle.cs_run.specs.Refused.{refuse};
-ghost use Rattle.cs_run.specs.State.{with_docs, with_used};
+ghost use Rattle.cs_run.specs.Does.{Does, Leaves, AreAlike, creating};
+ghost use Rattle.cs_txn.specs.Body.{tx_of_line};
+ghost use Rattle.cs_run.specs.Built.{built_row};
+ghost use Rattle.cs_machine.specs.Refused.{refuse};
+ghost use Rattle.cs_machine.specs.State.{with_docs, with_used};
 
 use crate::command::created_by;
 use crate::machine::Core;
-use crate::stamp::{FIRST_MOMENT, stamped, tx_of_line};
+use crate::stamp::{FIRST_MOMENT, entered, tx_of_line};
+use cs_docs::laws::{fits_within_and_clean, without_references_it_stays_clean};
 use cs_reply::{Operation, Outcome, Refusal, Reply};
 use cs_value::{NoMemory, Val};
 use cs_view::Doc;
+use cs_view::laws::{changes_are_computed, changes_are_one_list};
 
 impl Core {
     // A transaction, as far as it is built: one create of an object that refers to nothing.
     pub(crate) fn mutate(&mut self, body: Val, line: u32, out: &mut Vec<u8>) -> Result<(), NoMemory>
         ensures does { OnOk result (Does out.old.items out.new.items (state self.new) line
-            (done (state self.old) line (mutate (tree body)))) }
+            (built_row (state self.old) line (mutate (tree body)))) }
         ensures leaves { OnErr result (Leaves self.old self.new) }
     {
         match created_by(body) {
@@ -41,14 +45,17 @@ impl Core {
     }
 
     fn create(&mut self, body: Val, line: u32, out: &mut Vec<u8>) -> Result<(), NoMemory>
-        requires body { is_body (tree body) ≡ true }
-        requires shallow { is_shallow (tree body) ≡ true }
+        requires creatable { is_creatable (tree body) ≡ true }
         ensures does { OnOk result (Does out.old.items out.new.items (state self.new) line
             (creating (state self.old) line (tree body))) }
         ensures leaves { OnErr result (Leaves self.old self.new) }
     {
+        fits_within_and_clean();
+        without_references_it_stays_clean();
+        changes_are_computed();
+        changes_are_one_list();
         let tx = tx_of_line(self.alloc, line)?;
-        let document = stamped(self.alloc, body, tx.as_str(), FIRST_MOMENT)?;
+        let document = entered(self.alloc, body, tx.as_str(), FIRST_MOMENT)?;
         match self.prepare(&document, tx.as_str()) {
             Ok(place) => {
                 self.write_created(&document, tx.as_str(), line, out)?;
@@ -66,11 +73,12 @@ impl Core {
             × (contains_text self.now.used tx.entry.now ≡ false))
             (λ r. (n : ℕ) (t : Tree) → tx.entry.now ≡ tx_of_line n
             → id_of (doc document.entry.now) ≡ id_of t
-            → creating (state self.now) n t ≡ refuse (state self.now) (refusal r)) }
+            → is_creatable t ≡ true
+            → AreAlike n (creating (state self.now) n t) (refuse (state self.now) (refusal r))) }
     {
         let id = document.id().as_str();
         let is_used = self.used.contains(tx);
-        match self.docs.search(id) {
+        match self.docs.shelf().search(id) {
             Ok(_) => {
                 if is_used {
                     return Err(Refusal::TxUsed { id: tx });
@@ -78,7 +86,7 @@ impl Core {
                 Err(Refusal::Exists { mutation: 0, id })
             }
             Err(place) => {
-                if self.docs.is_full() {
+                if self.docs.shelf().is_full() {
                     return Err(Refusal::NotBuilt);
                 }
                 if is_used {
@@ -115,6 +123,7 @@ impl Core {
     fn commit(&mut self, place: usize, document: Doc, tx: &str) -> Result<(), NoMemory>
         requires gap { IsGapFor (id_of (doc document)) (docs_of self.old.docs) place }
         requires room { length (docs_of self.old.docs) < most_documents }
+        requires clean { clean (with_doc (doc document) (docs_of self.old.docs)) ≡ true }
         requires unused { contains_text self.old.used tx.now ≡ false }
         ensures committed { OnOk result (state self.new ≡ with_used tx.now
             (with_docs (with_doc (doc document) (docs_of self.old.docs)) (state self.old))) }

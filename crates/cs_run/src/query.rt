@@ -10,8 +10,8 @@ ghost use Rattle.cs_reply.specs.Reply.{reply_tree, found as found_reply};
 ghost use Rattle.cs_reply.specs.View.{refusal as refusal_seen, Appended};
 ghost use Rattle.cs_run.specs.Core.{state};
 ghost use Rattle.cs_run.specs.Does.{Does};
-ghost use Rattle.cs_run.specs.Refused.{why_none};
-ghost use Rattle.cs_run.specs.Rows.{row_query};
+ghost use Rattle.cs_machine.specs.Causes.{why_none};
+ghost use Rattle.cs_machine.specs.Rows.{row_query};
 
 use crate::machine::Core;
 use cs_eval::{Got, eval};

@@ -11,9 +11,9 @@ ghost use Rattle.cs_run.specs.Core.{state};
 ghost use Rattle.cs_run.specs.Expected.{Causes, stop_status};
 ghost use Rattle.cs_run.specs.Headline.{ToldRun, Asks, RefusedWrites, IsComplete, added};
 ghost use Rattle.cs_run.specs.Loading.{LoadHasCause, cause_of, stop_of};
-ghost use Rattle.cs_run.specs.Machine.{step_writes, step_state};
+ghost use Rattle.cs_run.specs.Built.{step_writes, step_state};
 ghost use Rattle.cs_run.specs.Script.{Stated, States, LineStops, ToldWrites, ToldStarts, AsksNamed, DataEnds};
-ghost use Rattle.cs_run.specs.State.{begun};
+ghost use Rattle.cs_machine.specs.State.{begun};
 ghost use Rattle.cs_run.specs.Words.{takes_words, names_of};
 
 use crate::data_file::load;

@@ -2,7 +2,7 @@ use Rattle.std.proofs.Common.{◌≡◌, ◌∙◌, ap, ◌∷◌, ◌++◌, [],
 use Rattle.std.specs.Option.{option_map}
 use Rattle.cs_io.specs.Names.{told_bytes}
 use Rattle.cs_run.specs.Script.{ToldWrites, ToldStarts, AsksNamed}
-use Rattle.cs_run.specs.State.{begun}
+use Rattle.cs_machine.specs.State.{begun}
 use Rattle.cs_docs.specs.Store.{docs}
 use Rattle.cs_run.specs.Words.{takes_words, script_of}
 use Rattle.cs_run.proofs.Headlines.{is_open-added, number_from, told_run}

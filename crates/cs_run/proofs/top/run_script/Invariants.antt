@@ -3,7 +3,7 @@ use Rattle.cs_io.specs.Lines.{largest_source}
 use Rattle.cs_io.specs.Names.{is_open}
 use Rattle.cs_io.specs.Reader.{OnlyReads, InStep}
 use Rattle.cs_run.specs.Core.{state}
-use Rattle.cs_run.specs.State.{begun}
+use Rattle.cs_machine.specs.State.{begun}
 use Rattle.cs_docs.specs.Store.{docs}
 use Rattle.cs_run.proofs.Playing.{Played}
 use Rattle.cs_run.proofs.top.run_script.Given as goal

@@ -2,7 +2,7 @@ use Rattle.cs_io.specs.Lines.{longest_line}
 use Rattle.cs_value.specs.Tree.{widest}
 use Rattle.cs_value.specs.View.{tree}
 use Rattle.cs_wire.specs.View.{request}
-use Rattle.cs_run.proofs.Creating.{within_more}
+use Rattle.cs_run.proofs.Replying.{within_more}
 use Rattle.cs_run.proofs.machine.Core.command.Goals as goal
 
 pub run-requires : goal.run-requires

@@ -7,8 +7,8 @@ use Rattle.cs_syntax.specs.Expression.{Expression}
 use Rattle.cs_syntax.specs.Queries.{query as expression_of}
 use Rattle.cs_value.specs.View.{fields}
 use Rattle.cs_run.specs.Core.{state}
-use Rattle.cs_run.specs.State.{answered}
-use Rattle.cs_run.proofs.Creating.{says, does_as, read_text, refused_text}
+use Rattle.cs_machine.specs.State.{answered}
+use Rattle.cs_run.proofs.Replying.{says, does_as, read_text, refused_text}
 use Rattle.cs_run.proofs.machine.Core.query.Goals as goal
 
 pub returns-in-Ok : goal.returns-in-Ok

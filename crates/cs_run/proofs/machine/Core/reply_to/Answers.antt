@@ -1,7 +1,7 @@
 use Rattle.std.proofs.Common.{rules}
 use Rattle.std.proofs.lemmas.Result.{on_ok_weaker}
 use Rattle.cs_run.specs.Core.{state}
-use Rattle.cs_run.proofs.Creating.{silent, does_as, step_blank, step_heard}
+use Rattle.cs_run.proofs.Replying.{silent, does_as, step_blank, step_heard}
 use Rattle.cs_run.proofs.machine.Core.reply_to.Goals as goal
 
 pub returns-then-is_blank-clause-does : goal.returns-then-is_blank-clause-does

@@ -1,0 +1,66 @@
+-- A dataset to which a document without strong references comes.
+use Rattle.std.proofs.Common.{◌≡◌, ◌∙◌, ap, refl, ℕ, List, [], ◌∷◌, Bool, true, false, cond, is_some, Some, Less, Equal, Greater}
+use Rattle.std.specs.List.{list_all}
+use Rattle.std.specs.FinMap.Entries.{by_order}
+use Rattle.cs_value.specs.Tree.{Tree}
+use Rattle.cs_view.specs.Document.{id_of}
+use Rattle.cs_view.specs.Dataset.{id_cmp, same_id, At, stands, with_doc}
+use Rattle.cs_view.proofs.Booleans.{and-left, and-right, both}
+use Rattle.cs_view.proofs.Datasets.{At-with_doc}
+use Rattle.cs_docs.specs.References.{strong, clean}
+
+-- what stands, stands with a document more
+stands_still : (d : Tree) (docs : List Tree) (t : List ℕ)
+    → stands t docs ≡ true
+    → stands t (with_doc d docs) ≡ true
+stands_still d docs t h =
+    ap is_some (At-with_doc t d docs)
+    ∙ elim (same_id t (id_of d)) as (λ b. is_some (cond b (Some d) (At t docs)) ≡ true) [
+      | true ↦ refl
+      | false ↦ h
+    ]
+
+all_stand_still : (d : Tree) (docs : List Tree) (ts : List (List ℕ))
+    → list_all (λ t. stands t docs) ts ≡ true
+    → list_all (λ t. stands t (with_doc d docs)) ts ≡ true
+all_stand_still d docs [] h = refl
+all_stand_still d docs (t ∷ ts) h =
+    both _ _ (stands_still d docs t (and-left _ _ h)) (all_stand_still d docs ts (and-right _ _ h))
+
+-- a test that each document passes that passes another, and the one more too
+all_pass : (p q : Tree → Bool) (d : Tree)
+    → ((e : Tree) → p e ≡ true → q e ≡ true)
+    → q d ≡ true
+    → (es : List Tree)
+    → list_all p es ≡ true
+    → list_all q es ≡ true
+all_pass p q d follows own [] h = refl
+all_pass p q d follows own (e ∷ es) h =
+    both _ _ (follows e (and-left _ _ h)) (all_pass p q d follows own es (and-right _ _ h))
+
+all_with : (p q : Tree → Bool) (d : Tree)
+    → ((e : Tree) → p e ≡ true → q e ≡ true)
+    → q d ≡ true
+    → (es : List Tree)
+    → list_all p es ≡ true
+    → list_all q (with_doc d es) ≡ true
+all_with p q d follows own [] h = both _ _ own refl
+all_with p q d follows own (e ∷ es) h =
+    let rest = all_pass p q d follows own es (and-right _ _ h) in
+    let here = follows e (and-left _ _ h) in
+    elim (id_cmp (id_of d) (id_of e)) as (λ o. list_all q (by_order o (d ∷ e ∷ es) (d ∷ es)
+    (e ∷ with_doc d es)) ≡ true) [
+      | Less ↦ both _ _ own (both _ _ here rest)
+      | Equal ↦ both _ _ own rest
+      | Greater ↦ both _ _ here (all_with p q d follows own es (and-right _ _ h))
+    ]
+
+pub entering-clean : (docs : List Tree) (d : Tree)
+    → clean docs ≡ true
+    → strong d ≡ []
+    → clean (with_doc d docs) ≡ true
+entering-clean docs d h none =
+    let all : Tree → Bool = λ e. list_all (λ t. stands t docs) (strong e) in
+    let still : Tree → Bool = λ e. list_all (λ t. stands t (with_doc d docs)) (strong e) in
+    all_with all still d (λ e whole. all_stand_still d docs (strong e) whole)
+    (ap (λ ts. list_all (λ t. stands t (with_doc d docs)) ts) none) docs h

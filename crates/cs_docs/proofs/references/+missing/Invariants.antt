@@ -1,0 +1,16 @@
+use Rattle.std.proofs.Common.{◌≡◌, drop}
+use Rattle.cs_value.specs.Tree.{trees}
+use Rattle.cs_value.specs.View.{fields, list_tree, entries_tree}
+use Rattle.cs_docs.specs.Missing.{first_missing}
+use Rattle.cs_docs.specs.References.{strong_items, strong_pairs}
+use Rattle.cs_docs.specs.Shelves.{documents}
+use Rattle.cs_docs.proofs.references.+missing.Given as goal
+
+abbrev pub invariant-missing_item-loop-item : goal.invariant-missing_item-loop-item
+invariant-missing_item-loop-item l =
+    first_missing (documents l.shelf) (strong_items (trees (list_tree l.item-items))) ≡ first_missing (documents l.shelf) (strong_items (trees (list_tree (drop l.item-index l.item-items))))
+
+abbrev pub invariant-missing_member-loop-member : goal.invariant-missing_member-loop-member
+invariant-missing_member-loop-member l =
+    first_missing (documents l.shelf) (strong_pairs (fields l.object))
+    ≡ first_missing (documents l.shelf) (strong_pairs (entries_tree l.member-iterator))
