@@ -9,10 +9,11 @@ use Rattle.cs_syntax.specs.declared.tree.Expr as code
 use Rattle.cs_plan.specs.Steps.{in_scope}
 use Rattle.cs_syntax.proofs.Views.{chain_parts, expression_up}
 use Rattle.std.specs.Str.{bytes_eq}
-use Rattle.std.specs.Prelude.{if◌then◌else◌, codes, Bool, true, false, cond, ℤ, pos, neg_ℤ, ◌||◌}
+use Rattle.std.specs.Option.{option_map_or}
+use Rattle.std.specs.Prelude.{if◌then◌else◌, codes, Bool, true, false, cond, ℤ, pos, neg_ℤ}
 use Rattle.cs_value.specs.Tree.{Tree, Pairs, null, integer}
 use Rattle.cs_ops.specs.Arithmetic.{number, is_whole}
-use Rattle.cs_syntax.specs.Numbers.{whole_number, has_exponent, has_fraction}
+use Rattle.cs_syntax.specs.Numbers.{written_number}
 use Rattle.cs_ops.specs.Operators as operators
 use Rattle.cs_ops.specs.declared.op.Pre.TheVariants.{Minus}
 use Rattle.cs_syntax.specs.declared.tree.PreSign.{PreSign}
@@ -41,12 +42,14 @@ one_number false n = refl
 some_number : (n : ℤ) → number_scalar (number n) ≡ scalar_of (number n)
 some_number n = one_number (is_whole n) n
 
-or_null : (b : Bool) (v : Tree) → number_scalar v ≡ scalar_of v → number_scalar (cond b null v) ≡ scalar_of (cond b null v)
-or_null true v is = refl
-or_null false v is = is
+number_or_null : (o : Option ℕ)
+    → number_scalar (option_map_or (λ k. integer (pos k)) o null)
+    ≡ scalar_of (option_map_or (λ k. integer (pos k)) o null)
+number_or_null None = refl
+number_or_null (Some k) = refl
 
 pub literal_number : (n : List ℕ) → number_scalar (literal n) ≡ scalar_of (literal n)
-literal_number n = or_null (has_exponent n || has_fraction n) (number (pos (whole_number n))) (some_number (pos (whole_number n)))
+literal_number n = number_or_null (written_number n)
 
 pub negative_number : (v : Tree) → number_scalar (operators.prefix Minus v) ≡ scalar_of (operators.prefix Minus v)
 negative_number (integer n) = some_number (neg_ℤ n)

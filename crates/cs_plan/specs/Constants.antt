@@ -1,23 +1,22 @@
 -- Constants: the values that a filter can name before any document is looked at: this project's
 -- profile.
-use Rattle.std.specs.Prelude.{ℕ, List, [], ◌∷◌, pos, ◌||◌, Option, Some, None, option_and_then, if◌then◌else◌}
+use Rattle.std.specs.Prelude.{ℕ, List, [], ◌∷◌, pos, Option, Some, None, option_and_then}
+use Rattle.std.specs.Option.{option_map_or}
 use Rattle.cs_value.specs.Tree.{Tree, null, boolean, integer, text, list, object, Pairs}
 use Rattle.cs_value.specs.Pairs.{find}
-use Rattle.cs_ops.specs.Arithmetic.{number}
 use Rattle.cs_ops.specs.Operators as operators
 use Rattle.cs_ops.specs.declared.op.Pre.TheVariants.{Minus}
 use Rattle.cs_syntax.specs.declared.tree.PreSign.TheVariants as sign
 use Rattle.cs_syntax.specs.Expression.{Expression, bool_literal, number_literal, text_literal, param, parent, chain, prefix}
-use Rattle.cs_syntax.specs.Numbers.{whole_number, has_exponent, has_fraction}
+use Rattle.cs_syntax.specs.Numbers.{written_number}
 use Rattle.cs_view.specs.declared.key.Scalar.{Scalar}
 use Rattle.cs_view.specs.declared.key.Scalar.TheVariants.{Bool as Boolean, Num, Text}
 use Rattle.cs_plan.specs.Steps.{in_scope, field, names_of}
 
 -- The value of a number as it is written; null where the profile refuses it, for a fraction, an
--- exponent or more than 64
--- bits: GROQ-1.revision1, "Number".
+-- exponent or more than 64 bits: GROQ-1.revision1, "Number".
 abbrev pub literal : List ℕ → Tree
-literal n = if has_exponent n || has_fraction n then null else number (pos (whole_number n))
+literal n = option_map_or (λ k. integer (pos k)) (written_number n) null
 
 -- The text, number or boolean that a value is; none where it is something else.
 abbrev pub scalar_of : Tree → Option Scalar

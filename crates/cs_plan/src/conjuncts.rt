@@ -5,7 +5,6 @@ ghost use Rattle.cs_plan.specs.Filters.{path_of, equals_key, of_both, equality_k
 ghost use Rattle.cs_plan.specs.Parts.{sole, sole_equal};
 ghost use Rattle.cs_plan.specs.Lent.{key_lent, scalar_lent};
 ghost use Rattle.cs_syntax.specs.Expression.{arguments_of, operands_of};
-ghost use Rattle.cs_syntax.specs.Functions.{without_global};
 ghost use Rattle.cs_syntax.specs.View.{expression, arg as argument_of, operands};
 ghost use Rattle.cs_value.specs.View.{fields};
 ghost use Rattle.cs_view.specs.Scopes.{scope as values_of};
@@ -13,7 +12,7 @@ ghost use Rattle.cs_view.specs.Scopes.{scope as values_of};
 use crate::constants::constant;
 use crate::lent::{LentKey, LentScalar};
 use crate::paths::{LentNames, path_of};
-use cs_syntax::{Arg, BinSign, Expr};
+use cs_syntax::{Arg, BinSign, Expr, without_global};
 use cs_value::Fields;
 use cs_view::Scope;
 
@@ -79,17 +78,6 @@ fn element<'f>(
     let names = path_of(right)?;
     let scalar = constant(left, scope, params)?;
     Some(LentKey::Elem(names, scalar))
-}
-
-fn without_global(name: &str) -> &[u8]
-    ensures { result.now ≡ without_global name.now }
-{
-    let bytes = name.as_bytes();
-    if bytes.starts_with("global::".as_bytes()) {
-        &bytes[8..]
-    } else {
-        bytes
-    }
 }
 
 // The one argument of a call, where it has one alone and without `=>`.
