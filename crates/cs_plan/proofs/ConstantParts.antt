@@ -23,11 +23,11 @@ use Rattle.cs_syntax.specs.Expression.{Expression, number_literal, prefix, run, 
 use Rattle.cs_syntax.specs.Functions.{without_global}
 use Rattle.cs_view.specs.declared.key.Key.TheVariants.{Ref}
 use Rattle.cs_plan.specs.Steps.{field, name_of, names_of}
-use Rattle.cs_plan.specs.Constants.{constant, scalar_of, literal, fields}
+use Rattle.cs_plan.specs.Constants.{constant, scalar_of, literal, at_names}
 use Rattle.cs_plan.specs.Filters.{reference_key, scalar_text, conjunct_key, equality_key}
-use Rattle.cs_plan.specs.Parts.{number_scalar, scalar_at, negative_of, sole, sole_equal}
+use Rattle.cs_plan.specs.Parts.{number_scalar, scalar_at, negative_of, sole_argument, sole_equal}
 
-more : (name : Option (List ℕ)) (names : Option (List (List ℕ))) (v : Tree) → option_and_then (λ ns. scalar_of (fields ns v)) (option_and_then (λ n. option_map (λ ns. n ∷ ns) names) name) ≡ option_and_then (λ n. option_and_then (λ ns. scalar_of (fields ns (field n v))) names) name
+more : (name : Option (List ℕ)) (names : Option (List (List ℕ))) (v : Tree) → option_and_then (λ ns. scalar_of (at_names ns v)) (option_and_then (λ n. option_map (λ ns. n ∷ ns) names) name) ≡ option_and_then (λ n. option_and_then (λ ns. scalar_of (at_names ns (field n v))) names) name
 more None names v = refl
 more (Some n) None v = refl
 more (Some n) (Some ns) v = refl
@@ -63,7 +63,7 @@ constant_prefix (sign.Minus ∷ q ∷ ps) e scope params = refl
 constant_prefix (sign.Plus ∷ ps) e scope params = refl
 constant_prefix (sign.Not ∷ ps) e scope params = refl
 
-pub reference_sole : (name : List ℕ) (xs : Arguments) (scope : List Tree) (params : Pairs) → reference_key name xs scope params ≡ option_and_then (λ e. if bytes_eq (without_global name) (codes "references") then option_map Ref (option_and_then scalar_text (constant e scope params)) else None) (sole xs)
+pub reference_sole : (name : List ℕ) (xs : Arguments) (scope : List Tree) (params : Pairs) → reference_key name xs scope params ≡ option_and_then (λ e. if bytes_eq (without_global name) (codes "references") then option_map Ref (option_and_then scalar_text (constant e scope params)) else None) (sole_argument xs)
 reference_sole name no_arguments scope params = refl
 reference_sole name (more_arguments (argument c) no_arguments) scope params = refl
 reference_sole name (more_arguments (argument c) (more_arguments y ys)) scope params = refl

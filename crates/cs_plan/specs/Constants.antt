@@ -29,9 +29,9 @@ scalar_of (object ps) = None
 
 -- The attribute of the attribute and so on, by these names: null where an object on the way lacks
 -- one.
-abbrev pub fields : List (List ℕ) → Tree → Tree
-fields [] v = v
-fields (name ∷ names) v = fields names (field name v)
+abbrev pub at_names : List (List ℕ) → Tree → Tree
+at_names [] v = v
+at_names (name ∷ names) v = at_names names (field name v)
 
 -- The constant that an expression is, in the scope in which the filter's chain stands: a text, a
 -- number, `-` and a number,
@@ -46,5 +46,5 @@ constant (bool_literal b) scope params = Some (Boolean b)
 constant (param p) scope params = option_and_then scalar_of (find p params)
 constant (parent n) scope params = scalar_of (in_scope n (null ∷ scope))
 constant (chain (parent n) ss) scope params =
-    option_and_then (λ names. scalar_of (fields names (in_scope n (null ∷ scope)))) (names_of ss)
+    option_and_then (λ names. scalar_of (at_names names (in_scope n (null ∷ scope)))) (names_of ss)
 constant e scope params = None

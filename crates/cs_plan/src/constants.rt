@@ -79,7 +79,7 @@ fn at_names<'v>(val: Option<&'v Val>, steps: &[Step]) -> Option<&'v Val>
 
 /// The constant that an expression is, in the scope in which the filter's chain stands: `None`
 /// exactly where it is none.
-#[tactic(auto, using(crate::proofs::ConstantParts::constant_prefix, crate::proofs::ConstantParts::literal_number, crate::proofs::ConstantParts::negative_number, cs_syntax::proofs::Views::expression_chain, cs_syntax::proofs::Views::expression_prefix), unfolding(cs_syntax::specs::View::expression))]
+#[tactic(auto, using(crate::proofs::Sets::constant), unfolding(cs_syntax::specs::View::expression))]
 pub(crate) fn constant<'f>(
     expr: &'f Expr,
     scope: &Scope<'f>,

@@ -60,7 +60,7 @@ fn is_simple_rest(steps: &[Step]) -> bool
     is_filter(first) && quiet_step(first) && are_tail_steps(later) && quiet_steps(later)
 }
 
-#[tactic(auto, using(cs_syntax::proofs::Views::expression_chain), unfolding(cs_syntax::specs::View::expression))]
+#[tactic(auto, unfolding(cs_syntax::specs::View::expression))]
 fn is_simple(expr: &Expr) -> bool
     ensures { result ≡ is_simple (expression expr.now) }
 {
