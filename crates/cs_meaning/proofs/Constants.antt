@@ -9,7 +9,7 @@ use Rattle.cs_syntax.specs.Expression.{Expression, bool_literal, number_literal,
 use Rattle.cs_view.specs.Keys.{equals, followed}
 use Rattle.cs_view.specs.declared.key.Scalar.{Scalar}
 use Rattle.cs_view.specs.declared.key.Scalar.TheVariants.{Bool as Boolean, Num, Text}
-use Rattle.cs_plan.specs.Constants.{literal, scalar_of, fields, constant}
+use Rattle.cs_plan.specs.Constants.{literal, scalar_of, at_names, constant}
 use Rattle.cs_plan.specs.Filters.{few, path_of}
 use Rattle.cs_plan.specs.Steps.{in_scope, field, names_of}
 use Rattle.cs_meaning.specs.Values.{value, rest_value, pipes_value}
@@ -32,14 +32,14 @@ found-is : (o : Option Tree) (s : Scalar) → option_and_then scalar_of o ≡ So
 found-is None s h = cc
 found-is (Some v) s h = scalar-is v s h
 
-pub fields-null : (names : List (List ℕ)) → fields names null ≡ null
-fields-null [] = refl
-fields-null (w ∷ ws) = fields-null ws
+pub at-names-null : (names : List (List ℕ)) → at_names names null ≡ null
+at-names-null [] = refl
+at-names-null (w ∷ ws) = at-names-null ws
 
 -- the names are followed by f
 abbrev Follows : Option (List (List ℕ)) → (Tree → Tree) → Type 0
 Follows None f = ⊤
-Follows (Some names) f = (v : Tree) → f v ≡ fields names v
+Follows (Some names) f = (v : Tree) → f v ≡ at_names names v
 
 -- f leaves a value as it is
 abbrev Stays : Option (List (List ℕ)) → (Tree → Tree) → Type 0
@@ -75,13 +75,13 @@ chain-follows docs params ss scope =
     both-follow (names_of ss) (rest_value docs params ss scope) (pipes_value docs params ss scope) (names-follow docs params ss scope) (names-stay docs params ss scope)
 
 -- what a chain of names is in the scope of null, it is in the scope of the document
-outer-fields : (o : Option (List (List ℕ))) (f : Tree → Tree) (v : Tree) (s : Scalar) → Follows o f → option_and_then (λ names. scalar_of (fields names v)) o ≡ Some s → f v ≡ scalar_tree s
+outer-fields : (o : Option (List (List ℕ))) (f : Tree → Tree) (v : Tree) (s : Scalar) → Follows o f → option_and_then (λ names. scalar_of (at_names names v)) o ≡ Some s → f v ≡ scalar_tree s
 outer-fields None f v s h e = cc
-outer-fields (Some names) f v s h e = h v ∙ scalar-is (fields names v) s e
+outer-fields (Some names) f v s h e = h v ∙ scalar-is (at_names names v) s e
 
-no-scalar : (o : Option (List (List ℕ))) → option_and_then (λ names. scalar_of (fields names null)) o ≡ None
+no-scalar : (o : Option (List (List ℕ))) → option_and_then (λ names. scalar_of (at_names names null)) o ≡ None
 no-scalar None = refl
-no-scalar (Some names) = ap scalar_of (fields-null names)
+no-scalar (Some names) = ap scalar_of (at-names-null names)
 
 pub constant-value : (docs : List Tree) (params : Pairs) (c : Expression) (scope : List Tree) (d : Tree) (s : Scalar) → constant c scope params ≡ Some s → value docs params c (d ∷ scope) ≡ scalar_tree s
 constant-value docs params (text_literal t) scope d s h = scalar-is (text t) s h
@@ -99,9 +99,9 @@ constant-value docs params c scope d s h = cc
 -- the value is that at these names, where there are names
 abbrev pub IsAt : Option (List (List ℕ)) → Tree → Tree → Type 0
 IsAt None v d = ⊤
-IsAt (Some names) v d = v ≡ fields names d
+IsAt (Some names) v d = v ≡ at_names names d
 
-few-at : (names : List (List ℕ)) (v d : Tree) → v ≡ fields names d → IsAt (few names) v d
+few-at : (names : List (List ℕ)) (v d : Tree) → v ≡ at_names names d → IsAt (few names) v d
 few-at names v d h = cond-at (nat_le (length names) 4)
   where
     cond-at : (b : Bool) → IsAt (cond b (Some names) None) v d
@@ -119,13 +119,13 @@ path-value docs params (chain (word w) ss) scope d =
 path-value docs params e scope d = tt
 
 -- following names gives what the attributes of attributes are
-one-followed : (ws : List (List ℕ)) (o : Option Tree) → ((x : Tree) → fields ws x ≡ unwrap_or (followed ws x) null) → fields ws (unwrap_or o null) ≡ unwrap_or (option_and_then (followed ws) o) null
-one-followed ws None h = fields-null ws
+one-followed : (ws : List (List ℕ)) (o : Option Tree) → ((x : Tree) → at_names ws x ≡ unwrap_or (followed ws x) null) → at_names ws (unwrap_or o null) ≡ unwrap_or (option_and_then (followed ws) o) null
+one-followed ws None h = at-names-null ws
 one-followed ws (Some x) h = h x
 
-pub fields-followed : (names : List (List ℕ)) (v : Tree) → fields names v ≡ unwrap_or (followed names v) null
-fields-followed [] v = refl
-fields-followed (w ∷ ws) v = one-followed ws (attribute w v) (fields-followed ws)
+pub at-names-followed : (names : List (List ℕ)) (v : Tree) → at_names names v ≡ unwrap_or (followed names v) null
+at-names-followed [] v = refl
+at-names-followed (w ∷ ws) v = one-followed ws (attribute w v) (at-names-followed ws)
 
 -- a value is equal to a scalar
 pub equals-equal : (s : Scalar) (v : Tree) → equals s v ≡ equal v (scalar_tree s)

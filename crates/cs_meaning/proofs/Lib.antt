@@ -1,4 +1,5 @@
 pub mod Agree
+pub mod Callees
 pub mod Constants
 pub mod RestNull
 pub mod Silent

@@ -1,7 +1,7 @@
 -- A rest of a chain gives null of null.
-use Rattle.std.proofs.Common.{◌≡◌, ℕ, ℤ, List, ◌∷◌, Bool, Option, Some, None, refl, ap, ◌∙◌}
+use Rattle.std.proofs.Common.{◌≡◌, ℤ, List, ◌∷◌, Bool, Option, Some, None, refl, ap, ◌∙◌}
 use Rattle.cs_value.specs.Tree.{Tree, null, Pairs}
-use Rattle.cs_syntax.specs.Expression.{Expression, Step, attr, deref, each, slice, bracket, project, pipe, Steps, no_steps, more_steps}
+use Rattle.cs_syntax.specs.Expression.{Step, attr, deref, each, slice, bracket, project, pipe, Steps, no_steps, more_steps}
 use Rattle.cs_plan.specs.Steps.{Bracketed, position, named, condition, bracketed, position_of}
 use Rattle.cs_meaning.specs.declared.join.Way.{Way}
 use Rattle.cs_meaning.specs.declared.join.Way.TheVariants.{Through, Over, After, Ends}

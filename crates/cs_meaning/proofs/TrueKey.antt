@@ -25,11 +25,11 @@ use Rattle.cs_view.specs.declared.key.Scalar.{Scalar}
 use Rattle.cs_view.specs.declared.key.Scalar.TheVariants.{Bool as Boolean, Num, Text}
 use Rattle.cs_view.specs.declared.key.Key.{Key}
 use Rattle.cs_view.specs.declared.key.Key.TheVariants.{Id, Path, Elem, Ref}
-use Rattle.cs_plan.specs.Constants.{fields, constant}
+use Rattle.cs_plan.specs.Constants.{at_names, constant}
 use Rattle.cs_plan.specs.Filters.{path_of, is_id_path, equals_key, of_both, equality_key, element_key, scalar_text, reference_key, conjunct_key, all_and, conjuncts, operand_conjuncts, keys_given, is_id_key, is_ref_key, is_path_key, is_element_key, by_kind, first_or_all, key_in}
 use Rattle.cs_meaning.specs.Operators.{is_true, operated, in_list_or_path, coalescing, selecting, referring, applying, called, references}
 use Rattle.cs_meaning.specs.Values.{value, run_value, path_pattern, coalesced, selected, arguments_values}
-use Rattle.cs_meaning.proofs.Constants.{scalar_tree, constant-value, IsAt, path-value, fields-followed, equals-equal}
+use Rattle.cs_meaning.proofs.Constants.{scalar_tree, constant-value, IsAt, path-value, at-names-followed, equals-equal}
 
 -- the document has the key, where there is one; it has each of the keys
 abbrev Holds : Option Key → Tree → Type 0
@@ -91,8 +91,8 @@ run-true docs params (more_operands sign.And e rest) scope v a h =
 run-true docs params (more_operands s e rest) scope v a h = cc
 
 -- the key of a value at names
-at-path : (names : List (List ℕ)) (s : Scalar) (d v : Tree) → v ≡ fields names d → equal v (scalar_tree s) ≡ true → passes (equals s) (followed names d) ≡ true
-at-path names s d v is h = there (followed names d) (subst (λ x. equal x (scalar_tree s) ≡ true) (is ∙ fields-followed names d) h)
+at-path : (names : List (List ℕ)) (s : Scalar) (d v : Tree) → v ≡ at_names names d → equal v (scalar_tree s) ≡ true → passes (equals s) (followed names d) ≡ true
+at-path names s d v is h = there (followed names d) (subst (λ x. equal x (scalar_tree s) ≡ true) (is ∙ at-names-followed names d) h)
   where
     none : (s : Scalar) → equal null (scalar_tree s) ≡ true → false ≡ true
     none (Boolean b) h = h
@@ -115,7 +115,7 @@ id-of (Some (list ts)) t h = cc
 id-of (Some (object ps)) t h = cc
 id-of None t h = cc
 
-at-id : (names : List (List ℕ)) (t : List ℕ) (d v : Tree) → is_id_path names ≡ true → v ≡ fields names d → equal v (text t) ≡ true → has (Id t) d ≡ true
+at-id : (names : List (List ℕ)) (t : List ℕ) (d v : Tree) → is_id_path names ≡ true → v ≡ at_names names d → equal v (text t) ≡ true → has (Id t) d ≡ true
 at-id [] t d v i is h = cc
 at-id (w ∷ x ∷ ws) t d v i is h = cc
 at-id (w ∷ []) t d v i is h =
@@ -126,7 +126,7 @@ id-or-path : (b : Bool) (names : List (List ℕ)) (t : List ℕ) (d : Tree) → 
 id-or-path true names t d h g = h refl
 id-or-path false names t d h g = g
 
-equals-holds : (names : List (List ℕ)) (s : Scalar) (d v : Tree) → v ≡ fields names d → equal v (scalar_tree s) ≡ true → has (equals_key names s) d ≡ true
+equals-holds : (names : List (List ℕ)) (s : Scalar) (d v : Tree) → v ≡ at_names names d → equal v (scalar_tree s) ≡ true → has (equals_key names s) d ≡ true
 equals-holds names (Boolean b) d v is h = at-path names (Boolean b) d v is h
 equals-holds names (Num n) d v is h = at-path names (Num n) d v is h
 equals-holds names (Text t) d v is h = id-or-path (is_id_path names) names t d (λ i. at-id names t d v i is h) (at-path names (Text t) d v is h)
@@ -160,8 +160,8 @@ within-element s (integer n) h = cc
 within-element s (text t) h = cc
 within-element s (object ps) h = cc
 
-elem-at : (names : List (List ℕ)) (s : Scalar) (d v : Tree) → v ≡ fields names d → is_true (operators.within (scalar_tree s) v) ≡ true → has (Elem names s) d ≡ true
-elem-at names s d v is h = there (followed names d) (subst (λ x. is_true (operators.within (scalar_tree s) x) ≡ true) (is ∙ fields-followed names d) h)
+elem-at : (names : List (List ℕ)) (s : Scalar) (d v : Tree) → v ≡ at_names names d → is_true (operators.within (scalar_tree s) v) ≡ true → has (Elem names s) d ≡ true
+elem-at names s d v is h = there (followed names d) (subst (λ x. is_true (operators.within (scalar_tree s) x) ≡ true) (is ∙ at-names-followed names d) h)
   where
     there : (o : Option Tree) → is_true (operators.within (scalar_tree s) (unwrap_or o null)) ≡ true → passes (has_element s) o ≡ true
     there None h = cc

@@ -1,17 +1,27 @@
 -- Examples of values and of what is looked up, computed from the definitions: GROQ-1.revision1, by
 -- the sections named, as
 -- this project's profile has them.
-use Rattle.std.specs.Prelude.{◌≡◌, List, [], ◌∷◌, true, false, negsuc, codes}
+use Rattle.std.specs.Prelude.{◌≡◌, ℕ, List, [], ◌∷◌, true, false, negsuc, codes}
 use Rattle.cs_value.specs.Tree.{Tree, null, boolean, integer, text, no_pairs, pairs}
 use Rattle.cs_syntax.specs.declared.tree.BinSign.TheVariants as sign
 use Rattle.cs_syntax.specs.declared.tree.PreSign.TheVariants as front
-use Rattle.cs_syntax.specs.Expression.{null_literal, bool_literal, number_literal, text_literal, param, word, this, everything, parent, round, call, array, object_literal, prefix, within, between, attr, deref, each, slice, bracket, pipe, keyed, bare, when, spread, element, spread_element, argument, when_argument, order_key, elements_of, entries_of, arguments_of, keys_of}
+use Rattle.cs_syntax.specs.Expression.{Expression, null_literal, bool_literal, number_literal, text_literal, param, word, this, everything, parent, round, call, array, object_literal, prefix, within, between, attr, deref, each, slice, bracket, pipe, keyed, bare, when, spread, element, spread_element, argument, when_argument, order_key, elements_of, entries_of, arguments_of, keys_of}
 use Rattle.cs_meaning.specs.Joining.{list_of}
 use Rattle.cs_view.specs.declared.key.Scalar.TheVariants.{Text}
 use Rattle.cs_view.specs.declared.key.Key.TheVariants.{All, Id, Path, Ref}
 use Rattle.cs_meaning.specs.Looked.{query_looked}
 use Rattle.cs_meaning.specs.Values.{query_value}
 use Rattle.cs_plan.specs.Written.{path, from_all, binary_of, listed, record_of, calling, projecting, whole, object_of}
+
+-- `[0,1,2,3]`
+abbrev pub zero_to_three : Expression
+zero_to_three = listed
+    (number_literal (codes "0") ∷ number_literal (codes "1") ∷ number_literal (codes "2")
+    ∷ number_literal (codes "3") ∷ [])
+
+-- A number with `-` in front.
+abbrev pub negative : List ℕ → Expression
+negative digits = prefix (front.Minus ∷ []) (number_literal digits)
 
 -- Some authors, posts and tags.
 abbrev pub library : List Tree
@@ -162,7 +172,7 @@ NumbersEnd =
     (listed (binary_of (number_literal (codes "9223372036854775807")) sign.Add
     (number_literal (codes "1"))
     ∷ binary_of (number_literal (codes "7")) sign.Rem (number_literal (codes "0"))
-    ∷ binary_of (prefix (front.Minus ∷ []) (number_literal (codes "7"))) sign.Rem
+    ∷ binary_of (negative (codes "7")) sign.Rem
     (number_literal (codes "2")) ∷ []))
     ≡ list_of (null ∷ null ∷ integer (negsuc 0) ∷ [])
 
@@ -215,37 +225,32 @@ Slices = query_value [] no_pairs
     (record_of ((
       codes "a",
       path
-          (listed (number_literal (codes "0") ∷ number_literal (codes "1") ∷ number_literal (codes "2")
-          ∷ number_literal (codes "3") ∷ []))
+          zero_to_three
           (slice (number_literal (codes "1")) (number_literal (codes "2")) true ∷ []),
     )
     ∷ (
       codes "b",
       path
-          (listed (number_literal (codes "0") ∷ number_literal (codes "1") ∷ number_literal (codes "2")
-          ∷ number_literal (codes "3") ∷ []))
-          (slice (number_literal (codes "1")) (prefix (front.Minus ∷ []) (number_literal (codes "1")))
+          zero_to_three
+          (slice (number_literal (codes "1")) (negative (codes "1"))
           false ∷ []),
     )
     ∷ (
       codes "c",
       path
-          (listed (number_literal (codes "0") ∷ number_literal (codes "1") ∷ number_literal (codes "2")
-          ∷ number_literal (codes "3") ∷ []))
-          (slice (prefix (front.Minus ∷ []) (number_literal (codes "2"))) (number_literal (codes "9"))
+          zero_to_three
+          (slice (negative (codes "2")) (number_literal (codes "9"))
           true ∷ []),
     ) ∷ (
       codes "d",
       path
-          (listed (number_literal (codes "0") ∷ number_literal (codes "1") ∷ number_literal (codes "2")
-          ∷ number_literal (codes "3") ∷ []))
-          (bracket (prefix (front.Minus ∷ []) (number_literal (codes "1"))) ∷ []),
+          zero_to_three
+          (bracket (negative (codes "1")) ∷ []),
     )
     ∷ (
       codes "e",
       path
-          (listed (number_literal (codes "0") ∷ number_literal (codes "1") ∷ number_literal (codes "2")
-          ∷ number_literal (codes "3") ∷ [])) (bracket (number_literal (codes "9")) ∷ []),
+          zero_to_three (bracket (number_literal (codes "9")) ∷ []),
     )
     ∷ (
       codes "f",

@@ -1,15 +1,17 @@
 -- The laws of values and of what is looked up, for all expressions, also those that no text spells.
-use Rattle.std.specs.Prelude.{◌≡◌, IsTrue, Bool, List, [], ◌∷◌, Contains, IsPermutation, IsSorted}
+use Rattle.std.specs.Prelude.{◌≡◌, ℕ, IsTrue, Bool, List, [], ◌∷◌, Contains, IsPermutation, IsSorted}
 use Rattle.std.specs.List.Sorted.{IsStable}
 use Rattle.cs_value.specs.Tree.{Tree, null, Pairs}
 use Rattle.cs_syntax.specs.Expression.{Expression, Steps}
+use Rattle.cs_syntax.specs.Functions.{arity_of}
 use Rattle.cs_view.specs.Keys.{has, Sel}
 use Rattle.cs_view.specs.declared.key.Key.{Key}
 use Rattle.cs_plan.specs.Filters.{key_in}
 use Rattle.cs_plan.specs.Simple.{is_quiet, is_simple, query_key}
+use Rattle.cs_meaning.specs.Callees.{arity_taken}
 use Rattle.cs_meaning.specs.Hits.{hits, tail}
 use Rattle.cs_meaning.specs.Looked.{looked, query_looked}
-use Rattle.cs_meaning.specs.Operators.{is_true}
+use Rattle.cs_meaning.specs.Operators.{is_true, callee}
 use Rattle.cs_meaning.specs.Ordered.{Ranked, ranks, sorted}
 use Rattle.cs_meaning.specs.Values.{value, rest_value, query_value}
 
@@ -67,3 +69,8 @@ abbrev pub RestKeepsNull : Type 0
 RestKeepsNull =
     (params : Pairs) (scope docs : List Tree) (ss : Steps)
     → rest_value docs params ss scope null ≡ null
+
+-- A name is that of a function that a query may call exactly where evaluation has the function, and
+-- both take the same arguments.
+abbrev pub FunctionsAreEvaluated : Type 0
+FunctionsAreEvaluated = (name : List ℕ) → arity_of name ≡ arity_taken (callee name)

@@ -1,3 +1,4 @@
+pub mod Callees
 pub mod Examples
 pub mod Hits
 pub mod Joining

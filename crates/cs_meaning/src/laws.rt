@@ -1,6 +1,6 @@
 //! What values and look-ups have in common over all expressions, those that no text spells among
 //! them. The functions do nothing: each is there for its clause.
-ghost use Rattle.cs_meaning.specs.Laws.{LookedSettlesValue, TrueHasKey, SimpleLooksUpItsKey, SimpleIsTailOfHits, RestKeepsNull, QuietAsksNothing, HitsHaveKey, SortedInOrder, SortedInOneWay};
+ghost use Rattle.cs_meaning.specs.Laws.{LookedSettlesValue, TrueHasKey, SimpleLooksUpItsKey, SimpleIsTailOfHits, RestKeepsNull, QuietAsksNothing, HitsHaveKey, FunctionsAreEvaluated, SortedInOrder, SortedInOneWay};
 
 use cs_ops::total_is_a_preorder;
 
@@ -40,6 +40,12 @@ pub fn hits_have_key()
 /// A rest of a chain gives null of null.
 pub fn rest_keeps_null()
     ensures { RestKeepsNull }
+{}
+
+/// A query may call a function by a name exactly where evaluation has a function of that name, and
+/// both take the same arguments.
+pub fn functions_are_evaluated()
+    ensures { FunctionsAreEvaluated }
 {}
 
 /// `order` gives the one list that has the same elements, ascends by their keys under the total

@@ -1,28 +1,37 @@
 -- Which brackets are filters.
-use Rattle.std.proofs.Common.{◌≡◌, sym, ap, ◌∙◌, ℕ, List, [], ◌∷◌, map, refl, rules, Vec, Box, Global, false, not}
-use Rattle.cs_syntax.specs.Expression.{Expression, everything, number_literal, prefix, chain, steps_of}
-use Rattle.cs_syntax.specs.Brackets.{is_number}
+use Rattle.std.proofs.Common.{◌≡◌, sym, ap, ◌∙◌, List, [], ◌∷◌, map, refl, rules, Vec, Box, Global, not}
+use Rattle.std.specs.Prelude.{◌&&◌}
+use Rattle.cs_syntax.specs.Expression.{Expression, everything, number_literal, text_literal, prefix, chain, steps_of}
+use Rattle.cs_syntax.specs.Brackets.{is_position, is_text}
 use Rattle.cs_syntax.specs.View.{expression, step}
 use Rattle.cs_syntax.specs.declared.tree.PreSign.TheVariants as sign
 use Rattle.cs_syntax.specs.declared.tree.Expr.{Expr, the_lemmas}
 use Rattle.cs_syntax.specs.declared.tree.Expr as code
 use Rattle.cs_syntax.specs.declared.tree.Step.{Step as CodeStep}
 use Rattle.cs_plan.specs.Steps.{bracketed}
-use Rattle.cs_syntax.proofs.Views.{expression_chain}
+use Rattle.cs_syntax.proofs.Views.{chain_parts}
 use Rattle.cs_plan.specs.Simple.{is_condition, is_simple, is_simple_rest}
 
-pub number_condition : (n : List ℕ) → is_condition (bracketed (number_literal n)) ≡ false
-number_condition n = refl
-
-pub negative_condition : (e : Expression) → is_condition (bracketed (prefix (sign.Minus ∷ []) e)) ≡ not (is_number e)
-negative_condition (number_literal n) = refl
-negative_condition _ = refl
+-- a bracket is a filter where it is neither an element nor an attribute
+pub neither_position_nor_text : (e : Expression)
+    → is_condition (bracketed e) ≡ not (is_position e) && not (is_text e)
+neither_position_nor_text (number_literal n) = refl
+neither_position_nor_text (text_literal s) = refl
+neither_position_nor_text (prefix [] e) = refl
+neither_position_nor_text (prefix (sign.Minus ∷ []) (number_literal n)) = refl
+neither_position_nor_text (prefix (sign.Minus ∷ []) _) = refl
+neither_position_nor_text (prefix (sign.Minus ∷ p ∷ ps) e) = refl
+neither_position_nor_text (prefix (sign.Plus ∷ ps) e) = refl
+neither_position_nor_text (prefix (sign.Not ∷ ps) e) = refl
+neither_position_nor_text _ = refl
 
 expression_all : expression code.All ≡ everything
 unfolding expression
 expression_all = search (rules, the_lemmas)
 
-pub simple_chain : (e : Expr) (base : Box Expr Global) (v : Vec CodeStep Global) (b : Expr) (ss : List CodeStep) → e ≡ code.Chain base v → b ≡ base.value → b ≡ code.All → ss ≡ v.items
+pub simple_chain : (e : Expr) (base : Box Expr Global) (v : Vec CodeStep Global) (b : Expr)
+    (ss : List CodeStep) → e ≡ code.Chain base v → b ≡ base.value → b ≡ code.All → ss ≡ v.items
     → is_simple_rest (steps_of (map step ss)) ≡ is_simple (expression e)
-simple_chain e base v b ss is there all same = sym (ap is_simple (ap expression is ∙ (expression_chain base v
-    ∙ (ap (λ (x : Expr). chain (expression x) (steps_of (map step v.items))) (sym there ∙ all) ∙ (ap (λ x. chain x (steps_of (map step v.items))) expression_all ∙ ap (λ (x : List CodeStep). chain everything (steps_of (map step x))) (sym same))))))
+simple_chain e base v b ss is there all same =
+    sym (ap is_simple (chain_parts e base v b ss is there same
+    ∙ ap (λ x. chain x (steps_of (map step ss))) (ap expression all ∙ expression_all)))

@@ -9,10 +9,11 @@ use Rattle.cs_syntax.specs.declared.tree.Expr as code
 use Rattle.cs_plan.specs.Steps.{in_scope}
 use Rattle.cs_syntax.proofs.Views.{chain_parts, expression_up}
 use Rattle.std.specs.Str.{bytes_eq}
-use Rattle.std.specs.Prelude.{if◌then◌else◌, codes, Bool, true, false, cond, ℤ, pos, neg_ℤ, ◌||◌}
+use Rattle.std.specs.Option.{option_map_or}
+use Rattle.std.specs.Prelude.{if◌then◌else◌, codes, Bool, true, false, cond, ℤ, pos, neg_ℤ}
 use Rattle.cs_value.specs.Tree.{Tree, Pairs, null, integer}
 use Rattle.cs_ops.specs.Arithmetic.{number, is_whole}
-use Rattle.cs_syntax.specs.Numbers.{whole_number, has_exponent, has_fraction}
+use Rattle.cs_syntax.specs.Numbers.{written_number}
 use Rattle.cs_ops.specs.Operators as operators
 use Rattle.cs_ops.specs.declared.op.Pre.TheVariants.{Minus}
 use Rattle.cs_syntax.specs.declared.tree.PreSign.{PreSign}
@@ -22,11 +23,11 @@ use Rattle.cs_syntax.specs.Expression.{Expression, number_literal, prefix, run, 
 use Rattle.cs_syntax.specs.Functions.{without_global}
 use Rattle.cs_view.specs.declared.key.Key.TheVariants.{Ref}
 use Rattle.cs_plan.specs.Steps.{field, name_of, names_of}
-use Rattle.cs_plan.specs.Constants.{constant, scalar_of, literal, fields}
+use Rattle.cs_plan.specs.Constants.{constant, scalar_of, literal, at_names}
 use Rattle.cs_plan.specs.Filters.{reference_key, scalar_text, conjunct_key, equality_key}
-use Rattle.cs_plan.specs.Parts.{number_scalar, scalar_at, negative_of, sole, sole_equal}
+use Rattle.cs_plan.specs.Parts.{number_scalar, scalar_at, negative_of, sole_argument, sole_equal}
 
-more : (name : Option (List ℕ)) (names : Option (List (List ℕ))) (v : Tree) → option_and_then (λ ns. scalar_of (fields ns v)) (option_and_then (λ n. option_map (λ ns. n ∷ ns) names) name) ≡ option_and_then (λ n. option_and_then (λ ns. scalar_of (fields ns (field n v))) names) name
+more : (name : Option (List ℕ)) (names : Option (List (List ℕ))) (v : Tree) → option_and_then (λ ns. scalar_of (at_names ns v)) (option_and_then (λ n. option_map (λ ns. n ∷ ns) names) name) ≡ option_and_then (λ n. option_and_then (λ ns. scalar_of (at_names ns (field n v))) names) name
 more None names v = refl
 more (Some n) None v = refl
 more (Some n) (Some ns) v = refl
@@ -41,12 +42,14 @@ one_number false n = refl
 some_number : (n : ℤ) → number_scalar (number n) ≡ scalar_of (number n)
 some_number n = one_number (is_whole n) n
 
-or_null : (b : Bool) (v : Tree) → number_scalar v ≡ scalar_of v → number_scalar (cond b null v) ≡ scalar_of (cond b null v)
-or_null true v is = refl
-or_null false v is = is
+number_or_null : (o : Option ℕ)
+    → number_scalar (option_map_or (λ k. integer (pos k)) o null)
+    ≡ scalar_of (option_map_or (λ k. integer (pos k)) o null)
+number_or_null None = refl
+number_or_null (Some k) = refl
 
 pub literal_number : (n : List ℕ) → number_scalar (literal n) ≡ scalar_of (literal n)
-literal_number n = or_null (has_exponent n || has_fraction n) (number (pos (whole_number n))) (some_number (pos (whole_number n)))
+literal_number n = number_or_null (written_number n)
 
 pub negative_number : (v : Tree) → number_scalar (operators.prefix Minus v) ≡ scalar_of (operators.prefix Minus v)
 negative_number (integer n) = some_number (neg_ℤ n)
@@ -60,7 +63,7 @@ constant_prefix (sign.Minus ∷ q ∷ ps) e scope params = refl
 constant_prefix (sign.Plus ∷ ps) e scope params = refl
 constant_prefix (sign.Not ∷ ps) e scope params = refl
 
-pub reference_sole : (name : List ℕ) (xs : Arguments) (scope : List Tree) (params : Pairs) → reference_key name xs scope params ≡ option_and_then (λ e. if bytes_eq (without_global name) (codes "references") then option_map Ref (option_and_then scalar_text (constant e scope params)) else None) (sole xs)
+pub reference_sole : (name : List ℕ) (xs : Arguments) (scope : List Tree) (params : Pairs) → reference_key name xs scope params ≡ option_and_then (λ e. if bytes_eq (without_global name) (codes "references") then option_map Ref (option_and_then scalar_text (constant e scope params)) else None) (sole_argument xs)
 reference_sole name no_arguments scope params = refl
 reference_sole name (more_arguments (argument c) no_arguments) scope params = refl
 reference_sole name (more_arguments (argument c) (more_arguments y ys)) scope params = refl

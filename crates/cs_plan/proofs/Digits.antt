@@ -1,7 +1,5 @@
 -- A number that is read digit by digit never falls.
-use Rattle.std.proofs.Common.{◌≡◌, None, ℕ, suc, ◌+◌, ◌-◌, ◌*◌, ◌<◌, ◌≤◌, List, [], ◌∷◌, length, get_or, drop, arith, drop-cons}
-use Rattle.std.proofs.lemmas.Grind.{common_steps}
-use Rattle.cs_plan.specs.Parts.{fitting}
+use Rattle.std.proofs.Common.{ℕ, suc, ◌+◌, ◌-◌, ◌*◌, ◌<◌, ◌≤◌, List, [], ◌∷◌, length, get_or, drop, arith, drop-cons}
 use Rattle.std.specs.Prelude.{fold}
 
 -- the number with one more digit behind it
@@ -14,6 +12,3 @@ grows n (d ∷ ds) = omega (arith, grows (next n d) ds)
 
 pub passes : (most n i : ℕ) (digits : List ℕ) → i < length digits → most < next n (get_or digits i 0) → most < fold next n (drop i digits)
 passes most n i digits inside above = rw (drop-cons digits i 0) (omega (arith, grows (next n (get_or digits i 0)) (drop (suc i) digits)))
-
-pub too_wide : (n : ℕ) → 9223372036854775807 < n → None ≡ fitting n
-too_wide n h = grind (arith, common_steps)

@@ -4,3 +4,4 @@ pub mod ConstantParts
 pub mod Digits
 pub mod Levels
 pub mod PathNames
+pub mod Sets

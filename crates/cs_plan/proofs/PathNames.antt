@@ -1,6 +1,7 @@
 -- The names of steps.
 use Rattle.std.proofs.lemmas.Grind.{common_steps}
 use Rattle.std.proofs.Common.{◌≡◌, ℕ, ◌<◌, ◌+◌, sym, ◌∙◌, append_assoc, length-append, List, [], ◌∷◌, ◌++◌, map, length, Option, Some, None, option_map, option_and_then, refl, ap, arith, true, false, true≢false, suc, ◌≤◌, is_some}
+use Rattle.std.proofs.lemmas.List.{length-map}
 use Rattle.cs_syntax.specs.Expression.{Step, Steps, more_steps, steps_of}
 use Rattle.cs_syntax.specs.declared.tree.Step.{Step as CodeStep}
 use Rattle.cs_syntax.specs.View.{step}
@@ -15,9 +16,6 @@ use Rattle.std.specs.Str.{bytes_eq}
 use Rattle.cs_plan.specs.Filters.{few, path_of, is_id_path}
 use Rattle.cs_plan.specs.Parts.{path_names}
 use Rattle.cs_syntax.proofs.Views.{chain_parts, expression_word}
-
-pub names_of_more : (s : Step) (ss : Steps) → names_of (more_steps s ss) ≡ option_and_then (λ name. option_map (λ names. name ∷ names) (names_of ss)) (name_of s)
-names_of_more s ss = refl
 
 both_named : (name : Option (List ℕ)) (names : Option (List (List ℕ))) → is_some (option_and_then (λ n. option_map (λ ns. n ∷ ns) names) name) ≡ is_some name && is_some names
 both_named None names = refl
@@ -50,12 +48,8 @@ many : (front : List (List ℕ)) (ss : List Step) → 4 < length front + length 
 many front [] long = not_few (front ++ []) (omega (arith, length-append front []))
 many front (s ∷ ss) long = behind front (names_of (steps_of ss)) (name_of s) (λ n. many (front ++ n ∷ []) ss (omega (arith, length-append front (n ∷ []))))
 
-as_many : {A B : Type 0} (f : A → B) (xs : List A) → length (map f xs) ≡ length xs
-as_many f [] = refl
-as_many f (x ∷ xs) = omega (arith, as_many f xs)
-
 pub too_many : (name : List ℕ) (ss : List CodeStep) → 3 < length ss → None ≡ option_and_then (λ names. few (name ∷ names)) (names_of (steps_of (map step ss)))
-too_many name ss long = sym (many (name ∷ []) (map step ss) (omega (arith, as_many step ss)))
+too_many name ss long = sym (many (name ∷ []) (map step ss) (omega (arith, length-map ss step)))
 
 one_more : (name : Option (List ℕ)) (names : Option (List (List ℕ))) (n : ℕ) → length (unwrap_or names []) ≤ n
     → length (unwrap_or (option_and_then (λ a. option_map (λ ns. a ∷ ns) names) name) []) ≤ suc n
@@ -76,7 +70,7 @@ all_few w (Some ns) short is = sym (is_few (w ∷ ns) (omega (arith, short)))
 
 pub few_names : (w : List ℕ) (ss : List CodeStep) → length ss ≤ 3 → is_some (names_of (steps_of (map step ss))) ≡ true
     → Some (path_names w (steps_of (map step ss))) ≡ option_and_then (λ names. few (w ∷ names)) (names_of (steps_of (map step ss)))
-few_names w ss short is = all_few w (names_of (steps_of (map step ss))) (omega (arith, as_many step ss, no_more (map step ss))) is
+few_names w ss short is = all_few w (names_of (steps_of (map step ss))) (omega (arith, length-map ss step, no_more (map step ss))) is
 
 unnamed : (w : List ℕ) (o : Option (List (List ℕ))) → is_some o ≡ false → None ≡ option_and_then (λ names. few (w ∷ names)) o
 unnamed w None is = refl

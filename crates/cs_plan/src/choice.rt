@@ -48,7 +48,7 @@ fn all_and(rest: &[(BinSign, Expr)]) -> bool
 
 // The best of the key so far and those that the conjuncts of the filter give.
 #[cycle(best)]
-#[tactic(auto, using(crate::proofs::Choices::keys_of_run, crate::proofs::Choices::keys_of_other, crate::proofs::Choices::fold_given, crate::proofs::Choices::fold_one, cs_syntax::proofs::Views::expression_run), unfolding(cs_syntax::specs::View::expression))]
+#[tactic(auto, using(crate::proofs::Sets::best), unfolding(cs_syntax::specs::View::expression))]
 fn best<'f>(
     so_far: LentKey<'f>,
     expr: &'f Expr,
@@ -73,7 +73,7 @@ fn best<'f>(
 }
 
 #[cycle(best)]
-#[tactic(auto, using(crate::proofs::Choices::fold_given), unfolding(cs_syntax::specs::View::operands))]
+#[tactic(auto, using(crate::proofs::Sets::best), unfolding(cs_syntax::specs::View::operands))]
 fn best_of_operands<'f>(
     so_far: LentKey<'f>,
     rest: &'f [(BinSign, Expr)],

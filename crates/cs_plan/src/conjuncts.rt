@@ -2,10 +2,9 @@
 ghost use Rattle.std.specs.Prelude.{◌≡◌, map, option_map};
 ghost use Rattle.cs_plan.specs.Constants.{constant};
 ghost use Rattle.cs_plan.specs.Filters.{path_of, equals_key, of_both, equality_key, element_key, reference_key, conjunct_key};
-ghost use Rattle.cs_plan.specs.Parts.{sole, sole_equal};
+ghost use Rattle.cs_plan.specs.Parts.{sole_argument, sole_equal};
 ghost use Rattle.cs_plan.specs.Lent.{key_lent, scalar_lent};
 ghost use Rattle.cs_syntax.specs.Expression.{arguments_of, operands_of};
-ghost use Rattle.cs_syntax.specs.Functions.{without_global};
 ghost use Rattle.cs_syntax.specs.View.{expression, arg as argument_of, operands};
 ghost use Rattle.cs_value.specs.View.{fields};
 ghost use Rattle.cs_view.specs.Scopes.{scope as values_of};
@@ -13,7 +12,7 @@ ghost use Rattle.cs_view.specs.Scopes.{scope as values_of};
 use crate::constants::constant;
 use crate::lent::{LentKey, LentScalar};
 use crate::paths::{LentNames, path_of};
-use cs_syntax::{Arg, BinSign, Expr};
+use cs_syntax::{Arg, BinSign, Expr, without_global};
 use cs_value::Fields;
 use cs_view::Scope;
 
@@ -81,22 +80,11 @@ fn element<'f>(
     Some(LentKey::Elem(names, scalar))
 }
 
-fn without_global(name: &str) -> &[u8]
-    ensures { result.now ≡ without_global name.now }
-{
-    let bytes = name.as_bytes();
-    if bytes.starts_with("global::".as_bytes()) {
-        &bytes[8..]
-    } else {
-        bytes
-    }
-}
-
 // The one argument of a call, where it has one alone and without `=>`.
 #[tactic(auto, unfolding(cs_syntax::specs::View::arg, cs_syntax::specs::View::expression))]
-fn sole(args: &[Arg]) -> Option<&Expr>
+fn sole_argument(args: &[Arg]) -> Option<&Expr>
     ensures { option_map (λ e. expression e.now) result
-        ≡ sole (arguments_of (map argument_of args.now)) }
+        ≡ sole_argument (arguments_of (map argument_of args.now)) }
 {
     let (first, others) = args.split_first()?;
     if let Some(_) = others.split_first() {
@@ -120,7 +108,7 @@ fn reference<'f>(
         ≡ reference_key name.now (arguments_of (map argument_of args.now))
         (values_of scope.now) (fields params.now) }
 {
-    let target = sole(args)?;
+    let target = sole_argument(args)?;
     if without_global(name) != "references".as_bytes() {
         return None;
     }
@@ -147,7 +135,7 @@ fn sole_equal(rest: &[(BinSign, Expr)]) -> Option<&Expr>
 }
 
 /// The key that a conjunct gives, if it gives one.
-#[tactic(auto, using(crate::proofs::ConstantParts::conjunct_run, cs_syntax::proofs::Views::expression_run, cs_syntax::proofs::Views::expression_call), unfolding(cs_syntax::specs::View::expression, cs_syntax::specs::View::operands, cs_syntax::specs::View::arg))]
+#[tactic(auto, using(crate::proofs::Sets::conjunct), unfolding(cs_syntax::specs::View::expression))]
 pub(crate) fn conjunct<'f>(
     expr: &'f Expr,
     scope: &Scope<'f>,

@@ -1,12 +1,11 @@
 //! Constants: the values that a filter can name before any document is looked at.
-ghost use Rattle.std.specs.Prelude.{◌≡◌, map, option_map, unwrap_or};
+ghost use Rattle.std.specs.Prelude.{◌≡◌, map, option_map};
 ghost use Rattle.cs_plan.specs.Constants.{constant, scalar_of};
 ghost use Rattle.cs_plan.specs.Parts.{negative_of, number_scalar, scalar_at, value_or_null};
 ghost use Rattle.cs_plan.specs.Lent.{scalar_lent};
 ghost use Rattle.cs_plan.specs.Steps.{field as named_field};
 ghost use Rattle.cs_syntax.specs.Expression.{steps_of};
 ghost use Rattle.cs_syntax.specs.View.{expression, step as step_of};
-ghost use Rattle.cs_value.specs.Tree.{null};
 ghost use Rattle.cs_value.specs.View.{tree, fields};
 ghost use Rattle.cs_view.specs.Scopes.{scope as values_of};
 
@@ -80,7 +79,7 @@ fn at_names<'v>(val: Option<&'v Val>, steps: &[Step]) -> Option<&'v Val>
 
 /// The constant that an expression is, in the scope in which the filter's chain stands: `None`
 /// exactly where it is none.
-#[tactic(auto, using(crate::proofs::ConstantParts::constant_prefix, crate::proofs::ConstantParts::literal_number, crate::proofs::ConstantParts::negative_number, cs_syntax::proofs::Views::expression_chain, cs_syntax::proofs::Views::expression_prefix), unfolding(cs_syntax::specs::View::expression))]
+#[tactic(auto, using(crate::proofs::Sets::constant), unfolding(cs_syntax::specs::View::expression))]
 pub(crate) fn constant<'f>(
     expr: &'f Expr,
     scope: &Scope<'f>,

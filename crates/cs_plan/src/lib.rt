@@ -14,8 +14,9 @@ mod steps;
 mod tails;
 
 pub use choice::choose;
-pub use numbers::literal;
+pub use numbers::{literal, whole_number};
 pub use scopes::up;
+pub use steps::text_of;
 pub use tails::simple;
 
 #[cfg(test)]

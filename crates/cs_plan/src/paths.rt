@@ -41,7 +41,7 @@ impl<'f> Model for LentNames<'f> {
 impl<'f> LentNames<'f> {
     /// The path of a word and the steps behind it: `None` exactly where one of these is no name,
     /// or where they are more than three.
-    #[tactic(auto, using(crate::proofs::PathNames::few_names, crate::proofs::PathNames::no_names, crate::proofs::PathNames::too_many))]
+    #[tactic(auto, using(crate::proofs::Sets::names))]
     fn of(word: &'f Txt, steps: &'f [Step]) -> Option<LentNames<'f>>
         ensures { result
             ≡ option_and_then (λ names. few (word.now ∷ names))
@@ -93,7 +93,7 @@ fn copied_names(alloc: Global, word: &Txt, steps: &[Step]) -> Result<Names, NoMe
 }
 
 /// The attribute path that an expression is: a word and at most three steps `.w` or `["w"]`.
-#[tactic(auto, using(cs_syntax::proofs::Views::expression_chain), unfolding(cs_syntax::specs::View::expression))]
+#[tactic(auto, unfolding(cs_syntax::specs::View::expression))]
 pub(crate) fn path_of(expr: &Expr) -> Option<LentNames<'_>>
     ensures { result ≡ path_of (expression expr.now) }
 {

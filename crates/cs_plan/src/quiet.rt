@@ -7,7 +7,7 @@ ghost use Rattle.cs_plan.specs.Simple.{is_quiet, quiet_operands, quiet_argument,
 use cs_syntax::{Arg, BinSign, Elem, Entry, Expr, OrderKey, Step};
 
 #[cycle(quiet)]
-#[tactic(auto, using(cs_syntax::proofs::Views::expression_run), unfolding(cs_syntax::specs::View::expression, cs_syntax::specs::View::arg, cs_syntax::specs::View::elem, cs_syntax::specs::View::entry, cs_syntax::specs::View::step, cs_syntax::specs::View::operands))]
+#[tactic(auto, using(crate::proofs::Sets::parts), unfolding(cs_syntax::specs::View::expression))]
 fn is_quiet(expr: &Expr) -> bool
     ensures { result ≡ is_quiet (expression expr.now) }
 {
@@ -111,7 +111,7 @@ fn quiet_entries(entries: &[Entry]) -> bool
 }
 
 #[cycle(quiet)]
-#[tactic(auto, unfolding(cs_syntax::specs::View::step, cs_syntax::specs::View::expression, cs_syntax::specs::View::entry, cs_syntax::specs::View::key))]
+#[tactic(auto, using(crate::proofs::Sets::steps), unfolding(cs_syntax::specs::View::step))]
 pub(crate) fn quiet_step(step: &Step) -> bool
     ensures { result ≡ quiet_step (step_of step.now) }
 {

@@ -1,5 +1,5 @@
 //! The values of a scope.
-ghost use Rattle.std.specs.Prelude.{◌≡◌, ◌∷◌, option_map, slice_get, unwrap_or};
+ghost use Rattle.std.specs.Prelude.{◌≡◌, ◌∷◌, option_map, slice_get};
 ghost use Rattle.cs_plan.specs.Parts.{value_or_null};
 ghost use Rattle.cs_plan.specs.Steps.{in_scope};
 ghost use Rattle.cs_value.specs.Tree.{null};

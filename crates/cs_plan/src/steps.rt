@@ -6,9 +6,9 @@ ghost use Rattle.cs_syntax.specs.View.{expression, step as step_of};
 
 use cs_syntax::{Expr, Step};
 
-// The text that an expression is, if it is one alone.
+/// The text that an expression is, if it is one alone.
 #[tactic(auto, unfolding(cs_syntax::specs::View::expression))]
-fn text_of(expr: &Expr) -> Option<&str>
+pub fn text_of(expr: &Expr) -> Option<&str>
     ensures { option_map (λ s. s.now) result ≡ text_of (expression expr.now) }
 {
     match expr {

@@ -5,35 +5,17 @@ ghost use Rattle.cs_syntax.specs.Queries.{query as expression_of};
 ghost use Rattle.cs_syntax.specs.View.{expression, step as step_of};
 ghost use Rattle.cs_plan.specs.Simple.{is_simple, is_simple_rest, is_filter, is_tail_step, are_tail_steps, is_condition};
 ghost use Rattle.cs_plan.specs.Steps.{bracketed};
-ghost use Rattle.cs_syntax.specs.Brackets.{is_number};
 
 use crate::quiet::{quiet_step, quiet_steps};
-use cs_syntax::{Expr, PreSign, Query, Step};
-
-#[tactic(auto, unfolding(cs_syntax::specs::View::expression))]
-fn is_number(expr: &Expr) -> bool
-    ensures { result ≡ is_number (expression expr.now) }
-{
-    match expr {
-        Expr::Number(_) => true,
-        _ => false,
-    }
-}
+use cs_syntax::{Expr, Query, Step};
 
 // The bracket around this expression is a filter: what is in it is neither a position nor a text
 // alone.
-#[tactic(auto, using(crate::proofs::Conditions::number_condition, crate::proofs::Conditions::negative_condition), unfolding(cs_syntax::specs::View::expression))]
+#[tactic(auto, using(crate::proofs::Conditions::neither_position_nor_text))]
 fn is_condition(expr: &Expr) -> bool
     ensures { result ≡ is_condition (bracketed (expression expr.now)) }
 {
-    match expr {
-        Expr::Number(_) | Expr::Text(_) => false,
-        Expr::Prefix { signs, operand } => match signs.as_slice() {
-            [PreSign::Minus] => !is_number(operand),
-            _ => true,
-        },
-        _ => true,
-    }
+    !expr.is_position() && !expr.is_text()
 }
 
 #[tactic(auto, unfolding(cs_syntax::specs::View::step, cs_syntax::specs::View::expression))]
@@ -78,7 +60,7 @@ fn is_simple_rest(steps: &[Step]) -> bool
     is_filter(first) && quiet_step(first) && are_tail_steps(later) && quiet_steps(later)
 }
 
-#[tactic(auto, using(cs_syntax::proofs::Views::expression_chain), unfolding(cs_syntax::specs::View::expression))]
+#[tactic(auto, unfolding(cs_syntax::specs::View::expression))]
 fn is_simple(expr: &Expr) -> bool
     ensures { result ≡ is_simple (expression expr.now) }
 {

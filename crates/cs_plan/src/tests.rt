@@ -1,7 +1,7 @@
 //! The keys of filters that were worked out by hand.
 use super::*;
 use cs_syntax::{Arg, BinSign, Expr, PreSign, Step};
-use cs_value::{Fields, NoMemory, Txt, Val};
+use cs_value::{Fields, Txt, Val};
 use cs_view::{Key, Names, Scalar, Scope};
 use std::alloc::Global;
 use std::test::Fail;
