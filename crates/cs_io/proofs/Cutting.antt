@@ -1,9 +1,11 @@
 -- Lines are given the same way however their bytes are cut.
-use Rattle.std.proofs.Common.{◌≡◌, ◌≢◌, ◌∙◌, refl, ℕ, List, [], ◌∷◌, ◌++◌, take, length, get_or, ◌+◌, ◌<◌, ◌≤◌, suc, append_assoc, arith, length-append}
+use Rattle.std.proofs.Common.{◌≡◌, ◌≢◌, ◌∙◌, refl, ap, ℕ, zero, Option, Some, None, true, ◌==◌, eqb-true, List, [], ◌∷◌, ◌++◌, take, length, get_or, ◌+◌, ◌<◌, ◌≤◌, suc, append_assoc, arith, length-append}
 use Rattle.std.proofs.Common.{inl, inr}
 use Rattle.std.proofs.lemmas.List.{take_more, append-nil}
 use Rattle.std.proofs.lemmas.Bool.Decides.{nat_tests}
 use Rattle.std.proofs.lemmas.Bool.{cases_eq}
+use Rattle.std.specs.Prelude.{unwrap_or}
+use Rattle.memchr.specs.Find.{IsFirstByte, is_byte}
 use Rattle.cs_io.specs.Lines.{IsPlain, feed, More, LineTooLong, SourceTooMuch, longest_line, largest_source}
 
 pub IsPlain-append : (xs ys : List ℕ) → IsPlain xs → IsPlain ys → IsPlain (xs ++ ys)
@@ -12,6 +14,22 @@ IsPlain-append (x ∷ xs) ys h k = (h.0, IsPlain-append xs ys h.1 k)
 
 pub IsPlain-more : (xs : List ℕ) (i : ℕ) → i < length xs → IsPlain (take i xs) → get_or xs i 0 ≢ 10 → IsPlain (take (i + 1) xs)
 IsPlain-more xs i l h k = rw (take_more xs i 0 l) (IsPlain-append (take i xs) (get_or xs i 0 ∷ []) h (k, tt))
+
+plain_up_to : (xs : List ℕ) (n : ℕ) → n ≤ length xs → ((k : ℕ) → 0 ≤ k → k < n → ¬ ((get_or xs k 0 == 10) ≡ true)) → IsPlain (take n xs)
+plain_up_to xs zero le h = tt
+plain_up_to [] (suc n) le h = tt
+plain_up_to (x ∷ xs) (suc n) le h =
+    ((λ e. h 0 (omega arith) (omega arith) (rw e refl)), plain_up_to xs n (omega arith) (λ k _ below. h (suc k) (omega arith) (omega arith)))
+
+-- the place of the first newline, or the end
+pub plain_before : (xs : List ℕ) (found : Option ℕ) (end : ℕ) → IsFirstByte (is_byte 10) xs found → end ≡ unwrap_or found (length xs)
+    → (end ≤ length xs) × IsPlain (take end xs) × (end < length xs → get_or xs end 0 ≡ 10)
+plain_before xs None end h e =
+    let le : end ≤ length xs = omega (arith, e) in
+    (le, plain_up_to xs end le (λ k low high. h k low (omega (arith, e))), λ below. absurd (omega (arith, e)))
+plain_before xs (Some k) end h e =
+    let le : end ≤ length xs = omega (arith, e, h.0.high) in
+    (le, plain_up_to xs end le (λ j low high. h.0.before j low (omega (arith, e))), λ below. ap (λ i. get_or xs i 0) e ∙ eqb-true (get_or xs k 0) 10 h.1)
 
 -- one step of a feed, by its cases
 pub feed_newline : (n t : ℕ) (line rest : List ℕ) (b : ℕ) → b ≡ 10 → t ≢ largest_source → feed n t line (b ∷ rest) ≡ More n line (feed (n + 1) (t + 1) [] rest)

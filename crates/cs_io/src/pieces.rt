@@ -3,6 +3,8 @@ ghost use Rattle.std.specs.Prelude.{◌≡◌, ◌<◌, ◌≤◌, length, slice
 ghost use Rattle.cs_io.specs.Lines.{IsPlain, longest_line, largest_source};
 ghost use Rattle.cs_io.specs.Parts.{Takes};
 
+use memchr::memchr;
+
 /// The most bytes that a line has, its newline not counted.
 pub const LONGEST_LINE: usize = 16_777_216;
 
@@ -32,12 +34,7 @@ fn line_end(piece: &[u8]) -> usize
     ensures plain { IsPlain (take result piece.now) }
     ensures found { result < length piece.now → slice_index piece.now result ≡ 10 }
 {
-    for (i, byte) in piece.iter().enumerate() {
-        if *byte == b'\n' {
-            return i;
-        }
-    }
-    piece.len()
+    memchr(b'\n', piece).unwrap_or(piece.len())
 }
 
 // Adds to the line under way what the piece has of it. `taken` counts the bytes of the source

@@ -4,13 +4,14 @@
 mod convert;
 mod de;
 mod depth;
+mod direct;
 mod node;
 mod send;
 mod ser;
 #[cfg(test)]
 mod tests;
 
-pub use de::read;
+pub use de::{ValueReader, read};
 pub use node::{Member, Node};
 pub use ser::{write, write_node};
 use std::alloc::{AllocError, AllocFailed};

@@ -95,6 +95,14 @@ impl Doc {
         }
     }
 
+    /// The document that the value is, where the caller knows that it is one.
+    pub fn of(val: Val) -> Doc
+        requires { is_document (tree val) ≡ true }
+        ensures { doc result ≡ tree val }
+    {
+        Doc { val }
+    }
+
     /// The document as a value.
     pub fn val(&self) -> &Val
         ensures { tree result.now ≡ doc self.now }

@@ -1,0 +1,142 @@
+use Rattle.std.proofs.Common.{rules, ◌≡◌, ◌<◌, ◌-◌, length, Some, None, [], ◌∷◌, ◌++◌, sym, ap, ◌∙◌, subst, arith, to_z-of_z, option_map}
+use Rattle.std.proofs.lemmas.List.{map-append}
+use Rattle.std.specs.Prelude.{IsUtf8}
+use Rattle.json.specs.Token.{Token}
+use Rattle.json.specs.Json.{parse_map, after_end_array, read_key, value, items as items_of, members as members_of}
+use Rattle.json.specs.Reads.{token_of}
+use Rattle.json.proofs.Grammar.{value_is, value-begin_array, value-begin_object, read_key-shorter}
+use Rattle.serde_json.specs.Read.{converted}
+use Rattle.cs_value.specs.Tree.{null, boolean, integer, text, list, object, trees, no_pairs}
+use Rattle.cs_value.specs.View.{tree, list_tree}
+use Rattle.cs_value.specs.declared.val.Val.{Null, Bool, Num, Text, List', Obj', the_lemmas}
+use Rattle.cs_value.specs.declared.val.Val as val
+use Rattle.cs_value.proofs.Views.{tree-List, tree-Obj}
+use Rattle.cs_json.specs.Direct.{made, made_items, named, named_trees, put_all, Fits, AllFit, NamedFit}
+use Rattle.cs_json.proofs.Tokens.{before, ok_pushed, ok_holds, same_items, item_read, items_over, member_read, members_over, made-array, made-object, AllFit-push, NamedFit-push, list_fits, object_fits}
+use Rattle.cs_json.proofs.direct.+read.Goals as goal
+
+pub read_items-items-preserved : goal.read_items-items-preserved
+read_items-items-preserved t c =
+    let p = value c.args.levels in
+    let l = c.items in
+    let n = l.invariant.0 in
+    let r = c.read_value.new.reader in
+    let v = c.in_ok-item.item in
+    let done = c.in_ok-item.ensures in
+    let going : (after_end_array l.reader ≡ None) × (c.take_end_array.new.self ≡ l.reader) = grind arith in
+    let less : length r < length l.reader = rw (← going.1) done.shorter in
+    let items = ok_pushed c.push.result c.in_ok-ok.field-0 c.push.new.self.items (l.found.items ++ v ∷ []) l.found.items c.in_ok-ok.ensures.value c.push.ensures.items in
+    let pushed : list_tree l.found.items ++ tree v ∷ [] ≡ list_tree c.push.new.self.items = sym (ap list_tree items ∙ map-append tree l.found.items (v ∷ [])) in
+    let all = converted made_items (items_of p (length c.args.reader.now) c.args.reader.now) in
+    let turn = item_read p all (list_tree l.found.items) n l.reader r (tree v) (omega (arith, l.invariant.1)) going.0 l.invariant.2 (rw (← going.1) done.value) in (
+      n - 1,
+      omega (arith, l.invariant.1),
+      turn ∙ ap (λ ts. parse_map (before ts) (converted made_items (items_of p (n - 1) r))) pushed,
+      omega (arith, l.invariant.3),
+      subst (AllFit c.args.left) pushed (AllFit-push c.args.left (list_tree l.found.items) (tree v) l.invariant.4 done.fits),
+    )
+
+pub read_items-returns-clause-items : goal.read_items-returns-clause-items
+read_items-returns-clause-items t c =
+    let p = value c.args.levels in
+    let l = c.items in
+    let all = converted made_items (items_of p (length c.args.reader.now) c.args.reader.now) in
+    let r = c.take_end_array.new.self in
+    let over = items_over p all (list_tree l.found.items) l.invariant.0 l.reader r l.invariant.1 c.items-test.ensures l.invariant.2 in
+    same_items c.just_its_size.result l.found.items (λ vs. all ≡ Some (trees (list_tree vs), r)) over c.just_its_size.ensures
+
+pub read_members-members-preserved : goal.read_members-members-preserved
+read_members-members-preserved t c =
+    let p = value c.args.levels in
+    let l = c.members in
+    let n = l.invariant.0 in
+    let k = c.in-Some.name.now in
+    let s = c.next_key.new.self in
+    let r = c.read_value.new.reader in
+    let v = c.in_ok-member.member in
+    let name = c.in_ok-name-2.name in
+    let done = c.in_ok-member.ensures in
+    let is : read_key l.reader ≡ Some (Some k, s) = grind arith in
+    let copied : name ≡ k = ok_holds (λ x. x ≡ k) c.copy_of.result name c.in_ok-name-2.ensures.value c.copy_of.ensures in
+    let less = read_key-shorter l.reader (Some k) s is in
+    let lesser = done.shorter in
+    let items = ok_pushed c.push.result c.in_ok-ok.field-0 c.push.new.self.items (l.found.items ++ (name, v) ∷ []) l.found.items c.in_ok-ok.ensures.value c.push.ensures.items in
+    let pushed : named_trees l.found.items ++ (k, tree v) ∷ [] ≡ named_trees c.push.new.self.items =
+    ap (λ x. named_trees l.found.items ++ (x, tree v) ∷ []) (sym copied) ∙ sym (ap named_trees items ∙ map-append (λ m. (m.0, tree m.1)) l.found.items ((name, v) ∷ [])) in
+    let all = converted named (members_of p (length c.args.reader.now) c.args.reader.now) in
+    let turn = member_read p all (named_trees l.found.items) n k l.reader s r (tree v) (omega (arith, l.invariant.1)) is l.invariant.2 done.value in
+    let utf8 : IsUtf8 k = search rules in (
+      n - 1,
+      omega (arith, l.invariant.1),
+      turn ∙ ap (λ es. parse_map (λ fs. es ++ fs) (converted named (members_of p (n - 1) r))) pushed,
+      omega (arith, l.invariant.3),
+      subst (NamedFit c.args.left) pushed (NamedFit-push c.args.left (named_trees l.found.items) (k, tree v) l.invariant.4 utf8 done.fits),
+    )
+
+pub read_members-returns-clause-members : goal.read_members-returns-clause-members
+read_members-returns-clause-members t c =
+    let p = value c.args.levels in
+    let l = c.members in
+    let all = converted named (members_of p (length c.args.reader.now) c.args.reader.now) in
+    members_over p all (named_trees l.found.items) l.invariant.0 l.reader c.next_key.new.self l.invariant.1 (grind arith) l.invariant.2
+
+pub read_value-returns-in-Null-clause-value : goal.read_value-returns-in-Null-clause-value
+read_value-returns-in-Null-clause-value t c =
+    let first : c.args.reader.now ≡ token_of c.in_ok-token.token ∷ c.next.new.self = grind arith in
+    let is : c.args.reader.now ≡ Token.null ∷ c.next.new.self = grind (arith, first) in
+    let seen : tree (val.Null) ≡ null = search (rules, the_lemmas) in
+    ap (converted made) (ap (value c.args.levels) is ∙ value_is c.args.levels (Token.null ∷ c.next.new.self)) ∙ ap (λ d. Some (d, c.next.new.self)) (sym seen)
+
+pub read_value-returns-in-Bool-clause-value : goal.read_value-returns-in-Bool-clause-value
+read_value-returns-in-Bool-clause-value t c =
+    let first : c.args.reader.now ≡ token_of c.in_ok-token.token ∷ c.next.new.self = grind arith in
+    let is : c.args.reader.now ≡ Token.boolean c.in-Bool.b ∷ c.next.new.self = grind (arith, first) in
+    let seen : tree (val.Bool c.in-Bool.b) ≡ boolean c.in-Bool.b = search (rules, the_lemmas) in
+    ap (converted made) (ap (value c.args.levels) is ∙ value_is c.args.levels (Token.boolean c.in-Bool.b ∷ c.next.new.self)) ∙ ap (λ d. Some (d, c.next.new.self)) (sym seen)
+
+pub read_value-returns-in_ok-whole_number-in-Number-clause-value : goal.read_value-returns-in_ok-whole_number-in-Number-clause-value
+read_value-returns-in_ok-whole_number-in-Number-clause-value t c =
+    let first : c.args.reader.now ≡ token_of c.in_ok-token.token ∷ c.next.new.self = grind arith in
+    let is : c.args.reader.now ≡ Token.number c.in-Number.text.now ∷ c.next.new.self = grind (arith, first) in
+    let n = c.in_ok-whole_number-in-Number in
+    let same = to_z-of_z n.ensures.fits in
+    let seen : tree (val.Num n.field-0) ≡ integer n.field-0 = search (rules, the_lemmas) in
+    ap (converted made) (ap (value c.args.levels) is ∙ value_is c.args.levels (Token.number c.in-Number.text.now ∷ c.next.new.self)) ∙ ap (λ o. option_map (λ d. (d, c.next.new.self)) (option_map integer o)) n.ensures.value
+    ∙ ap (λ d. Some (d, c.next.new.self)) (sym (ap (λ z. tree (val.Num z)) same ∙ seen))
+
+pub read_value-returns-in_ok-ok-in-String-clause-value : goal.read_value-returns-in_ok-ok-in-String-clause-value
+read_value-returns-in_ok-ok-in-String-clause-value t c =
+    let first : c.args.reader.now ≡ token_of c.in_ok-token.token ∷ c.next.new.self = grind arith in
+    let is : c.args.reader.now ≡ Token.string c.in-String.text.now ∷ c.next.new.self = grind (arith, first) in
+    let s = c.in_ok-ok-in-String in
+    let copied : s.field-0 ≡ c.in-String.text.now = ok_holds (λ x. x ≡ c.in-String.text.now) c.copy_of.result s.field-0 s.ensures.value c.copy_of.ensures in
+    let seen : tree (val.Text s.field-0) ≡ text s.field-0 = search (rules, the_lemmas) in
+    ap (converted made) (ap (value c.args.levels) is ∙ value_is c.args.levels (Token.string c.in-String.text.now ∷ c.next.new.self)) ∙ ap (λ d. Some (d, c.next.new.self)) (sym (seen ∙ ap text copied))
+
+pub read_value-returns-in_ok-read_items-in-BeginArray-clause-value : goal.read_value-returns-in_ok-read_items-in-BeginArray-clause-value
+read_value-returns-in_ok-read_items-in-BeginArray-clause-value t c =
+    let first : c.args.reader.now ≡ token_of c.in_ok-token.token ∷ c.next.new.self = grind arith in
+    let is : c.args.reader.now ≡ Token.begin_array ∷ c.next.new.self = grind (arith, first) in
+    let opened = ap (converted made) (ap (value c.args.levels) is ∙ value-begin_array c.args.levels c.next.new.self (omega arith)) ∙ made-array (items_of (value (c.args.levels - 1)) (length c.next.new.self) c.next.new.self) in
+    let found = c.in_ok-read_items-in-BeginArray in
+    opened ∙ ap (parse_map list) found.ensures.items ∙ ap (λ d. Some (d, c.read_items.new.reader)) (sym (tree-List found.field-0))
+
+pub read_value-returns-in_ok-read_items-in-BeginArray-clause-fits : goal.read_value-returns-in_ok-read_items-in-BeginArray-clause-fits
+read_value-returns-in_ok-read_items-in-BeginArray-clause-fits t c =
+    let found = c.in_ok-read_items-in-BeginArray in
+    subst (Fits c.args.left) (sym (tree-List found.field-0)) (list_fits c.args.left (list_tree found.field-0.items) (omega arith) found.ensures.fit)
+
+pub read_value-returns-in_ok-object_of-in-BeginObject-clause-value : goal.read_value-returns-in_ok-object_of-in-BeginObject-clause-value
+read_value-returns-in_ok-object_of-in-BeginObject-clause-value t c =
+    let first : c.args.reader.now ≡ token_of c.in_ok-token.token ∷ c.next.new.self = grind arith in
+    let is : c.args.reader.now ≡ Token.begin_object ∷ c.next.new.self = grind (arith, first) in
+    let opened = ap (converted made) (ap (value c.args.levels) is ∙ value-begin_object c.args.levels c.next.new.self (omega arith)) ∙ made-object (members_of (value (c.args.levels - 1)) (length c.next.new.self) c.next.new.self) in
+    let found = c.in_ok-members-in-BeginObject in
+    let made_of = c.in_ok-object_of-in-BeginObject in
+    opened ∙ ap (parse_map (λ es. object (put_all es no_pairs))) found.ensures.members ∙ ap (λ d. Some (d, c.read_members.new.reader)) (sym (tree-Obj made_of.field-0 ∙ ap object made_of.ensures))
+
+pub read_value-returns-in_ok-object_of-in-BeginObject-clause-fits : goal.read_value-returns-in_ok-object_of-in-BeginObject-clause-fits
+read_value-returns-in_ok-object_of-in-BeginObject-clause-fits t c =
+    let found = c.in_ok-members-in-BeginObject in
+    let made_of = c.in_ok-object_of-in-BeginObject in
+    subst (Fits c.args.left) (sym (tree-Obj made_of.field-0 ∙ ap object made_of.ensures)) (object_fits c.args.left (named_trees found.members.items) (omega arith) found.ensures.fit)
