@@ -20,7 +20,7 @@ ghost use Rattle.cs_machine.specs.State.{begun};
 use crate::blank::is_blank;
 use cs_docs::Docs;
 use cs_io::Line;
-use cs_json::JsonFault;
+use cs_json::{JsonFault, ValueReader};
 use cs_reply::{Refusal, Reply};
 use cs_value::{NoMemory, Steps, Val};
 use cs_wire::{BadCommand, Command, commands_are_within};
@@ -73,6 +73,7 @@ impl Replies {
 #[derive(Drop)]
 pub struct Core {
     pub(crate) alloc: Global,
+    reader: ValueReader,
     pub(crate) docs: Docs,
     pub(crate) used: BTreeSet<String>,
 }
@@ -84,6 +85,7 @@ impl Core {
     {
         Ok(Core {
             alloc,
+            reader: ValueReader::new(alloc),
             docs,
             used: BTreeSet::new(alloc),
         })
@@ -166,7 +168,7 @@ impl Core {
             (heard built_row (state self.old) number (outcome deepest_line line.now))) }
         ensures leaves { OnErr result (Leaves self.old self.new) }
     {
-        match cs_json::read(self.alloc, line, DEEPEST_LINE) {
+        match self.reader.read(line, DEEPEST_LINE) {
             Ok(val) => self.command(val, number, steps, out),
             Err(JsonFault::NotJson) => self.refuse(Refusal::NotJson, number, out),
             Err(JsonFault::TooDeep) => self.refuse(Refusal::TooDeep, number, out),
