@@ -1,5 +1,5 @@
 -- The functions that a query may call are those that evaluation has.
-use Rattle.std.proofs.Common.{◌≡◌, ℕ, suc, ◌<◌, List, [], ◌∷◌, ◌++◌, drop, length, get_or, Bool, true, false, true≢false, Option, Some, None, option_map, refl, sym, ap, ◌∙◌, subst, cond, nat_cmp, rules, arith}
+use Rattle.std.proofs.Common.{◌≡◌, ℕ, suc, List, [], ◌∷◌, ◌++◌, drop, Bool, true, false, Option, Some, None, option_map, refl, sym, ap, ◌∙◌, subst, cond, nat_cmp, rules, arith}
 use Rattle.std.specs.Prelude.{All, codes, find, nat_eq, unwrap_or}
 use Rattle.std.specs.List.{starts_with}
 use Rattle.std.specs.Ordering.{is_eq}

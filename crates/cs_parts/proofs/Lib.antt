@@ -1,9 +1,9 @@
 pub mod Arities
 pub mod DescendingKeys
-pub mod Digits
 pub mod Keys
 pub mod ListPlaces
 pub mod Places
+pub mod Sets
 pub mod Shapes
 pub mod Slices
 pub mod Sorts

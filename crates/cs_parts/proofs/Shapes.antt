@@ -1,5 +1,5 @@
 -- Parts of the leaves' answers.
-use Rattle.std.proofs.Common.{◌≡◌, List, [], ◌∷◌, ◌++◌, refl, ap}
+use Rattle.std.proofs.Common.{◌≡◌, List, [], ◌∷◌, refl, ap}
 use Rattle.cs_value.specs.Tree.{Tree, Pairs}
 use Rattle.cs_value.specs.View.{tree, fields}
 use Rattle.cs_value.specs.declared.val.Val as val
@@ -12,10 +12,6 @@ use Rattle.cs_plan.specs.Steps.{bracketed}
 use Rattle.cs_meaning.specs.Joining.{form, bracket_form}
 use Rattle.cs_meaning.specs.Operators.{spread_into}
 use Rattle.cs_ops.specs.Arithmetic.{merged}
-
-pub reversed : {A : Type 0} → List A → List A
-reversed [] = []
-reversed (x ∷ xs) = reversed xs ++ x ∷ []
 
 pub form_of_bracket : (e : Expression) → form (bracket e) ≡ bracket_form (bracketed e)
 form_of_bracket e = refl

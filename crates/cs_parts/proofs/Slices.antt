@@ -1,6 +1,6 @@
 -- Elements and slices of lists whose elements stand for trees.
 use Rattle.std.proofs.Common.{◌≡◌, ℕ, zero, suc, ◌<◌, ◌≤◌, min, List, [], ◌∷◌, map, length, get_or, drop, take, refl, sym, ap, ◌∙◌, Bool, false, ℤ, arith, Some, None, slice_range, Vec, Global, Result, Ok, Err, IfOk}
-use Rattle.std.proofs.lemmas.List.{drop-map}
+use Rattle.std.proofs.lemmas.List.{drop-map, length-map}
 use Rattle.std.specs.List.{take-map}
 use Rattle.cs_value.specs.Tree.{Tree, null}
 use Rattle.cs_value.specs.View.{tree}
@@ -12,10 +12,6 @@ use Rattle.cs_meaning.specs.Joining.{list_of}
 use Rattle.cs_meaning.specs.Positions.{clamped, counted, behind, elements_between, place_in, element, element_at, sliced}
 use Rattle.cs_parts.proofs.ListPlaces.{element_there, element_gone, placed_inside, between_places, range_of, clamped_inside}
 
-as_many : {A : Type 0} (f : A → Tree) (xs : List A) → length (map f xs) ≡ length xs
-as_many f [] = refl
-as_many f (x ∷ xs) = ap (λ (n : ℕ). suc n) (as_many f xs)
-
 at_map : {A : Type 0} (f : A → Tree) (xs : List A) (i : ℕ) (d : A) → i < length xs → get_or (map f xs) i null ≡ f (get_or xs i d)
 at_map f [] i d h = absurd (omega arith)
 at_map f (x ∷ xs) zero d h = refl
@@ -26,19 +22,19 @@ pub found_there : {A : Type 0} (f : A → Tree) (xs : List A) (n : ℕ) (z : ℤ
     → f x ≡ element_at (map f xs) (counted (length xs) z)
 found_there f xs n z j x is-n h is =
     let there : place_in (length xs) (counted (length xs) z) ≡ Some j = sym (ap (λ (m : ℕ). place_in m (counted m z)) is-n) ∙ h in
-    let mapped_there : place_in (length (map f xs)) (counted (length xs) z) ≡ Some j = ap (λ (m : ℕ). place_in m (counted (length xs) z)) (as_many f xs) ∙ there in
+    let mapped_there : place_in (length (map f xs)) (counted (length xs) z) ≡ Some j = ap (λ (m : ℕ). place_in m (counted (length xs) z)) (length-map xs f) ∙ there in
     ap f is ∙ (sym (at_map f xs j x (placed_inside (length xs) (counted (length xs) z) j there)) ∙ sym (element_there (map f xs) (counted (length xs) z) j mapped_there))
 
 pub none_there : {A : Type 0} (f : A → Tree) (xs : List A) (n : ℕ) (z : ℤ) → n ≡ length xs → place_in n (counted n z) ≡ None → null ≡ element_at (map f xs) (counted (length xs) z)
 none_there f xs n z is-n h =
-    let gone : place_in (length (map f xs)) (counted (length xs) z) ≡ None = ap (λ (m : ℕ). place_in m (counted (length xs) z)) (as_many f xs) ∙ (sym (ap (λ (m : ℕ). place_in m (counted m z)) is-n) ∙ h) in
+    let gone : place_in (length (map f xs)) (counted (length xs) z) ≡ None = ap (λ (m : ℕ). place_in m (counted (length xs) z)) (length-map xs f) ∙ (sym (ap (λ (m : ℕ). place_in m (counted m z)) is-n) ∙ h) in
     sym (element_gone (map f xs) (counted (length xs) z) gone)
 
 element_of : (z : ℤ) (ts : List Tree) → element z (list_of ts) ≡ element_at ts (counted (length ts) z)
 element_of z ts = ap (λ (us : List Tree). element_at us (counted (length us) z)) (members-trees ts)
 
 pub element_of_parts : {A : Type 0} (z : ℤ) (f : A → Tree) (xs : List A) → element z (list_of (map f xs)) ≡ element_at (map f xs) (counted (length xs) z)
-element_of_parts z f xs = element_of z (map f xs) ∙ ap (λ (m : ℕ). element_at (map f xs) (counted m z)) (as_many f xs)
+element_of_parts z f xs = element_of z (map f xs) ∙ ap (λ (m : ℕ). element_at (map f xs) (counted m z)) (length-map xs f)
 
 pub element_of_list : (z : ℤ) (v : Vec Val Global) → element z (tree (val.List v)) ≡ element_at (map tree v.items) (counted (length v.items) z)
 element_of_list z v = ap (element z) (tree-List v) ∙ element_of_parts z tree v.items
@@ -61,7 +57,7 @@ between_map f i j closed xs =
     let n = length xs in
     sym (drop-map f (clamped n (counted n i)) (take (clamped n (behind closed (counted n j))) xs))
     ∙ (ap (drop (clamped n (counted n i))) (sym (take-map f (clamped n (behind closed (counted n j))) xs))
-    ∙ ap (λ (m : ℕ). drop (clamped m (counted m i)) (take (clamped m (behind closed (counted m j))) (map f xs))) (sym (as_many f xs)))
+    ∙ ap (λ (m : ℕ). drop (clamped m (counted m i)) (take (clamped m (behind closed (counted m j))) (map f xs))) (sym (length-map xs f)))
 
 pub items_between : {A : Type 0} (xs : List A) (n s e : ℕ) (i j : ℤ) (closed : Bool) → n ≡ length xs → s ≡ clamped n (behind false (counted n i)) → e ≡ clamped n (behind closed (counted n j))
     → drop (min s e) (take e xs) ≡ elements_between i j closed xs
@@ -74,7 +70,7 @@ items_between xs n s e i j closed is-n is-s is-e =
 pub lent_between : {A : Type 0} (f : A → Tree) (xs : List A) (n s e : ℕ) (i j : ℤ) (closed : Bool) → n ≡ length xs → s ≡ clamped n (behind false (counted n i)) → e ≡ clamped n (behind closed (counted n j))
     → map f (slice_range xs (min s e) e) ≡ elements_between i j closed (map f xs)
 lent_between f xs n s e i j closed is-n is-s is-e =
-    range_of f xs (min s e) e (omega arith) ∙ items_between (map f xs) n s e i j closed (is-n ∙ sym (as_many f xs)) is-s is-e
+    range_of f xs (min s e) e (omega arith) ∙ items_between (map f xs) n s e i j closed (is-n ∙ sym (length-map xs f)) is-s is-e
 
 pub ok_then : {A E : Type 0} (r : Result A E) {P Q : A → Type 0} → ((x : A) → P x → Q x) → IfOk r P → IfOk r Q
 ok_then (Ok x) f h = f x h

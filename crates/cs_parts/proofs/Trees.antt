@@ -34,14 +34,14 @@ as_list_of_list v = ap as_list (tree-List v) ∙ as_list_of (map tree v.items)
 pub as_list_of_object : (f : Fields) → as_list (tree (val.Obj f)) ≡ None
 as_list_of_object f = ap as_list (tree-Obj f)
 
-pub spread_of_parts : (ts : List Tree) → flat_elements (list_of ts) ≡ ts
-spread_of_parts ts = members-trees ts
+pub flat_elements_of_parts : (ts : List Tree) → flat_elements (list_of ts) ≡ ts
+flat_elements_of_parts ts = members-trees ts
 
-pub spread_of_list : (v : Vec Val Global) → flat_elements (tree (val.List v)) ≡ map tree v.items
-spread_of_list v = ap flat_elements (tree-List v) ∙ spread_of_parts (map tree v.items)
+pub flat_elements_of_list : (v : Vec Val Global) → flat_elements (tree (val.List v)) ≡ map tree v.items
+flat_elements_of_list v = ap flat_elements (tree-List v) ∙ flat_elements_of_parts (map tree v.items)
 
-pub spread_of_object : (f : Fields) → flat_elements (tree (val.Obj f)) ≡ tree (val.Obj f) ∷ []
-spread_of_object f = ap flat_elements (tree-Obj f) ∙ sym (ap (λ t. t ∷ []) (tree-Obj f))
+pub flat_elements_of_object : (f : Fields) → flat_elements (tree (val.Obj f)) ≡ tree (val.Obj f) ∷ []
+flat_elements_of_object f = ap flat_elements (tree-Obj f) ∙ sym (ap (λ t. t ∷ []) (tree-Obj f))
 
 pub each_of_parts : (ts : List Tree) → of_list list_of (list_of ts) ≡ list_of ts
 each_of_parts ts = ap list_of (members-trees ts)

@@ -1,14 +1,15 @@
 //! What stands in the bracket of a step.
-ghost use Rattle.std.specs.Prelude.{◌≡◌, ◌∷◌, IfSome, IfNone, false, map, drop, option_map};
+ghost use Rattle.std.specs.Prelude.{◌≡◌, IfSome, IfNone, false, map, drop, option_map};
 ghost use Rattle.cs_syntax.specs.Expression.{steps_of, bracket as bracket_step, more_steps};
 ghost use Rattle.cs_syntax.specs.View.{expression, step as step_of};
 ghost use Rattle.cs_syntax.specs.Numbers.{whole_number};
-ghost use Rattle.cs_plan.specs.Steps.{bracketed, condition, position_of, number_of, text_of};
+ghost use Rattle.cs_plan.specs.Steps.{bracketed, condition, position_of, number_of};
 ghost use Rattle.cs_plan.specs.Simple.{is_filter};
 ghost use Rattle.cs_meaning.specs.Looked.{starts_with_filter};
 ghost use Rattle.cs_parts.specs.Kinds.{kinds_of};
 ghost use Rattle.cs_parts.specs.Brackets.{asked, place_of, signed_place};
 
+use cs_plan::text_of;
 use cs_syntax::{Expr, PreSign, Step};
 
 /// A position as it is written: whether `-` stands in front, and its digits.
@@ -33,17 +34,6 @@ fn number_of(expr: &Expr) -> Option<&str>
 {
     match expr {
         Expr::Number(digits) => Some(digits.as_str()),
-        _ => None,
-    }
-}
-
-// A text alone.
-#[tactic(auto, unfolding(cs_syntax::specs::View::expression))]
-fn text_of(expr: &Expr) -> Option<&str>
-    ensures { option_map (λ s. s.now) result ≡ text_of (expression expr.now) }
-{
-    match expr {
-        Expr::Text(text) => Some(text.as_str()),
         _ => None,
     }
 }

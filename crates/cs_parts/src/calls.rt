@@ -4,7 +4,6 @@ ghost use Rattle.cs_value.specs.Tree.{integer};
 ghost use Rattle.cs_value.specs.View.{tree};
 ghost use Rattle.cs_func.specs.Functions.{has_two, value as value_of};
 ghost use Rattle.cs_syntax.specs.Expression.{arguments_of};
-ghost use Rattle.cs_syntax.specs.Functions.{without_global};
 ghost use Rattle.cs_syntax.specs.View.{arg as argument_of, expression};
 ghost use Rattle.cs_parts.specs.Callees.{meant, path_arguments};
 ghost use Rattle.cs_meaning.specs.Joining.{list_of};
@@ -14,7 +13,7 @@ ghost use Rattle.cs_parts.specs.Parts.{got};
 use crate::answer::Got;
 use crate::gathering::settle;
 use cs_func::{Function, call, named};
-use cs_syntax::{Arg, Expr};
+use cs_syntax::{Arg, Expr, without_global};
 use cs_value::{NoMemory, Val};
 use std::alloc::Global;
 
@@ -29,18 +28,6 @@ pub enum Callee {
     References,
     /// The function of its arguments' values that has the name, if there is one.
     Values(Option<Function>),
-}
-
-// The name without `global::` in front.
-fn without_global(name: &str) -> &[u8]
-    ensures { result.now ≡ without_global name.now }
-{
-    let bytes = name.as_bytes();
-    if bytes.starts_with("global::".as_bytes()) {
-        &bytes[8..]
-    } else {
-        bytes
-    }
 }
 
 /// What a name calls, with `global::` in front or not.
@@ -60,7 +47,7 @@ pub fn callee_of(name: &str) -> Callee
 }
 
 /// The arguments of a call of `path`: `None` exactly where the expression is no such call.
-#[tactic(auto, using(cs_syntax::proofs::Views::expression_call), unfolding(cs_syntax::specs::View::expression, cs_syntax::specs::View::arg))]
+#[tactic(auto, using(crate::proofs::Sets::call), unfolding(cs_syntax::specs::View::expression))]
 pub fn path_arguments(expr: &Expr) -> Option<&[Arg]>
     ensures { option_map (λ xs. arguments_of (map argument_of xs.now)) result
         ≡ path_arguments (expression expr.now) }
@@ -146,7 +133,7 @@ fn applied_to_one(alloc: Global, function: Function, only: Got<'_>) -> Result<Va
 }
 
 // The value that the length of a list alone gives, so that no element is copied.
-#[tactic(auto, using(crate::proofs::Arities::count_of_parts, crate::proofs::Arities::size_of_parts))]
+#[tactic(auto, using(crate::proofs::Sets::lengths))]
 fn of_length(function: Function, parts: &Vec<&Val>) -> Option<Val>
     ensures { IfSome result (λ v. tree v
         ≡ value_of function (list_of (map (λ r. tree r.now) parts.now.items)) None) }

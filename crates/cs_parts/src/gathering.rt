@@ -1,7 +1,7 @@
 //! Answers and their elements.
 ghost use Rattle.std.specs.Prelude.{◌≡◌, IfOk, map, option_map, IsTrue, OnOk, ◌++◌, ◌∷◌, []};
 ghost use Rattle.std.specs.List.{list_all};
-ghost use Rattle.cs_meaning.specs.Joining.{as_list, list_of, flat_elements as spread_of};
+ghost use Rattle.cs_meaning.specs.Joining.{as_list, list_of, flat_elements};
 ghost use Rattle.cs_value.specs.View.{tree};
 ghost use Rattle.cs_parts.specs.Parts.{got, item, is_lent};
 
@@ -11,7 +11,7 @@ use cs_value::{NoMemory, Val};
 use std::alloc::Global;
 
 /// The elements of a list, `None` where the value is none.
-#[tactic(auto, using(crate::proofs::Trees::as_list_of_list, crate::proofs::Trees::as_list_of_object, crate::proofs::Trees::as_list_of))]
+#[tactic(auto, using(crate::proofs::Sets::elements))]
 pub fn elements<'s>(alloc: Global, whole: Got<'s>) -> Result<Option<Vec<Item<'s>>>, NoMemory>
     ensures { IfOk result (λ o. option_map (λ v. map item v.items) o ≡ as_list (got whole.entry)) }
 {
@@ -145,9 +145,9 @@ pub fn settle<'s>(alloc: Global, whole: Got<'s>) -> Result<Item<'s>, NoMemory>
 }
 
 /// The elements of a list, or the value alone where it is no list.
-#[tactic(auto, using(crate::proofs::Trees::spread_of_list, crate::proofs::Trees::spread_of_object, crate::proofs::Trees::spread_of_parts))]
+#[tactic(auto, using(crate::proofs::Sets::flat_elements))]
 pub fn flat_elements<'s>(alloc: Global, whole: Got<'s>) -> Result<Vec<Item<'s>>, NoMemory>
-    ensures { IfOk result (λ v. map item v.items ≡ spread_of (got whole.entry)) }
+    ensures { IfOk result (λ v. map item v.items ≡ flat_elements (got whole.entry)) }
 {
     match whole {
         Got::Part(Val::List(vals)) => lend_all(alloc, vals),

@@ -34,5 +34,5 @@ pub use positions::{element, sliced};
 pub use ranks::{Ranked, in_order};
 pub use source::{NoDocs, Source};
 pub use take::{each, field, is_false, is_null, is_object, is_true, reference_of};
-pub use turns::{ends, is_all, is_over, is_pipe, items_or_none, lent, one_item, prefixed, turn};
+pub use turns::{ends, is_all, is_over, is_pipe, items_or_none, one_item, prefixed, turn};
 pub use visits::{all, deref};

@@ -1,5 +1,5 @@
 //! Values that no expression is evaluated for, and operators by their signs.
-ghost use Rattle.std.specs.Prelude.{◌≡◌, IfOk, option_map};
+ghost use Rattle.std.specs.Prelude.{◌≡◌, IfOk};
 ghost use Rattle.cs_value.specs.View.{tree, fields};
 ghost use Rattle.cs_view.specs.Scopes.{scope};
 ghost use Rattle.cs_plan.specs.Steps.{in_scope};

@@ -7,7 +7,6 @@ ghost use Rattle.cs_syntax.specs.View.{expression};
 ghost use Rattle.cs_meaning.specs.Operators.{put_under, spread_into};
 ghost use Rattle.cs_ops.specs.Arithmetic.{merged};
 
-use cs_faults::key_of;
 use cs_syntax::Expr;
 use cs_value::{Fields, NoMemory, Txt, Val};
 use std::alloc::Global;
@@ -25,14 +24,14 @@ pub fn put_bare(alloc: Global, pairs: &mut Fields, expr: &Expr, val: Val) -> Res
     ensures { OnOk result (fields pairs.new
         ≡ put_under (key_of (expression expr.now)) (tree val) (fields pairs.old)) }
 {
-    match key_of(expr) {
+    match expr.key() {
         Some(key) => put(pairs, Txt::copy_of(alloc, key)?, val),
         None => Ok(()),
     }
 }
 
 /// Each pair of an object, and nothing of anything else.
-#[tactic(auto, using(crate::proofs::Trees::tree_of_object, crate::proofs::Shapes::spread_of_object))]
+#[tactic(auto, using(crate::proofs::Sets::pairs))]
 pub fn put_all(alloc: Global, pairs: &mut Fields, val: &Val) -> Result<(), NoMemory>
     ensures { OnOk result (fields pairs.new ≡ spread_into (fields pairs.old) (tree val.now)) }
 {

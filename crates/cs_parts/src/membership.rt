@@ -1,5 +1,5 @@
 //! What `in` and `references` say, where the values of their sides are known.
-ghost use Rattle.std.specs.Prelude.{◌≡◌, ◌++◌, IfOk, OnOk, map, filter_map, flat_map, option_map};
+ghost use Rattle.std.specs.Prelude.{◌≡◌, ◌++◌, IfOk, OnOk, map, filter_map, flat_map};
 ghost use Rattle.std.specs.List.{list_any};
 ghost use Rattle.cs_value.specs.View.{tree};
 ghost use Rattle.cs_value.specs.Words.{as_text};

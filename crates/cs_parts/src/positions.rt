@@ -11,6 +11,7 @@ ghost use Rattle.cs_meaning.specs.Positions.{behind, elements_between, clamped, 
 use crate::answer::Got;
 use crate::brackets::{Place, position_of};
 use crate::item::push;
+use cs_plan::whole_number;
 use cs_syntax::Expr;
 use cs_value::{NoMemory, Val};
 use std::alloc::Global;
@@ -20,14 +21,10 @@ fn number(digits: &str) -> Option<usize>
     ensures { MatchOption result (18446744073709551615 < whole_number digits.now)
         (λ n. n ≡ whole_number digits.now) }
 {
-    let mut value: u128 = 0;
-    for digit in digits.as_bytes() {
-        value = value * 10 + u128::from(digit.saturating_sub(b'0'));
-        if value > 18446744073709551615 {
-            return None;
-        }
+    match whole_number(digits) {
+        Some(number) => Some(number as usize),
+        None => None,
     }
-    Some(value as usize)
 }
 
 // Whether the place counts from the end of a list; `-0` does not.
@@ -38,7 +35,7 @@ fn is_back(place: Place<'_>, number: usize) -> bool
 }
 
 // The place of an element of a list of this length, where one is there.
-#[tactic(auto, using(crate::proofs::ListPlaces::front_some, crate::proofs::ListPlaces::front_none, crate::proofs::ListPlaces::back_place, crate::proofs::ListPlaces::back_none, crate::proofs::ListPlaces::far_place))]
+#[tactic(auto, using(crate::proofs::Sets::place))]
 fn place_in(length: usize, place: Place<'_>) -> Option<usize>
     ensures { result ≡ place_in length (counted length (place_of place.entry)) }
 {
@@ -55,7 +52,7 @@ fn place_in(length: usize, place: Place<'_>) -> Option<usize>
 }
 
 // The place, or the one behind it where the end is `closed`, brought between 0 and the length.
-#[tactic(auto, using(crate::proofs::ListPlaces::front_end, crate::proofs::ListPlaces::back_end, crate::proofs::ListPlaces::far_end, crate::proofs::ListPlaces::clamped_inside))]
+#[tactic(auto, using(crate::proofs::Sets::bounds))]
 fn bounded(length: usize, place: Place<'_>, closed: bool) -> usize
     ensures place { result ≡ clamped length (behind closed (counted length (place_of
         place.entry))) }
@@ -75,7 +72,7 @@ fn bounded(length: usize, place: Place<'_>, closed: bool) -> usize
 }
 
 /// The element at a place, null where none is there and of anything but a list.
-#[tactic(auto, using(crate::proofs::Slices::element_of_list, crate::proofs::Slices::element_of_parts, crate::proofs::Slices::element_of_object, crate::proofs::Trees::tree_of_null))]
+#[tactic(auto, using(crate::proofs::Sets::element))]
 pub fn element<'s>(whole: Got<'s>, place: Place<'_>) -> Got<'s>
     ensures { got result ≡ element (place_of place.entry) (got whole.entry) }
 {
@@ -142,7 +139,7 @@ pub fn sliced<'s>(
 }
 
 // The slice between two positions.
-#[tactic(auto, using(crate::proofs::Slices::sliced_of_list, crate::proofs::Slices::sliced_of_parts, crate::proofs::Slices::sliced_of_object, crate::proofs::Trees::tree_of_list, crate::proofs::Trees::tree_of_null))]
+#[tactic(auto, using(crate::proofs::Sets::slice))]
 fn cut<'s>(
     alloc: Global,
     whole: Got<'s>,

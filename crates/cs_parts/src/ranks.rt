@@ -1,8 +1,9 @@
 //! Elements in the order of their keys.
-ghost use Rattle.std.specs.Prelude.{◌≡◌, IfOk, map, get_or, option_map, unwrap_or};
+ghost use Rattle.std.specs.Prelude.{◌≡◌, IfOk, map, get_or};
 ghost use Rattle.cs_value.specs.Tree.{null};
 ghost use Rattle.cs_value.specs.View.{tree};
 ghost use Rattle.cs_ops.specs.Order.{total};
+ghost use Rattle.cs_plan.specs.Parts.{value_or_null};
 ghost use Rattle.cs_meaning.specs.Ordered.{compared, by_keys, ranks, sorted};
 ghost use Rattle.cs_parts.specs.Ranked.{ranked};
 
@@ -20,8 +21,7 @@ pub struct Ranked<'s> {
 
 // Two keys under the total order; one that is not there is null.
 fn total_or_null(x: Option<&Val>, y: Option<&Val>) -> Ordering
-    ensures { result ≡ total (unwrap_or (option_map (λ v. tree v.now) x.entry) null) (unwrap_or
-        (option_map (λ v. tree v.now) y.entry) null) }
+    ensures { result ≡ total (value_or_null x.entry) (value_or_null y.entry) }
 {
     let none = Val::Null;
     match x {
@@ -38,8 +38,7 @@ fn total_or_null(x: Option<&Val>, y: Option<&Val>) -> Ordering
 
 // Two keys, the other way round where the key is descending.
 fn compared(descending: bool, x: Option<&Val>, y: Option<&Val>) -> Ordering
-    ensures { result ≡ compared descending (unwrap_or (option_map (λ v. tree v.now) x.entry) null)
-        (unwrap_or (option_map (λ v. tree v.now) y.entry) null) }
+    ensures { result ≡ compared descending (value_or_null x.entry) (value_or_null y.entry) }
 {
     if descending {
         total_or_null(y, x)
@@ -51,8 +50,7 @@ fn compared(descending: bool, x: Option<&Val>, y: Option<&Val>) -> Ordering
 // The key at a place, if one is there.
 #[tactic(auto, using(crate::proofs::Keys::tree_at))]
 fn at(keys: &[Val], place: usize) -> Option<&Val>
-    ensures { unwrap_or (option_map (λ v. tree v.now) result) null ≡ get_or (map tree keys.now)
-        place null }
+    ensures { value_or_null result ≡ get_or (map tree keys.now) place null }
 {
     if place < keys.len() {
         Some(&keys[place])

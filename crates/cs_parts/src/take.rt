@@ -1,12 +1,12 @@
 //! Readings of an answer, and the steps that take a part of it.
-ghost use Rattle.std.specs.Prelude.{◌≡◌, IfOk, option_map};
+ghost use Rattle.std.specs.Prelude.{◌≡◌, option_map};
 ghost use Rattle.cs_meaning.specs.Joining.{list_of, of_list};
 ghost use Rattle.cs_meaning.specs.Operators.{is_true, is_false, reference_of as reference_in_tree};
 ghost use Rattle.cs_func.specs.Lists.{is_null};
 ghost use Rattle.cs_plan.specs.Steps.{field as field_of};
 ghost use Rattle.cs_value.specs.Words.{is_object};
 ghost use Rattle.cs_value.specs.View.{tree};
-ghost use Rattle.cs_parts.specs.Parts.{got, item};
+ghost use Rattle.cs_parts.specs.Parts.{got};
 
 use crate::answer::Got;
 use crate::item::Item;
@@ -74,7 +74,7 @@ pub fn field<'s>(whole: Got<'s>, name: &str) -> Got<'s>
 }
 
 /// `[]`: a list itself, null of anything else.
-#[tactic(auto, using(crate::proofs::Trees::each_of_list, crate::proofs::Trees::each_of_object, crate::proofs::Trees::each_of_parts, crate::proofs::Trees::tree_of_null))]
+#[tactic(auto, using(crate::proofs::Sets::each))]
 pub fn each<'s>(whole: Got<'s>) -> Got<'s>
     ensures { got result ≡ of_list list_of (got whole.entry) }
 {

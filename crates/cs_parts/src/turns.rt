@@ -1,11 +1,9 @@
 //! Small questions and makings of an evaluation.
-ghost use Rattle.std.specs.Prelude.{◌≡◌, ◌∷◌, [], IfOk, OnOk, map, unwrap_or};
-ghost use Rattle.cs_value.specs.View.{tree, fields};
-ghost use Rattle.cs_syntax.specs.Brackets.{key_of};
+ghost use Rattle.std.specs.Prelude.{◌≡◌, ◌∷◌, [], IfOk, map, unwrap_or};
 ghost use Rattle.cs_syntax.specs.View.{expression, step as step_of};
 ghost use Rattle.cs_meaning.specs.Joining.{as_list};
 ghost use Rattle.cs_meaning.specs.Looked.{is_everything};
-ghost use Rattle.cs_meaning.specs.Operators.{put_under, signed};
+ghost use Rattle.cs_meaning.specs.Operators.{signed};
 ghost use Rattle.cs_meaning.specs.Values.{is_pipe};
 ghost use Rattle.cs_parts.specs.Turns.{turn, is_end, is_over_way};
 ghost use Rattle.cs_parts.specs.Parts.{got, item};
@@ -13,7 +11,7 @@ ghost use Rattle.cs_parts.specs.Parts.{got, item};
 use crate::literals::signed;
 use crate::{Entrance, Got, Item, Way, elements, push, settle};
 use cs_syntax::{Expr, PreSign, Step};
-use cs_value::{Fields, NoMemory, Val};
+use cs_value::NoMemory;
 use std::alloc::Global;
 
 /// How what a step gives enters the rest behind it.
@@ -66,17 +64,6 @@ pub fn is_pipe(step: &Step) -> bool
         Step::Pipe { .. } => true,
         _ => false,
     }
-}
-
-/// The documents as elements.
-pub fn lent<'s>(alloc: Global, parts: Vec<&'s Val>) -> Result<Vec<Item<'s>>, NoMemory>
-    ensures { IfOk result (λ v. map item v.items ≡ map (λ r. tree r.now) parts.entry.items) }
-{
-    let mut out = Vec::new(alloc);
-    for part in parts {
-        push(&mut out, Item::Lent(part))?;
-    }
-    Ok(out)
 }
 
 /// The value as one element.
