@@ -1,25 +1,27 @@
 // The documents of a data file, line by line.
-ghost use Rattle.std.specs.Prelude.{◌≡◌, ◌≤◌, ◌<◌, [], true, length, cond, Some, None, option_map, MatchResult, OnOk, IfOk, IfErr};
+ghost use Rattle.std.specs.Prelude.{◌≡◌, ◌<◌, List, [], true, length, cond, Some, None, option_map, MatchResult, OnOk, IfOk, IfErr};
+ghost use Rattle.cs_value.specs.Tree.{Tree};
 ghost use Rattle.cs_value.specs.View.{tree};
 ghost use Rattle.cs_json.specs.Reading.{outcome, value};
-ghost use Rattle.cs_view.specs.Dataset.{ascending, with_doc};
 ghost use Rattle.cs_view.specs.Document.{is_body, is_shallow, id_of, deepest_document};
-ghost use Rattle.cs_view.specs.View.{doc};
 ghost use Rattle.cs_machine.specs.DataFile.{a_document, imported, of_body, of_outcome, said};
-ghost use Rattle.cs_run.specs.Gathered.{gathered, AreById};
+ghost use Rattle.cs_run.specs.Gathered.{held, HasWay, IsKept};
 ghost use Rattle.cs_run.specs.Refusals.{IsRefused};
 ghost use Rattle.cs_docs.specs.Shelves.{documents};
 ghost use Rattle.cs_docs.specs.Limits.{most_documents};
+
+mod collected;
 
 use crate::blank::is_blank;
 use crate::fault::DataCause;
 use crate::import::imported;
 use crate::refusal::{LineRefusal, json_refusal};
+use collected::Collected;
 use cs_docs::{MOST_DOCUMENTS, Shelf};
+use cs_json::ValueReader;
 use cs_value::{NoMemory, Txt, Val};
 use cs_view::{DEEPEST_DOCUMENT, Doc, is_body};
 use std::alloc::Global;
-use std::collections::BTreeMap;
 
 // The id of a value that can be installed as a document. `None` exactly where it cannot.
 fn body_id(body: &Val) -> Option<&Txt>
@@ -35,14 +37,53 @@ fn body_id(body: &Val) -> Option<&Txt>
     }
 }
 
+// The line's value.
+fn read(reader: &mut ValueReader, line: &[u8]) -> Result<Val, LineRefusal>
+    ensures value { IfOk result (λ v. outcome deepest_document line.now ≡ value (tree v)) }
+    ensures shallow { IfOk result (λ v. is_shallow (tree v) ≡ true) }
+    ensures refused { IfErr result (λ r. (before : List Tree)
+        → IsRefused r (of_outcome before (outcome deepest_document line.now))) }
+{
+    match reader.read(line, DEEPEST_DOCUMENT) {
+        Ok(body) => Ok(body),
+        Err(fault) => Err(json_refusal(fault)),
+    }
+}
+
+// Whether the body makes one document more, for which way is made then.
+fn admit(alloc: Global, documents: &mut Collected, body: &Val) -> Result<(), LineRefusal>
+    requires { IsKept documents.old }
+    ensures kept { IsKept documents.new }
+    ensures same { OnOk result (held documents.new ≡ held documents.old) }
+    ensures way { OnOk result (HasWay (id_of (tree body.now)) documents.new) }
+    ensures admitted { OnOk result (of_body (held documents.old) (tree body.now) ≡ a_document
+        (imported (tree body.now))) }
+    ensures body { OnOk result (is_body (tree body.now) ≡ true) }
+    ensures room { OnOk result (length (held documents.old) < most_documents) }
+    ensures refused { IfErr result (λ r. IsRefused r
+        (of_body (held documents.old) (tree body.now))) }
+{
+    let Some(id) = body_id(body) else {
+        return Err(LineRefusal::Cause(DataCause::BadDocument));
+    };
+    documents.make_way(alloc, id)?;
+    if documents.has(id) {
+        let id = Txt::copy_of(alloc, id.as_str())?;
+        return Err(LineRefusal::Cause(DataCause::Repeated { id }));
+    }
+    if documents.len() == MOST_DOCUMENTS {
+        return Err(LineRefusal::Cause(DataCause::FullDocuments));
+    }
+    Ok(())
+}
+
 /// The documents of a data file so far, by their ids.
 #[derive(Drop)]
 pub(crate) struct Loading {
     alloc: Global,
-    documents: BTreeMap<String, Doc>,
-    ghost by_id: { AreById documents.entries },
-    ghost ascends: { ascending (gathered documents.entries) ≡ true },
-    ghost within: { length documents.entries ≤ most_documents },
+    reader: ValueReader,
+    documents: Collected,
+    ghost kept: { IsKept documents },
 }
 
 impl Loading {
@@ -54,53 +95,9 @@ impl Loading {
     {
         Loading {
             alloc,
-            documents: BTreeMap::new(alloc),
+            reader: ValueReader::new(alloc),
+            documents: Collected::new(alloc),
         }
-    }
-
-    // The line's value.
-    fn read(&self, line: &[u8]) -> Result<Val, LineRefusal>
-        ensures value { IfOk result (λ v. outcome deepest_document line.now ≡ value (tree v)) }
-        ensures shallow { IfOk result (λ v. is_shallow (tree v) ≡ true) }
-        ensures refused { IfErr result (λ r. IsRefused r
-            (of_outcome (so_far self.now) (outcome deepest_document line.now))) }
-    {
-        match cs_json::read(self.alloc, line, DEEPEST_DOCUMENT) {
-            Ok(body) => Ok(body),
-            Err(fault) => Err(json_refusal(fault)),
-        }
-    }
-
-    // Whether the body makes one document more.
-    fn admit(&self, body: &Val) -> Result<(), LineRefusal>
-        ensures admitted { OnOk result (of_body (so_far self.now) (tree body.now) ≡ a_document
-            (imported (tree body.now))) }
-        ensures body { OnOk result (is_body (tree body.now) ≡ true) }
-        ensures room { OnOk result (length (so_far self.now) < most_documents) }
-        ensures refused { IfErr result (λ r. IsRefused r
-            (of_body (so_far self.now) (tree body.now))) }
-    {
-        let Some(id) = body_id(body) else {
-            return Err(LineRefusal::Cause(DataCause::BadDocument));
-        };
-        if self.documents.contains_key(id.as_str()) {
-            let id = Txt::copy_of(self.alloc, id.as_str())?;
-            return Err(LineRefusal::Cause(DataCause::Repeated { id }));
-        }
-        if self.documents.len() == MOST_DOCUMENTS {
-            return Err(LineRefusal::Cause(DataCause::FullDocuments));
-        }
-        Ok(())
-    }
-
-    // Puts the document in the place of its id.
-    fn put(&mut self, document: Doc) -> Result<(), NoMemory>
-        requires room { length (so_far self.old) < most_documents }
-        ensures { OnOk result (so_far self.new ≡ with_doc (doc document) (so_far self.old)) }
-    {
-        let id = Txt::copy_of(self.alloc, document.id().as_str())?;
-        drop(self.documents.insert(id.into_string(), document)?);
-        Ok(())
     }
 
     // Takes a line that is not blank.
@@ -110,10 +107,10 @@ impl Loading {
         ensures refused { IfErr result (λ r. IsRefused r
             (of_outcome (so_far self.old) (outcome deepest_document line.now))) }
     {
-        let body = self.read(line)?;
-        self.admit(&body)?;
+        let body = read(&mut self.reader, line)?;
+        admit(self.alloc, &mut self.documents, &body)?;
         let document = imported(self.alloc, body)?;
-        self.put(document)?;
+        self.documents.put(self.alloc, document)?;
         Ok(())
     }
 
@@ -139,10 +136,6 @@ impl Loading {
             documents,
             ..
         } = self;
-        let mut docs = Vec::new(alloc);
-        for document in documents.into_values() {
-            docs.push(document)?;
-        }
-        Ok(Shelf::of(docs))
+        documents.into_shelf(alloc)
     }
 }
