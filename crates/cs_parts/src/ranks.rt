@@ -20,20 +20,12 @@ pub struct Ranked<'s> {
 }
 
 // Two keys under the total order; one that is not there is null.
+#[tactic(auto, using(crate::proofs::Trees::tree_of_null))]
 fn total_or_null(x: Option<&Val>, y: Option<&Val>) -> Ordering
     ensures { result ≡ total (value_or_null x.entry) (value_or_null y.entry) }
 {
-    let none = Val::Null;
-    match x {
-        Some(x) => match y {
-            Some(y) => total(x, y),
-            None => total(x, &none),
-        },
-        None => match y {
-            Some(y) => total(&none, y),
-            None => Ordering::Equal,
-        },
-    }
+    let null = Val::Null;
+    total(x.unwrap_or(&null), y.unwrap_or(&null))
 }
 
 // Two keys, the other way round where the key is descending.
