@@ -64,33 +64,34 @@ fn found(alloc: Global, text: &str) -> Result<(bool, bool), Fail> {
     touched::<Brand>(Blank::new(1), alloc, &query)
 }
 
+const LOOKED_UP: [(&str, (bool, bool)); 21] = [
+    ("1", (false, false)),
+    ("*", (true, true)),
+    ("*[_type == 't']", (true, false)),
+    ("*[_type == 'u' && n > 1]", (false, true)),
+    ("*[_type == 't' || _type == 'u']", (true, true)),
+    ("*[_id == 'y'].name", (false, true)),
+    ("*[_id == 'z']", (false, false)),
+    ("*[references('x')]", (false, false)),
+    ("count(*[_type == 'u'])", (false, true)),
+    ("false && count(*) > 0", (false, false)),
+    ("true && count(*) > 0", (true, true)),
+    ("true || count(*) > 0", (false, false)),
+    ("false || count(*) > 0", (true, true)),
+    ("coalesce(1, count(*))", (false, false)),
+    ("coalesce(null, count(*))", (true, true)),
+    ("select(true => 1, count(*))", (false, false)),
+    ("select(false => count(*), 2)", (false, false)),
+    ("select(false => 1, count(*[_type == 't']))", (true, false)),
+    ("{'a': {'_ref': 'x'}}.a->name", (true, false)),
+    ("[{'_ref': 'y'}][]->name", (false, true)),
+    ("null->name", (false, false)),
+];
+
 #[test]
 fn looks_up_what_the_value_needs(rt: HostRuntime) -> Result<(), Fail> {
-    let cases = [
-        ("1", (false, false)),
-        ("*", (true, true)),
-        ("*[_type == 't']", (true, false)),
-        ("*[_type == 'u' && n > 1]", (false, true)),
-        ("*[_type == 't' || _type == 'u']", (true, true)),
-        ("*[_id == 'y'].name", (false, true)),
-        ("*[_id == 'z']", (false, false)),
-        ("*[references('x')]", (false, false)),
-        ("count(*[_type == 'u'])", (false, true)),
-        ("false && count(*) > 0", (false, false)),
-        ("true && count(*) > 0", (true, true)),
-        ("true || count(*) > 0", (false, false)),
-        ("false || count(*) > 0", (true, true)),
-        ("coalesce(1, count(*))", (false, false)),
-        ("coalesce(null, count(*))", (true, true)),
-        ("select(true => 1, count(*))", (false, false)),
-        ("select(false => count(*), 2)", (false, false)),
-        ("select(false => 1, count(*[_type == 't']))", (true, false)),
-        ("{'a': {'_ref': 'x'}}.a->name", (true, false)),
-        ("[{'_ref': 'y'}][]->name", (false, true)),
-        ("null->name", (false, false)),
-    ];
-    for (text, wanted) in cases {
-        assert_eq!(rt; found(rt.alloc(), text)?, wanted, "of {text}");
+    for (text, wanted) in &LOOKED_UP {
+        assert_eq!(rt; found(rt.alloc(), text)?, *wanted, "of {text}");
     }
     Ok(())
 }
