@@ -20,14 +20,22 @@ use std::alloc::Global;
 pub struct ValueReader {
     alloc: Global,
     scratch: Scratch,
+    room: usize,
 }
 
 impl ValueReader {
     /// A reader whose values are allocated by `alloc`.
     pub fn new(alloc: Global) -> ValueReader {
+        ValueReader::with_room(alloc, 0)
+    }
+
+    /// A reader that leaves room for so many attributes more in each object that it reads, but not
+    /// in the parts of one: for a caller who adds them.
+    pub fn with_room(alloc: Global, attributes: u8) -> ValueReader {
         ValueReader {
             alloc,
             scratch: Scratch::new(alloc),
+            room: usize::from(attributes),
         }
     }
 
@@ -44,7 +52,8 @@ impl ValueReader {
         ensures value { IfOk result (λ v. IsValue (tree v)) }
         ensures within { IfOk result (λ v. widest (tree v) ≤ length bytes.now) }
     {
-        if let Some(val) = read_direct(self.alloc, &mut self.scratch, bytes, deepest) {
+        let read = read_direct(self.alloc, &mut self.scratch, bytes, deepest, self.room);
+        if let Some(val) = read {
             return Ok(val);
         }
         read_or_tell(self.alloc, bytes, deepest)

@@ -23,12 +23,14 @@ const MOST_LEVELS: usize = 127;
 const ROOM: usize = 16;
 
 /// The value that the bytes are as JSON, if its lists and objects nest at most `deepest` levels and
-/// each of its numbers is whole. `None` says nothing of the bytes.
+/// each of its numbers is whole; an object that it is has room for `room` attributes more. `None`
+/// says nothing of the bytes.
 pub(crate) fn read_direct(
     alloc: Global,
     scratch: &mut Scratch,
     bytes: &[u8],
     deepest: u32,
+    room: usize,
 ) -> Option<Val>
     ensures value { IfSome result (λ v. IsUtf8 bytes.now
         × ((d : Data) × (read bytes.now ≡ Some d) × (whole d ≡ Some (tree v)))) }
@@ -36,7 +38,7 @@ pub(crate) fn read_direct(
 {
     let text = std::str::from_utf8(bytes).ok()?;
     let mut reader = Reader::new(text, scratch).ok()?;
-    let val = read_value(alloc, &mut reader, MOST_LEVELS, deepest as usize)?;
+    let val = read_value(alloc, &mut reader, MOST_LEVELS, deepest as usize, room)?;
     if reader.next().is_some() {
         return None;
     }
@@ -65,9 +67,15 @@ fn whole_number(text: &str) -> Option<i64>
 }
 
 // The next value, whose arrays and objects nest less than `levels` deep for serde_json, and at most
-// `left` levels.
+// `left` levels. An object that it is has room for `room` attributes more.
 #[cycle(read)]
-fn read_value(alloc: Global, reader: &mut Reader<'_>, levels: usize, left: usize) -> Option<Val>
+fn read_value(
+    alloc: Global,
+    reader: &mut Reader<'_>,
+    levels: usize,
+    left: usize,
+    room: usize,
+) -> Option<Val>
     ensures value { IfSome result
         (λ v. converted made (value levels reader.old) ≡ Some (tree v, reader.new)) }
     ensures shorter { OnSome result (length reader.new < length reader.old) }
@@ -90,7 +98,7 @@ fn read_value(alloc: Global, reader: &mut Reader<'_>, levels: usize, left: usize
                 return None;
             }
             let members = read_members(alloc, reader, levels - 1, left - 1)?;
-            Some(Val::Obj(object_of(alloc, members)?))
+            Some(Val::Obj(object_of(alloc, members, room)?))
         }
         Token::EndObject | Token::EndArray | Token::Key(_) | Token::Bad => None,
     }
@@ -111,7 +119,7 @@ fn read_items(
 {
     let mut found = Vec::with_capacity(alloc, ROOM).ok()?;
     'items: while !reader.take_end_array() {
-        let item = read_value(alloc, reader, levels, left)?;
+        let item = read_value(alloc, reader, levels, left, 0)?;
         found.push(item).ok()?;
     }
     just_its_size(alloc, found)
@@ -142,18 +150,18 @@ fn read_members(
     let mut found = Vec::with_capacity(alloc, ROOM).ok()?;
     'members: while let Some(name) = reader.next_key().ok()? {
         let name = Txt::copy_of(alloc, name).ok()?;
-        let member = read_value(alloc, reader, levels, left)?;
+        let member = read_value(alloc, reader, levels, left, 0)?;
         found.push((name, member)).ok()?;
     }
     Some(found)
 }
 
-// The object of the members, where the last one of a name stays.
-fn object_of(alloc: Global, members: Vec<(Txt, Val)>) -> Option<Fields>
+// The object of the members, where the last one of a name stays, with room for `room` more.
+fn object_of(alloc: Global, members: Vec<(Txt, Val)>, room: usize) -> Option<Fields>
     ensures { IfSome result
         (λ f. fields f ≡ put_all (named_trees members.items) no_pairs) }
 {
-    let mut object = Fields::with_capacity(alloc, members.len()).ok()?;
+    let mut object = Fields::with_capacity(alloc, members.len().saturating_add(room)).ok()?;
     for (name, member) in members {
         drop(object.put(name, member).ok()?);
     }

@@ -23,6 +23,9 @@ use cs_value::{NoMemory, Txt, Val};
 use cs_view::{DEEPEST_DOCUMENT, Doc, is_body};
 use std::alloc::Global;
 
+// The attributes that an imported document has from the store where its body lacks them.
+const DEFAULTS: u8 = 3;
+
 // The id of a value that can be installed as a document. `None` exactly where it cannot.
 fn body_id(body: &Val) -> Option<&Txt>
     ensures { option_map (λ id. id.now) result ≡ cond (is_body (tree body.now))
@@ -95,7 +98,7 @@ impl Loading {
     {
         Loading {
             alloc,
-            reader: ValueReader::new(alloc),
+            reader: ValueReader::with_room(alloc, DEFAULTS),
             documents: Collected::new(alloc),
         }
     }

@@ -43,8 +43,8 @@ fn put_by_id(
 ) -> Result<(), NoMemory>
     requires by_id { AreById documents.old.entries }
     ensures by_id { AreById documents.new.entries }
-    ensures put { OnOk result
-        (gathered documents.new.entries ≡ with_doc (doc document) (gathered documents.old.entries)) }
+    ensures put { OnOk result (gathered documents.new.entries
+        ≡ with_doc (doc document) (gathered documents.old.entries)) }
     ensures kept { OnErr result (documents.new.entries ≡ documents.old.entries) }
 {
     let id = Txt::copy_of(alloc, document.id().as_str())?;
