@@ -9,8 +9,9 @@ mod queries;
 mod steps;
 
 pub use cs_meaning::{
-    hits_have_key, looked_settles_value, quiet_asks_nothing, rest_keeps_null,
-    simple_is_tail_of_hits, simple_looks_up_its_key, sorted_in_one_way, true_has_key,
+    functions_are_evaluated, hits_have_key, looked_settles_value, quiet_asks_nothing,
+    rest_keeps_null, simple_is_tail_of_hits, simple_looks_up_its_key, sorted_in_one_way,
+    true_has_key,
 };
 pub use cs_parts::Got;
 pub use queries::{eval, hit, tail};
