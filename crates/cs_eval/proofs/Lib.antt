@@ -1,6 +1,7 @@
 pub mod Answered
 pub mod Calling
 pub mod Deciding
+pub mod Firsts
 pub mod Joins
 pub mod Climbing
 pub mod Simples

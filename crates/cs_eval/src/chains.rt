@@ -19,11 +19,11 @@ ghost use Rattle.cs_eval.specs.Starts.{start_value, start_looked, enter_value, e
 
 use crate::expressions::eval;
 use crate::levels::{Reached, Remaining, Task, next_task};
-use crate::steps::{keep_lent, one_step};
+use crate::steps::{keep_lent, one_step, ordered};
+use cs_order::{first_asked, pipe_of};
 use cs_parts::{
     Entrance, Got, Item, Kind, Source, Way, behind, elements, ends, entrance_of, first_kind,
-    form_of, gather, gives_array, head_filter, is_all, is_over, is_pipe, kinds, push, settle, turn,
-    way_of,
+    form_of, gather, gives_array, head_filter, is_all, is_over, kinds, push, settle, turn, way_of,
 };
 use cs_plan::choose;
 use cs_syntax::{Expr, Step};
@@ -83,16 +83,9 @@ fn start<'s, S: Source<C>, C>(
 {
     if is_all(base) {
         if let Some((condition, later)) = head_filter(steps) {
+            let left_kinds = behind(kinds);
             return filtered_all(
-                alloc,
-                condition,
-                later,
-                behind(kinds),
-                frame,
-                params,
-                source,
-                keys,
-                count,
+                alloc, condition, later, left_kinds, frame, params, source, keys, count,
             );
         }
     }
@@ -328,7 +321,8 @@ pub(crate) fn pipes<'s, S: Source<C>, C>(
     Ok(here)
 }
 
-// A piped call and the rest behind it; of another step nothing.
+// A piped call and the rest behind it; of another step nothing. A rest that looks at the first few
+// elements alone is given no others.
 #[cycle(eval)]
 fn piped<'s, S: Source<C>, C>(
     alloc: Global,
@@ -349,10 +343,13 @@ fn piped<'s, S: Source<C>, C>(
         params.now) (step_of step.now) (steps_of (map step_of steps.now)) (scope frame.now) (got
         value.entry)) }
 {
-    if !is_pipe(step) {
+    let Some((name, order)) = pipe_of(step) else {
         return Ok(value);
-    }
-    let list = one_step(alloc, step, frame, params, source, value, keys, count)?;
+    };
+    let limit = first_asked(steps);
+    let list = ordered(
+        alloc, name, order, limit, frame, params, source, value, keys, count,
+    )?;
     enter(
         alloc, steps, kinds, frame, params, source, list, keys, count,
     )

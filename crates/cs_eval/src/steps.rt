@@ -11,13 +11,15 @@ ghost use Rattle.cs_meaning.specs.Operators.{is_true as is_true_tree};
 ghost use Rattle.cs_meaning.specs.Values.{value as value_of, entries_pairs, step_value, keys_values, projected, filtered, in_bracket};
 ghost use Rattle.cs_meaning.specs.Looked.{looked, entries_looked, step_looked, each_looked, bracket_looked, keys_looked};
 ghost use Rattle.cs_meaning.specs.Ordered.{ordered, ranked, directions};
-ghost use Rattle.cs_parts.specs.Ranked.{ranked as ranked_of};
+ghost use Rattle.cs_order.specs.First.{first_elements, all_kept};
+ghost use Rattle.cs_order.specs.Ranked.{ranked as ranked_of};
 ghost use Rattle.cs_parts.specs.Parts.{got, item};
 
 use crate::expressions::{eval, object};
+use cs_order::{Ranked, admit, in_order, items_of, owned};
 use cs_parts::{
-    Bracket, Got, Item, Ranked, Source, bracket_of, deref, directions, each, element, elements,
-    field, gather, in_order, is_object, is_true, items_of, push, settle, sliced,
+    Bracket, Got, Item, Source, bracket_of, deref, directions, each, element, elements, field,
+    gather, is_object, is_true, push, settle, sliced,
 };
 use cs_syntax::{Entry, Expr, OrderKey, Step};
 use cs_value::{Fields, NoMemory, Txt, Val};
@@ -50,7 +52,7 @@ pub(crate) fn one_step<'s, S: Source<C>, C>(
         Step::Bracket(inner) => bracketed(alloc, inner, frame, params, source, value, keys, count),
         Step::Project(list) => project(alloc, list, frame, params, source, value, keys, count),
         Step::Pipe { name, keys: order } => ordered(
-            alloc, name, order, frame, params, source, value, keys, count,
+            alloc, name, order, None, frame, params, source, value, keys, count,
         ),
     }
 }
@@ -221,13 +223,14 @@ fn project<'s, S: Source<C>, C>(
     object(alloc, list, &near, params, source, keys, count)
 }
 
-// A piped call.
+// A piped call, whose first elements are enough where there is a limit.
 #[cycle(eval)]
 #[tactic(auto, using(cs_parts::proofs::Trees::tree_of_null, crate::proofs::Sorting::order_taken, crate::proofs::Sorting::order_left))]
-fn ordered<'s, S: Source<C>, C>(
+pub(crate) fn ordered<'s, S: Source<C>, C>(
     alloc: Global,
     name: &Txt,
     order: &'s [OrderKey],
+    limit: Option<usize>,
     frame: &Scope<'s>,
     params: &'s Fields,
     source: &'s S,
@@ -235,15 +238,17 @@ fn ordered<'s, S: Source<C>, C>(
     keys: &mut Record,
     count: &mut C,
 ) -> Result<Got<'s>, NoMemory>
-    ensures value { IfOk result (λ g. got g ≡ step_value (S.docs source.now) (fields params.now)
-        (pipe name.now (keys_of (map order_key_of order.now))) (scope frame.now) (got
-        value.entry)) }
+    ensures value { IfOk result (λ g. got g ≡ first_elements limit (step_value
+        (S.docs source.now) (fields params.now) (pipe name.now (keys_of (map order_key_of
+        order.now))) (scope frame.now) (got value.entry))) }
     ensures keys { OnOk result (keys.new ≡ keys.old ++ step_looked (S.docs source.now) (fields
         params.now) (pipe name.now (keys_of (map order_key_of order.now))) (scope frame.now) (got
         value.entry)) }
 {
     if name.as_str() == "order" {
-        sorted_list(alloc, order, frame, params, source, value, keys, count)
+        sorted_list(
+            alloc, order, limit, frame, params, source, value, keys, count,
+        )
     } else {
         Ok(Got::Whole(Val::Null))
     }
@@ -251,10 +256,11 @@ fn ordered<'s, S: Source<C>, C>(
 
 // A list in the order of its elements' keys, which are found once each.
 #[cycle(eval)]
-#[tactic(auto, using(cs_parts::proofs::Trees::tree_of_null))]
+#[tactic(auto, using(cs_parts::proofs::Trees::tree_of_null, cs_order::proofs::Enters::first_null))]
 fn sorted_list<'s, S: Source<C>, C>(
     alloc: Global,
     order: &'s [OrderKey],
+    limit: Option<usize>,
     frame: &Scope<'s>,
     params: &'s Fields,
     source: &'s S,
@@ -262,63 +268,113 @@ fn sorted_list<'s, S: Source<C>, C>(
     keys: &mut Record,
     count: &mut C,
 ) -> Result<Got<'s>, NoMemory>
-    ensures value { IfOk result (λ g. got g ≡ ordered (directions (keys_of (map order_key_of
-        order.now))) (λ x. keys_values (S.docs source.now) (fields params.now) (keys_of (map
-        order_key_of order.now)) (x ∷ (scope frame.now))) (got value.entry)) }
+    ensures value { IfOk result (λ g. got g ≡ first_elements limit (ordered (directions (keys_of
+        (map order_key_of order.now))) (λ x. keys_values (S.docs source.now) (fields params.now)
+        (keys_of (map order_key_of order.now)) (x ∷ (scope frame.now))) (got value.entry))) }
     ensures keys { OnOk result (keys.new ≡ keys.old ++ each_looked (λ x. keys_looked (S.docs
         source.now) (fields params.now) (keys_of (map order_key_of order.now)) (x ∷ (scope
         frame.now))) (got value.entry)) }
 {
-    let Some(items) = elements(alloc, value)? else {
+    let Some(unsorted) = elements(alloc, value)? else {
         return Ok(Got::Whole(Val::Null));
     };
-    let ranked = rank_each(alloc, order, frame, params, source, items, keys, count)?;
     let directions = directions(alloc, order)?;
-    let sorted = in_order(ranked, &directions)?;
+    let ranked = rank_each(
+        alloc,
+        &*order,
+        &directions,
+        limit,
+        &*frame,
+        &*params,
+        &*source,
+        unsorted,
+        keys,
+        count,
+    )?;
+    let sorted = in_order(ranked, &directions, limit)?;
     let items = items_of(alloc, sorted)?;
     gather(alloc, items)
 }
 
-// Each element beside the values of its keys.
+// Each element beside the values of its keys, or those alone that are among the first.
 #[cycle(eval)]
-fn rank_each<'s, S: Source<C>, C>(
+#[tactic(auto, using(cs_order::proofs::Kept::can_keep_none))]
+fn rank_each<'k, 's: 'k, S: Source<C>, C>(
     alloc: Global,
-    order: &[OrderKey],
-    frame: &Scope<'_>,
-    params: &Fields,
-    source: &S,
+    order: &'k [OrderKey],
+    directions: &[bool],
+    limit: Option<usize>,
+    frame: &'k Scope<'k>,
+    params: &'k Fields,
+    source: &'k S,
     items: Vec<Item<'s>>,
     keys: &mut Record,
     count: &mut C,
-) -> Result<Vec<Ranked<'s>>, NoMemory>
-    ensures value { IfOk result (λ v. map ranked_of v.items ≡ map (ranked (λ x. keys_values
-        (S.docs source.now) (fields params.now) (keys_of (map order_key_of order.now)) (x ∷ (scope
-        frame.now)))) (map item items.entry.items)) }
+) -> Result<Vec<Ranked<'k, 's>>, NoMemory>
+    ensures value { IfOk result (λ v. map ranked_of v.items ≡ all_kept directions.now limit []
+        (map (ranked (λ x. keys_values (S.docs source.now) (fields params.now) (keys_of (map
+        order_key_of order.now)) (x ∷ (scope frame.now)))) (map item items.entry.items))) }
     ensures keys { OnOk result (keys.new ≡ keys.old ++ flat_map (λ x. keys_looked (S.docs
         source.now) (fields params.now) (keys_of (map order_key_of order.now)) (x ∷ (scope
         frame.now))) (map item items.entry.items)) }
 {
-    let mut out = Vec::new(alloc);
+    let mut kept = Vec::new(alloc);
     for i in items {
-        let by = rank_one(alloc, order, frame, params, source, i.val(), keys, count)?;
-        push(&mut out, Ranked { by, item: i })?;
+        let one = rank_one(alloc, order, frame, params, source, i, keys, count)?;
+        admit(&mut kept, one, directions, limit)?;
     }
-    Ok(out)
+    Ok(kept)
+}
+
+// An element beside the values of its keys. Those of an element that was made are copied, since
+// the element is moved.
+#[cycle(eval)]
+fn rank_one<'k, 's: 'k, S: Source<C>, C>(
+    alloc: Global,
+    order: &'k [OrderKey],
+    frame: &'k Scope<'k>,
+    params: &'k Fields,
+    source: &'k S,
+    one: Item<'s>,
+    keys: &mut Record,
+    count: &mut C,
+) -> Result<Ranked<'k, 's>, NoMemory>
+    ensures value { IfOk result (λ r. ranked_of r ≡ ranked (λ x. keys_values (S.docs source.now)
+        (fields params.now) (keys_of (map order_key_of order.now)) (x ∷ (scope frame.now)))
+        (item one.entry)) }
+    ensures keys { OnOk result (keys.new ≡ keys.old ++ keys_looked (S.docs source.now) (fields
+        params.now) (keys_of (map order_key_of order.now)) (item one.entry ∷ (scope frame.now))) }
+{
+    match one {
+        Item::Lent(val) => Ok(Ranked {
+            by: rank_keys(alloc, order, frame, params, source, val, keys, count)?,
+            item: Item::Lent(val),
+        }),
+        Item::Made(val) => {
+            let by = rank_keys(
+                alloc, &*order, &*frame, &*params, &*source, &val, keys, count,
+            )?;
+            Ok(Ranked {
+                by: owned(alloc, by)?,
+                item: Item::Made(val),
+            })
+        }
+    }
 }
 
 // The values of the keys in the scope of the element in front.
 #[cycle(eval)]
-fn rank_one<S: Source<C>, C>(
+fn rank_keys<'k, S: Source<C>, C>(
     alloc: Global,
-    order: &[OrderKey],
-    frame: &Scope<'_>,
-    params: &Fields,
-    source: &S,
-    this: &Val,
+    order: &'k [OrderKey],
+    frame: &'k Scope<'k>,
+    params: &'k Fields,
+    source: &'k S,
+    this: &'k Val,
     keys: &mut Record,
     count: &mut C,
-) -> Result<Vec<Val>, NoMemory>
-    ensures value { IfOk result (λ v. map tree v.items ≡ keys_values (S.docs source.now) (fields
+) -> Result<Vec<Item<'k>>, NoMemory>
+    ensures value { IfOk result (λ v. map item v.items ≡ keys_values (S.docs source.now) (fields
         params.now) (keys_of (map order_key_of order.now)) (tree this.now ∷ (scope frame.now))) }
     ensures keys { OnOk result (keys.new ≡ keys.old ++ keys_looked (S.docs source.now) (fields
         params.now) (keys_of (map order_key_of order.now)) (tree this.now ∷ (scope frame.now))) }
@@ -333,16 +389,16 @@ fn rank_one<S: Source<C>, C>(
 // The values of an order's keys.
 #[cycle(eval)]
 #[tactic(auto, using(cs_syntax::proofs::Views::key_seen))]
-fn order_keys<S: Source<C>, C>(
+fn order_keys<'k, S: Source<C>, C>(
     alloc: Global,
-    order: &[OrderKey],
-    frame: &Scope<'_>,
-    params: &Fields,
-    source: &S,
+    order: &'k [OrderKey],
+    frame: &Scope<'k>,
+    params: &'k Fields,
+    source: &'k S,
     keys: &mut Record,
     count: &mut C,
-) -> Result<Vec<Val>, NoMemory>
-    ensures value { IfOk result (λ v. map tree v.items ≡ keys_values (S.docs source.now) (fields
+) -> Result<Vec<Item<'k>>, NoMemory>
+    ensures value { IfOk result (λ v. map item v.items ≡ keys_values (S.docs source.now) (fields
         params.now) (keys_of (map order_key_of order.now)) (scope frame.now)) }
     ensures keys { OnOk result (keys.new ≡ keys.old ++ keys_looked (S.docs source.now) (fields
         params.now) (keys_of (map order_key_of order.now)) (scope frame.now)) }
@@ -350,8 +406,9 @@ fn order_keys<S: Source<C>, C>(
     let mut out = Vec::new(alloc);
     let mut behind = order;
     while let Some((first, later)) = behind.split_first() {
-        let val = eval(alloc, &first.key, frame, params, source, keys, count)?.into_val(alloc)?;
-        push(&mut out, val)?;
+        let here = eval(alloc, &first.key, frame, params, source, keys, count)?;
+        let key = settle(alloc, here)?;
+        push(&mut out, key)?;
         behind = later;
     }
     Ok(out)

@@ -1,10 +1,8 @@
 pub mod Arities
 pub mod DescendingKeys
-pub mod Keys
 pub mod ListPlaces
 pub mod Places
 pub mod Sets
 pub mod Shapes
 pub mod Slices
-pub mod Sorts
 pub mod Trees

@@ -2,5 +2,4 @@ pub mod Brackets
 pub mod Callees
 pub mod Kinds
 pub mod Parts
-pub mod Ranked
 pub mod Turns

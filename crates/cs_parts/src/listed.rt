@@ -1,13 +1,10 @@
-//! The parts of an order.
+//! Which keys of an order are descending.
 ghost use Rattle.std.specs.Prelude.{◌≡◌, IfOk, map};
 ghost use Rattle.cs_syntax.specs.Expression.{keys_of};
 ghost use Rattle.cs_syntax.specs.View.{key as order_key_of};
 ghost use Rattle.cs_meaning.specs.Ordered.{directions};
-ghost use Rattle.cs_parts.specs.Parts.{item};
-ghost use Rattle.cs_parts.specs.Ranked.{ranked};
 
-use crate::ranks::Ranked;
-use crate::{Item, push};
+use crate::push;
 use cs_syntax::OrderKey;
 use cs_value::NoMemory;
 use std::alloc::Global;
@@ -22,19 +19,6 @@ pub fn directions(alloc: Global, order: &[OrderKey]) -> Result<Vec<bool>, NoMemo
     while let Some((first, later)) = left.split_first() {
         push(&mut out, first.desc)?;
         left = later;
-    }
-    Ok(out)
-}
-
-/// The elements without their keys.
-pub fn items_of<'s>(alloc: Global, list: Vec<Ranked<'s>>) -> Result<Vec<Item<'s>>, NoMemory>
-    ensures { IfOk result (λ v. map item v.items ≡ map (λ x. x.item) (map ranked
-        list.entry.items)) }
-{
-    let mut out = Vec::new(alloc);
-    for one in list {
-        let Ranked { by: _keys, item } = one;
-        push(&mut out, item)?;
     }
     Ok(out)
 }

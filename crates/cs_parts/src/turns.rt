@@ -4,7 +4,6 @@ ghost use Rattle.cs_syntax.specs.View.{expression, step as step_of};
 ghost use Rattle.cs_meaning.specs.Joining.{as_list};
 ghost use Rattle.cs_meaning.specs.Looked.{is_everything};
 ghost use Rattle.cs_meaning.specs.Operators.{signed};
-ghost use Rattle.cs_meaning.specs.Values.{is_pipe};
 ghost use Rattle.cs_parts.specs.Turns.{turn, is_end, is_over_way};
 ghost use Rattle.cs_parts.specs.Parts.{got, item};
 
@@ -51,17 +50,6 @@ pub fn is_all(expr: &Expr) -> bool
 {
     match expr {
         Expr::All => true,
-        _ => false,
-    }
-}
-
-/// The step is a piped call.
-#[tactic(auto, unfolding(cs_syntax::specs::View::step))]
-pub fn is_pipe(step: &Step) -> bool
-    ensures { result ≡ is_pipe (step_of step.now) }
-{
-    match step {
-        Step::Pipe { .. } => true,
         _ => false,
     }
 }

@@ -1,7 +1,7 @@
 use Rattle.std.proofs.Common.{◌≡◌, ◌+◌, List, ◌∷◌, ◌++◌, map, refl, sym, ap, subst, ◌∙◌, IfOk, OnOk, arith, false, Some, None, option_map}
 use Rattle.cs_value.specs.Tree.{Tree}
 use Rattle.cs_value.specs.View.{tree, fields}
-use Rattle.cs_syntax.specs.Expression.{Step, more_steps, more_arguments, more_keys, call, run, operands_of, steps_of, arguments_of, keys_of}
+use Rattle.cs_syntax.specs.Expression.{Step, more_steps, more_arguments, more_keys, call, pipe, run, operands_of, steps_of, arguments_of, keys_of}
 use Rattle.cs_syntax.specs.View.{expression, operands, step, arg, key}
 use Rattle.cs_syntax.specs.declared.tree.Arg.{Arg as CodeArg}
 use Rattle.cs_syntax.specs.declared.tree.OrderKey.{OrderKey as CodeKey}
@@ -9,19 +9,22 @@ use Rattle.cs_syntax.specs.declared.tree.Step.{Step as CodeStep}
 use Rattle.cs_view.specs.Scopes.{scope}
 use Rattle.cs_view.specs.declared.key.Key.{Key}
 use Rattle.cs_meaning.specs.declared.join.Entrance.TheVariants.{Whole, Mapped, Flat}
-use Rattle.cs_meaning.specs.Joining.{form, kind, way, entrance, list_of}
+use Rattle.cs_meaning.specs.Joining.{as_list, form, kind, way, entrance, list_of}
+use Rattle.cs_meaning.specs.Ordered.{directions}
+use Rattle.cs_order.specs.Ranked.{ranked as ranked_of}
+use Rattle.cs_eval.proofs.Firsts.{first_of_order}
 use Rattle.cs_meaning.specs.Values.{value, step_value, selected, keys_values}
 use Rattle.cs_meaning.specs.Looked.{looked, run_looked, rest_looked, step_looked, entered_looked, arguments_looked, selected_looked, keys_looked}
-use Rattle.cs_parts.specs.Parts.{got}
+use Rattle.cs_parts.specs.Parts.{got, item}
 use Rattle.cs_parts.specs.Turns.{turn, is_end}
-use Rattle.cs_eval.specs.Starts.{enter_value, enter_looked, once_looked}
+use Rattle.cs_eval.specs.Starts.{enter_value, enter_looked, once_looked, piped_looked}
 use Rattle.cs_eval.specs.Weight.{weight, operands_weight, arguments_weight, step_weight, steps_weight, keys_weight}
 use Rattle.cs_parts.specs.Callees.{path_arguments}
 use Rattle.cs_syntax.proofs.Views.{expression_call}
 use Rattle.cs_parts.proofs.Trees.{tree_of_null}
 use Rattle.cs_eval.specs.Choosing.{chosen, chosen_looked}
 use Rattle.cs_eval.proofs.Calling.{none_left, selected_here, selected_looks_here, selected_on, selected_looks_on, chosen_weight, within_path, within_list, path_looked, path_weight}
-use Rattle.cs_eval.proofs.Sorting.{keys_values_more, keys_looked_more, keys_weight_more, pushed_values}
+use Rattle.cs_eval.proofs.Sorting.{keys_values_more, keys_looked_more, keys_weight_more, pushed_values, piped_first, piped_first_looks}
 use Rattle.cs_eval.proofs.Answered.{run_parts, run_keys, one_after_another, pipe_parts, kept_docs, kept_keys, star_value, star_looked, is_everything_then, step_looks_on, kind_behind, kinds_behind}
 use Rattle.cs_eval.specs.Levels.{unwound, task_value, task_waiting, levels_waiting}
 use Rattle.cs_eval.specs.Levels.{reached_waiting, reached_weight}
@@ -261,13 +264,13 @@ steps::order_keys-loop-first-preserved g t c =
     let is = c.in-Some.ensures.cases.0 in
     let k = c.in-Some.first.now in
     let ks = keys_of (map key c.in-Some.later.now) in
-    let v : tree c.in_ok-val.val ≡ value docs ps (expression k.key) sc = c.in_ok-val.ensures ∙ c.in_ok-eval.ensures.value in
+    let v : item c.in_ok-key.key ≡ value docs ps (expression k.key) sc = c.in_ok-key.ensures ∙ c.in_ok-here.ensures.value in
     let heavy : keys_weight (keys_of (map key l.behind.now)) ≡ 9 + (weight (expression k.key) + keys_weight ks) = ap (λ (xs : List CodeKey). keys_weight (keys_of (map key xs))) is ∙ keys_weight_more k ks in
     record {
-      value = pushed_values l.out.items _ c.in_ok-val.val (keys_values docs ps ks sc) c.in_ok-push.ensures
-          ∙ (ap (λ (x : Tree). map tree l.out.items ++ x ∷ keys_values docs ps ks sc) v ∙ (ap (λ (xs : List Tree). map tree l.out.items ++ xs) (sym (keys_values_more docs ps k ks sc))
-          ∙ (ap (λ (xs : List CodeKey). map tree l.out.items ++ keys_values docs ps (keys_of (map key xs)) sc) (sym is) ∙ l.invariant.value)));
-      keys = one_after_another l.keys c.eval.new.keys (keys_looked docs ps (more_keys (key k) ks) sc) (looked docs ps (expression k.key) sc) (keys_looked docs ps ks sc) c.in_ok-eval.ensures.keys
+      value = pushed_values l.out.items _ c.in_ok-key.key (keys_values docs ps ks sc) c.in_ok-push.ensures
+          ∙ (ap (λ (x : Tree). map item l.out.items ++ x ∷ keys_values docs ps ks sc) v ∙ (ap (λ (xs : List Tree). map item l.out.items ++ xs) (sym (keys_values_more docs ps k ks sc))
+          ∙ (ap (λ (xs : List CodeKey). map item l.out.items ++ keys_values docs ps (keys_of (map key xs)) sc) (sym is) ∙ l.invariant.value)));
+      keys = one_after_another l.keys c.eval.new.keys (keys_looked docs ps (more_keys (key k) ks) sc) (looked docs ps (expression k.key) sc) (keys_looked docs ps ks sc) c.in_ok-here.ensures.keys
           (keys_looked_more docs ps k ks sc)
           ∙ (ap (λ (xs : List CodeKey). l.keys ++ keys_looked docs ps (keys_of (map key xs)) sc) (sym is) ∙ l.invariant.keys);
       lighter = omega (arith, heavy, l.invariant.lighter);
@@ -545,3 +548,59 @@ chains::climb-returns-in-Done-clause-keys g t c =
     (done_order c.in_ok-value.field-0 c.next_task.new.levels.items c.in-Done.value old
     c.in-Done.is c.in_ok-value.ensures.ended c.in_ok-value.ensures.order)
     l.invariant.keys
+
+pub chains::piped-ordered-requires : goal.chains::piped-ordered-requires
+chains::piped-ordered-requires g t c κs within =
+    let w : step_weight (step c.args.step.now) ≡ 9 + keys_weight (keys_of (map key c.in-Some.order.now)) = ap step_weight c.in-Some.ensures.some in
+    (omega arith, within)
+
+pub chains::piped-returns-clause-value : goal.chains::piped-returns-clause-value
+chains::piped-returns-clause-value g t c =
+    let docs = g.S.Source.docs c.args.source.now in
+    let ps = fields c.args.params.now in
+    let sc = scope c.args.frame.now in
+    let ks = keys_of (map key c.in-Some.order.now) in
+    subst (λ (y : Tree). IfOk c.enter.result (λ g'. got g' ≡ y))
+    (piped_first docs ps (step c.args.step.now) c.in-Some.name.now ks
+    (steps_of (map step c.args.steps.now)) sc c.first_asked-limit.result (got c.args.value)
+    (got c.in_ok-list.list) c.in-Some.ensures.some c.first_asked-limit.ensures
+    c.in_ok-list.ensures.value)
+    c.enter.ensures.value
+
+pub chains::piped-returns-clause-keys : goal.chains::piped-returns-clause-keys
+chains::piped-returns-clause-keys g t c =
+    let docs = g.S.Source.docs c.args.source.now in
+    let ps = fields c.args.params.now in
+    let sc = scope c.args.frame.now in
+    let ks = keys_of (map key c.in-Some.order.now) in
+    let ss = steps_of (map step c.args.steps.now) in
+    let v = got c.args.value in
+    let l = got c.in_ok-list.list in
+    subst (λ (looks : List Key). OnOk c.enter.result (c.enter.new.keys ≡ looks))
+    (one_after_another c.args.keys.now c.ordered.new.keys
+    (piped_looked docs ps (step c.args.step.now) ss sc v)
+    (step_looked docs ps (pipe c.in-Some.name.now ks) sc v) (enter_looked docs ps ss sc l)
+    c.in_ok-list.ensures.keys
+    (piped_first_looks docs ps (step c.args.step.now) c.in-Some.name.now ks ss sc
+    c.first_asked-limit.result v l c.in-Some.ensures.some c.first_asked-limit.ensures
+    c.in_ok-list.ensures.value))
+    c.enter.ensures.keys
+
+pub steps::sorted_list-returns-clause-value : goal.steps::sorted_list-returns-clause-value
+steps::sorted_list-returns-clause-value g t c =
+    let docs = g.S.Source.docs c.args.source.now in
+    let ps = fields c.args.params.now in
+    let sc = scope c.args.frame.now in
+    let ks = keys_of (map key c.args.order.now) in
+    let ts = map item c.in-Some.unsorted.items in
+    let is : as_list (got c.args.value) ≡ Some ts = sym c.in_ok-unsorted.ensures
+    ∙ ap (λ o. option_map (λ v. map item v.items) o) c.in-Some.is in
+    subst (λ (y : Tree). IfOk c.gather.result (λ g'. got g' ≡ y))
+    (first_of_order (directions ks) c.deref.result.now c.deref-2.result.now
+    (λ x. keys_values docs ps ks (x ∷ sc)) c.args.limit (got c.args.value) ts
+    (map item c.in_ok-items.items.items) (map ranked_of c.in_ok-ranked.ranked.items)
+    (map ranked_of c.in_ok-sorted.sorted.items) is c.in_ok-ranked.ensures.value
+    c.in_ok-sorted.ensures c.in_ok-items.ensures
+    (c.deref.ensures.value ∙ c.in_ok-directions.ensures)
+    (c.deref-2.ensures.value ∙ c.in_ok-directions.ensures))
+    c.gather.ensures

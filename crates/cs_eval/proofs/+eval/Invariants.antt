@@ -1,5 +1,5 @@
 -- Measures and invariants of the evaluator.
-use Rattle.std.proofs.Common.{◌≡◌, ◌+◌, ◌++◌, ◌≤◌, ◌∷◌, map, length}
+use Rattle.std.proofs.Common.{◌≡◌, ◌+◌, ◌++◌, ◌≤◌, [], ◌∷◌, map, length}
 use Rattle.std.specs.Prelude.{filter, flat_map}
 use Rattle.std.specs.Vec.Iter.{into_iter_items}
 use Rattle.cs_value.specs.View.{tree, fields}
@@ -10,7 +10,8 @@ use Rattle.cs_meaning.specs.Operators.{is_true}
 use Rattle.cs_meaning.specs.Values.{value, run_value, arguments_values, coalesced, selected, elements_values, entries_pairs, rest_value, pipes_value, step_value, keys_values}
 use Rattle.cs_meaning.specs.Looked.{looked, run_looked, arguments_looked, coalesced_looked, selected_looked, elements_looked, entries_looked, rest_looked, pipes_looked, step_looked, keys_looked}
 use Rattle.cs_meaning.specs.Ordered.{ranked}
-use Rattle.cs_parts.specs.Ranked.{ranked as ranked_of}
+use Rattle.cs_order.specs.First.{all_kept, CanKeep}
+use Rattle.cs_order.specs.Ranked.{ranked as ranked_of}
 use Rattle.cs_parts.specs.Parts.{got, item}
 use Rattle.cs_parts.specs.Kinds.{kinds_of}
 use Rattle.cs_eval.specs.Weight.{weight, operands_weight, argument_weight, arguments_weight, element_weight, elements_weight, entry_weight, entries_weight, step_weight, steps_weight, keys_weight}
@@ -213,18 +214,31 @@ decreases-steps::rank_each g l = keys_weight (keys_of (map key l.order.now)) + 3
 abbrev pub decreases-steps::rank_one : goal.decreases-steps::rank_one
 decreases-steps::rank_one g l = keys_weight (keys_of (map key l.order.now)) + 2
 
+abbrev pub decreases-steps::rank_keys : goal.decreases-steps::rank_keys
+decreases-steps::rank_keys g l = keys_weight (keys_of (map key l.order.now)) + 1
+
 abbrev pub decreases-steps::order_keys : goal.decreases-steps::order_keys
 decreases-steps::order_keys g l = keys_weight (keys_of (map key l.order.now))
 
 abbrev pub invariant-steps::rank_each-loop-i : goal.invariant-steps::rank_each-loop-i
 invariant-steps::rank_each-loop-i g l = record {
-  value : map ranked_of l.out.items ++ map (ranked (λ x. keys_values (g.S.Source.docs l.source) (fields l.params) (keys_of (map key l.order)) (x ∷ scope l.frame))) (map item (into_iter_items l.i-iterator)) ≡ map (ranked (λ x. keys_values (g.S.Source.docs l.source) (fields l.params) (keys_of (map key l.order)) (x ∷ scope l.frame))) (map item (into_iter_items l.initial.i-iterator));
-  keys : l.keys ++ flat_map (λ x. keys_looked (g.S.Source.docs l.source) (fields l.params) (keys_of (map key l.order)) (x ∷ scope l.frame)) (map item (into_iter_items l.i-iterator)) ≡ l.initial.keys ++ flat_map (λ x. keys_looked (g.S.Source.docs l.source) (fields l.params) (keys_of (map key l.order)) (x ∷ scope l.frame)) (map item (into_iter_items l.initial.i-iterator));
+  value : all_kept l.directions l.limit (map ranked_of l.kept.items) (map (ranked (λ x. keys_values
+      (g.S.Source.docs l.source) (fields l.params) (keys_of (map key l.order))
+      (x ∷ scope l.frame))) (map item (into_iter_items l.i-iterator)))
+      ≡ all_kept l.directions l.limit [] (map (ranked (λ x. keys_values
+      (g.S.Source.docs l.source) (fields l.params) (keys_of (map key l.order))
+      (x ∷ scope l.frame))) (map item (into_iter_items l.initial.i-iterator)));
+  can : CanKeep l.directions l.limit (map ranked_of l.kept.items);
+  keys : l.keys ++ flat_map (λ x. keys_looked (g.S.Source.docs l.source) (fields l.params)
+      (keys_of (map key l.order)) (x ∷ scope l.frame)) (map item (into_iter_items l.i-iterator))
+      ≡ l.initial.keys ++ flat_map (λ x. keys_looked (g.S.Source.docs l.source)
+      (fields l.params) (keys_of (map key l.order)) (x ∷ scope l.frame))
+      (map item (into_iter_items l.initial.i-iterator));
 }
 
 abbrev pub invariant-steps::order_keys-loop-first : goal.invariant-steps::order_keys-loop-first
 invariant-steps::order_keys-loop-first g l = record {
-  value : map tree l.out.items ++ keys_values (g.S.Source.docs l.source) (fields l.params) (keys_of (map key l.behind)) (scope l.frame) ≡ keys_values (g.S.Source.docs l.source) (fields l.params) (keys_of (map key l.order)) (scope l.frame);
+  value : map item l.out.items ++ keys_values (g.S.Source.docs l.source) (fields l.params) (keys_of (map key l.behind)) (scope l.frame) ≡ keys_values (g.S.Source.docs l.source) (fields l.params) (keys_of (map key l.order)) (scope l.frame);
   keys : l.keys ++ keys_looked (g.S.Source.docs l.source) (fields l.params) (keys_of (map key l.behind)) (scope l.frame) ≡ l.initial.keys ++ keys_looked (g.S.Source.docs l.source) (fields l.params) (keys_of (map key l.order)) (scope l.frame);
   lighter : keys_weight (keys_of (map key l.behind)) ≤ keys_weight (keys_of (map key l.order));
 }

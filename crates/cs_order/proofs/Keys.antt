@@ -2,8 +2,8 @@
 use Rattle.std.proofs.Common.{◌≡◌, ℕ, zero, suc, ◌+◌, ◌<◌, List, [], ◌∷◌, map, length, get_or, drop, refl, sym, ap, ◌∙◌, Bool, Ordering, arith}
 use Rattle.std.specs.Ordering.{ordering_then}
 use Rattle.cs_value.specs.Tree.{Tree, null}
-use Rattle.cs_value.specs.View.{tree}
-use Rattle.cs_value.specs.declared.val.Val.{Val}
+use Rattle.cs_parts.specs.Parts.{item}
+use Rattle.cs_parts.specs.declared.item.Item.{Item}
 use Rattle.cs_meaning.specs.Ordered.{compared, by_keys}
 
 first_at : (p : ℕ) (xs : List Tree) → get_or (drop p xs) 0 null ≡ get_or xs p null
@@ -34,7 +34,7 @@ decided left later d p xs ys o all x y is so_far is-o is-x is-y =
     ∙ (ap (λ (r : Ordering). ordering_then r (by_keys later (drop (suc p) xs) (drop (suc p) ys))) (is-o ∙ (ap (λ (t : Tree). compared d t y) is-x ∙ ap (compared d (get_or xs p null)) is-y))
     ∙ (sym (one_key left later d p xs ys is) ∙ so_far))
 
-pub tree_at : (vs : List Val) (i : ℕ) (d : Val) → i < length vs → tree (get_or vs i d) ≡ get_or (map tree vs) i null
-tree_at [] i d h = absurd (omega arith)
-tree_at (v ∷ vs) zero d h = refl
-tree_at (v ∷ vs) (suc i) d h = tree_at vs i d (omega arith)
+pub item_at : (vs : List Item) (i : ℕ) (d : Item) → i < length vs → item (get_or vs i d) ≡ get_or (map item vs) i null
+item_at [] i d h = absurd (omega arith)
+item_at (v ∷ vs) zero d h = refl
+item_at (v ∷ vs) (suc i) d h = item_at vs i d (omega arith)

@@ -1,0 +1,5 @@
+pub mod Keys
+pub mod Sorts
+pub mod Kept
+pub mod Placed
+pub mod Enters

@@ -1,0 +1,81 @@
+//! How many of the first elements of a list the rest of a chain looks at.
+ghost use Rattle.std.specs.Prelude.{◌≡◌, ◌≤◌, IfSome, Some, map, pos};
+ghost use Rattle.cs_syntax.specs.Expression.{steps_of};
+ghost use Rattle.cs_syntax.specs.Numbers.{whole_number};
+ghost use Rattle.cs_syntax.specs.View.{expression, step as step_of};
+ghost use Rattle.cs_plan.specs.Steps.{bracketed, position_of as position_in};
+ghost use Rattle.cs_parts.specs.Brackets.{place_of};
+ghost use Rattle.cs_order.specs.Asked.{slice_end, bracket_end, step_end, first_asked};
+
+use cs_parts::{Bracket, Place, bracket_of, position_of};
+use cs_syntax::{Expr, Step};
+
+// Above this the whole list is sorted: a place among so many would take too long to make.
+const MOST: usize = 256;
+
+/// How many of the first elements a rest looks at, where its first step says so and they are few.
+pub fn first_asked(steps: &[Step]) -> Option<usize>
+    ensures { IfSome result (λ k. first_asked (steps_of (map step_of steps.now)) ≡ Some k) }
+{
+    let (first, _) = steps.split_first()?;
+    step_end(first)
+}
+
+// The same of one step.
+#[tactic(auto, using(cs_syntax::proofs::Views::step_slice), unfolding(cs_syntax::specs::View::step, cs_syntax::specs::View::expression))]
+fn step_end(step: &Step) -> Option<usize>
+    ensures { IfSome result (λ k. step_end (step_of step.now) ≡ Some k) }
+{
+    match step {
+        Step::Slice { from, to, closed } => slice_end(from, to, *closed),
+        Step::Bracket(inner) => bracket_end(inner),
+        _ => None,
+    }
+}
+
+// The end of a slice that starts and ends at places counted from the start.
+fn slice_end(from: &Expr, to: &Expr, closed: bool) -> Option<usize>
+    ensures { IfSome result (λ k. slice_end (position_in (expression from.now))
+        (position_in (expression to.now)) closed ≡ Some k) }
+{
+    let _start = front(position_of(from)?)?;
+    let end = front(position_of(to)?)?;
+    Some(if closed { end + 1 } else { end })
+}
+
+// The place behind an element that is counted from the start.
+fn bracket_end(inner: &Expr) -> Option<usize>
+    ensures { IfSome result (λ k. bracket_end (bracketed (expression inner.now)) ≡ Some k) }
+{
+    match bracket_of(inner) {
+        Bracket::Position(place) => Some(front(place)? + 1),
+        _ => None,
+    }
+}
+
+// The place, where it is counted from the start and near it.
+fn front(place: Place<'_>) -> Option<usize>
+    ensures place { IfSome result (λ n. place_of place.entry ≡ pos n) }
+    ensures near { IfSome result (λ n. n ≤ 256) }
+{
+    if place.negative {
+        None
+    } else {
+        small(place.digits)
+    }
+}
+
+// The number, where it is small.
+fn small(digits: &str) -> Option<usize>
+    ensures number { IfSome result (λ n. n ≡ whole_number digits.now) }
+    ensures near { IfSome result (λ n. n ≤ 256) }
+{
+    let mut value: usize = 0;
+    for digit in digits.as_bytes() {
+        value = value * 10 + usize::from(digit.saturating_sub(b'0'));
+        if value > MOST {
+            return None;
+        }
+    }
+    Some(value)
+}
