@@ -1,11 +1,11 @@
 -- The tree of a value that is made of one part, and a function of a list's elements.
 use Rattle.std.proofs.Common.{◌≡◌, ℕ, List, ℤ, Vec, Global, rules, sym, ap, ◌∙◌}
+use Rattle.cs_value.specs.Words.{of_list}
 use Rattle.cs_value.specs.Tree.{Tree, null, integer, text, list, trees}
 use Rattle.cs_value.specs.View.{tree, list_tree}
 use Rattle.cs_value.specs.declared.val.Val.{Val, the_lemmas}
 use Rattle.cs_value.specs.declared.val.Val as val
 use Rattle.cs_value.proofs.Views.{tree-List, members-trees}
-use Rattle.cs_func.specs.Lists.{of_list}
 use Rattle.cs_func.specs.Texts.{joined, join}
 
 pub tree-Num : (n : ℤ) → tree (val.Num n) ≡ integer n

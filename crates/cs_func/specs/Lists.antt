@@ -1,17 +1,9 @@
 -- The functions of lists: GROQ-1.revision1, "count()", and its "Array" namespace.
 use Rattle.std.specs.Prelude.{List, [], ◌∷◌, ◌++◌, length, pos, Bool, true, false, not, if◌then◌else◌, filter}
 use Rattle.std.specs.List.{list_any}
-use Rattle.cs_value.specs.Tree.{Tree, null, boolean, integer, text, list, object, trees, members}
+use Rattle.cs_value.specs.Words.{of_list}
+use Rattle.cs_value.specs.Tree.{Tree, null, boolean, integer, text, list, object, trees}
 use Rattle.cs_ops.specs.Equal.{equal}
-
--- a function of a list's elements, null of anything else
-abbrev pub of_list : (List Tree → Tree) → Tree → Tree
-of_list f null = null
-of_list f (boolean b) = null
-of_list f (integer n) = null
-of_list f (text s) = null
-of_list f (list ts) = f (members ts)
-of_list f (object ps) = null
 
 abbrev pub is_null : Tree → Bool
 is_null null = true

@@ -1,11 +1,10 @@
 -- The functions of a list of numbers and nulls: GROQ-1.revision1, its "Math" namespace. A sum out
--- of 64 bits is null, not
--- one whose partial sums are: this project's profile.
+-- of 64 bits is null, not one whose partial sums are: this project's profile.
 use Rattle.std.specs.Prelude.{List, [], ◌∷◌, ℤ, pos, ◌+ℤ◌, Option, Some, None, option_map, fold}
 use Rattle.std.specs.Int.{int_min, int_max}
+use Rattle.cs_value.specs.Words.{of_list}
 use Rattle.cs_value.specs.Tree.{Tree, null, integer}
 use Rattle.cs_ops.specs.Arithmetic.{number}
-use Rattle.cs_func.specs.Lists.{of_list}
 
 -- the numbers of a list without its nulls; none where it has another element
 abbrev pub numbers : List Tree → Option (List ℤ)

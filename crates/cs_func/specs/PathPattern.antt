@@ -1,6 +1,5 @@
 -- Which texts a pattern of `path()` matches: GROQ-1.revision1, "path()". A pattern is cut at its
--- dots into parts, and what a
--- part matches is this project's profile.
+-- dots into parts, and what a part matches is this project's profile.
 use Rattle.std.specs.Prelude.{ℕ, List, [], ◌∷◌, ◌++◌, length, Bool, true, false, not, ◌&&◌, ◌||◌, ◌==◌, nat_lt, if◌then◌else◌, codes}
 use Rattle.std.specs.List.{list_all, slice_split}
 use Rattle.std.specs.Str.{bytes_eq}

@@ -1,6 +1,5 @@
 -- Whether a value refers to a document: GROQ-1.revision1, "references()". Nothing inside an object
--- that has a text
--- `_ref` is looked at: this project's profile.
+-- that has a text `_ref` is looked at: this project's profile.
 use Rattle.std.specs.Prelude.{ℕ, List, Bool, false, ◌||◌, Option, Some, None, codes}
 use Rattle.std.specs.List.{list_any}
 use Rattle.std.specs.Str.{bytes_eq}

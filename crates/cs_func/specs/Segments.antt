@@ -1,6 +1,5 @@
 -- The same over the segments of a text, which are what stands between its dots: `**` matches one
--- segment or more, and any
--- other part matches one. For private clauses.
+-- segment or more, and any other part matches one. For private clauses.
 use Rattle.std.specs.Prelude.{ℕ, List, [], ◌∷◌, Bool, true, false, ◌&&◌, ◌||◌, if◌then◌else◌, codes}
 use Rattle.std.specs.List.{slice_split}
 use Rattle.std.specs.Str.{bytes_eq}

@@ -53,7 +53,7 @@ fn send_fields<S: Serializer>(object: &Fields, out: &mut S) -> Result<(), S::Err
 {
     out.begin_map(Some(object.pairs.len()))?;
     for (key, member) in object.pairs.iter() {
-        out.key(key.as_str())?;
+        out.key(key)?;
         send(member, out)?;
     }
     out.end_map()

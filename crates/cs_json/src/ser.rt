@@ -12,8 +12,8 @@ use serde::{Described, Serialize, Serializer};
 use std::alloc::Global;
 
 /// The value's compact text: JSON without blanks, the attributes of each object in the order of
-/// their
-/// names, and without a newline at its end. `NoMemory` where the allocator has no room for it.
+/// their names, and without a newline at its end. `NoMemory` where the allocator has no room for
+/// it.
 pub fn write(alloc: Global, val: &Val) -> Result<Vec<u8>, NoMemory>
     ensures { IfOk result (λ b. b.items ≡ json_text (tree val.now)) }
 {

@@ -1,5 +1,5 @@
 -- The walk finds what the path selects.
-use Rattle.std.proofs.Common.{◌≡◌, ℕ, suc, ◌+◌, length, get_or, List, [], ◌∷◌, ◌++◌, map, Bool, true, false, cond, ◌&&◌, ◌||◌, drop, take, length-append, add-one, ◌-◌, ◌<◌, string_bytes, ◌⊎◌, inl, inr, unwrap_or, Iter, Result, Ok, Err, ℤ, refl, sym, ap, ◌∙◌, arith, rules, append_assoc}
+use Rattle.std.proofs.Common.{◌≡◌, ℕ, suc, ◌+◌, length, get_or, List, [], ◌∷◌, ◌++◌, map, Bool, true, false, cond, ◌&&◌, ◌||◌, drop, take, length-append, add-one, ◌-◌, ◌<◌, ◌⊎◌, inl, inr, unwrap_or, Iter, Result, Ok, Err, ℤ, refl, sym, ap, ◌∙◌, arith, rules, append_assoc}
 use Rattle.std.specs.Prelude.{slice_get}
 use Rattle.std.specs.List.{list_any, filter}
 use Rattle.std.proofs.lemmas.List.{append-nil, map-append, length-map, at_drop_more}
@@ -253,7 +253,7 @@ item_step found after above ws below ms xs i x here at next_is walked =
     ∙ ap (λ ls. found ++ reached above ws ms v ls) (sym first)
 
 pub pair_step : (found after : List Location) (above : Location) (ws below : List Bool) (ms : Path) (f : Fields) (es left : List Entry) (n : List ℕ) (e : Entry)
-    → es ≡ e ∷ left → n ≡ string_bytes e.0
+    → es ≡ e ∷ left → n ≡ e.0
     → below ≡ next (selects 0 (Name n) (tree e.1)) false ws ms
     → after ≡ found ++ reached (above ++ Name n ∷ []) below ms (tree e.1) (trails (tree e.1))
     → after ++ reached above ws ms (object (fields f)) (pair_trails (entries_tree left))

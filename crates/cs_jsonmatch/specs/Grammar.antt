@@ -1,7 +1,6 @@
 -- How a path is written: this project's profile of the paths of Sanity's patches ("JSONMatch").
--- Texts are lists of bytes; a
--- relation between a text and what it spells has one case for each alternative, and grows at its
--- right end.
+-- Texts are lists of bytes; a relation between a text and what it spells has one case for each
+-- alternative, and grows at its right end.
 use Rattle.std.specs.Prelude.{Option, Some, None, ◌≡◌, ◌⊎◌, ℕ, ◌<◌, ◌≤◌, ◌+◌, ◌*◌, ◌-◌, ℤ, pos, neg_ℤ, List, [], ◌∷◌, ◌++◌, length, take, Bool, true, false, cond, nat_eq, ◌||◌}
 use Rattle.cs_value.specs.Id.{is_between}
 use Rattle.cs_value.specs.Tree.{Tree, null, boolean, integer, text}
@@ -63,8 +62,7 @@ abbrev pub whole : Bool → List ℕ → ℤ
 whole negative w = cond negative (neg_ℤ (pos (number_from 0 w))) (pos (number_from 0 w))
 
 -- What stands between two quotes q, and the text that it spells: each byte itself, but no bare q,
--- and a backslash only
--- before a quote or a backslash, which then stands for itself.
+-- and a backslash only before a quote or a backslash, which then stands for itself.
 pub data IsInside : ℕ → List ℕ → List ℕ → Type 0 where
   nothing : (q : ℕ) → IsInside q [] []
   byte : (q : ℕ) (w s : List ℕ) (b : ℕ) → IsInside q w s → nat_eq b q ≡ false

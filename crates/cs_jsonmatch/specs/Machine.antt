@@ -26,8 +26,7 @@ text_item (second a) s = named s
 text_item (constant ns c) s = meets ns c (text s)
 
 -- Where the reading stands. A state has the path so far, and inside a step whether `..` stands
--- before it, its items so far,
--- and what has been read of the next item.
+-- before it, its items so far, and what has been read of the next item.
 pub data State : Type 0 where
   start : State
   first_dot : State

@@ -4,8 +4,7 @@ use Rattle.cs_value.specs.Tree.{Tree}
 use Rattle.cs_jsonmatch.specs.declared.path.Comparison.{Comparison}
 
 -- What one item between brackets selects. A name by itself is the one item `named`; a comparison
--- has the names that lead
--- to its left side, and `@` is no name.
+-- has the names that lead to its left side, and `@` is no name.
 pub data Item : Type 0 where
   position : ℤ → Item
   range : Option ℤ → Option ℤ → Item

@@ -114,9 +114,8 @@ selects count (Pos k) t (named n) = false
 selects count (Pos k) t (meets ns c u) = met c u (follow ns t)
 
 -- Whether a path leads from v along a trail: no steps lead to v itself; the first step selects the
--- first part, by one of
--- its items, and the others lead on from there; or `..` stands before the first step, and the path
--- leads on from within.
+-- first part, by one of its items, and the others lead on from there; or `..` stands before the
+-- first step, and the path leads on from within.
 abbrev pub leads : Path → Tree → Trail → Bool
 leads [] v [] = true
 leads [] v (e ∷ l) = false

@@ -157,11 +157,11 @@ fn walk_pairs(
     ensures above { OnOk result (above.new.items ≡ above.old.items) }
 {
     for (name, member) in object.pairs.iter() {
-        let below = next(alloc, steps, waiting, 0, Key::Name(name.as_str()), member)?;
+        let below = next(alloc, steps, waiting, 0, Key::Name(name), member)?;
         if !any_waits(&below) {
             continue;
         }
-        above.push(Part::Name(Txt::copy_of(alloc, name.as_str())?))?;
+        above.push(Part::Name(Txt::copy_of(alloc, name)?))?;
         walk(alloc, steps, &below, member, above, found)?;
         drop(above.pop());
     }

@@ -48,19 +48,19 @@ pub(crate) fn sum_onto(alloc: Global, a: Val, b: &Val) -> Result<Val, NoMemory>
     ensures memory { IfErr result (λ _. IsTrue (joins (tree a) (tree b.now))) }
 {
     match b {
-        Val::Text(t) => text_onto(a, t),
+        Val::Text(t) => text_onto(alloc, a, t),
         Val::List(more) => list_onto(alloc, a, more),
         Val::Obj(right) => object_onto(alloc, a, right),
         _ => sum(alloc, &a, b),
     }
 }
 
-fn text_onto(a: Val, right: &Txt) -> Result<Val, NoMemory>
+fn text_onto(alloc: Global, a: Val, right: &Txt) -> Result<Val, NoMemory>
     ensures value { IfOk result (λ v. tree v ≡ sum (tree a) (text right.now)) }
     ensures memory { IfErr result (λ _. IsTrue (joins (tree a) (text right.now))) }
 {
     match a {
-        Val::Text(left) => Ok(Val::Text(longer_text(left, right)?)),
+        Val::Text(left) => Ok(Val::Text(longer_text(alloc, left, right)?)),
         _ => Ok(Val::Null),
     }
 }
@@ -87,10 +87,10 @@ fn object_onto(alloc: Global, a: Val, right: &Fields) -> Result<Val, NoMemory>
     }
 }
 
-fn longer_text(left: Txt, right: &Txt) -> Result<Txt, NoMemory>
+fn longer_text(alloc: Global, left: Txt, right: &Txt) -> Result<Txt, NoMemory>
     ensures { IfOk result (λ t. t ≡ left ++ right.now) }
 {
-    let mut text = left.into_string();
+    let mut text = left.into_string(alloc)?;
     text.push_str(right.as_str())?;
     Ok(Txt::from_string(text))
 }
@@ -144,7 +144,7 @@ fn put_all(alloc: Global, left: Val, right: &Fields) -> Result<Val, NoMemory>
         return Ok(Val::Null);
     };
     for (key, member) in right.pairs.iter() {
-        let name = Txt::copy_of(alloc, key.as_str())?;
+        let name = Txt::copy_of(alloc, key)?;
         drop(object.put(name, member.copy(alloc)?)?);
     }
     Ok(Val::Obj(object))

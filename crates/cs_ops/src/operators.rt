@@ -73,8 +73,7 @@ macro_rules! compared {
 }
 
 /// The value of `a op b`. `NoMemory` comes from `+` alone, where two texts, two lists or two
-/// objects
-/// are joined; nothing else takes memory.
+/// objects are joined; nothing else takes memory.
 pub fn binary(alloc: Global, op: Op, a: &Val, b: &Val) -> Result<Val, NoMemory>
     ensures value { IfOk result (λ v. tree v ≡ binary op (tree a.now) (tree b.now)) }
     ensures memory { IfErr result (λ _. (op ≡ Op.Add) × IsTrue (joins (tree a.now) (tree b.now))) }
@@ -120,8 +119,7 @@ pub fn prefix(op: Pre, a: &Val) -> Val
 }
 
 /// The value of `a in b`: whether some element of the list `b` is equal to `a`, null where `b` is
-/// no
-/// list. It takes no memory.
+/// no list. It takes no memory.
 pub fn within(a: &Val, b: &Val) -> Val
     ensures { tree result ≡ within (tree a.now) (tree b.now) }
 {

@@ -88,7 +88,7 @@ fn show_list(row: &mut String, items: &Vec<Val>) -> Result<(), Fail> {
 fn show_object(row: &mut String, object: &Fields) -> Result<(), Fail> {
     let mut mark = '{';
     for (name, member) in object.pairs.iter() {
-        show_member(row, mark, name.as_str(), member)?;
+        show_member(row, mark, name, member)?;
         mark = ',';
     }
     row.push_str(if mark == '{' { "{}" } else { "}" })?;

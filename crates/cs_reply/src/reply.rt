@@ -111,8 +111,7 @@ fn write_found(alloc: Global, node: Node<'_>, line: u32, out: &mut Vec<u8>) -> R
 
 impl Reply<'_> {
     /// Appends the reply to the line of the number: its compact text and a newline. After
-    /// `NoMemory`
-    /// a part of it may have been appended.
+    /// `NoMemory` a part of it may have been appended.
     pub fn write(self, alloc: Global, line: u32, out: &mut Vec<u8>) -> Result<(), NoMemory>
         ensures { OnOk result (Appended out.old.items out.new.items
             (reply_tree line (reply self.entry))) }

@@ -1,12 +1,11 @@
 -- Pairs whose names ascend: what a change of them leaves in order, and where a name goes.
-use Rattle.std.proofs.Common.{◌≡◌, ℕ, zero, suc, List, [], ◌∷◌, ◌++◌, length, Some, Result, Ok, Err, OnOk, OnErr, Ordering, Less, Equal, Greater, Bool, true, false, cond, string_bytes, refl, sym, ap, ◌∙◌, subst, append_assoc, length-append, ◌+◌, ◌-◌, arith}
+use Rattle.std.proofs.Common.{◌≡◌, ℕ, zero, suc, List, [], ◌∷◌, ◌++◌, length, Some, Result, Ok, Err, OnOk, OnErr, Ordering, Less, Equal, Greater, Bool, true, false, cond, refl, sym, ap, ◌∙◌, subst, append_assoc, length-append, ◌+◌, ◌-◌, arith}
 use Rattle.std.proofs.lemmas.Cmp.{nat_list_cmp_total}
 use Rattle.std.specs.List.{AllByRecursion, slice_get}
 use Rattle.std.specs.List.Sorted.{IsStrictlySortedBy}
 use Rattle.std.specs.Map.{keys_of, remove_entry}
 use Rattle.std.specs.BTreeMap.{insert_entry}
 use Rattle.std.specs.Ordering.{match_ordering, ordering_reverse}
-use Rattle.std.specs.String.{string_cmp, string_cmp_total}
 use Rattle.std_collections.specs.Layout.BTreeMap.{seek, one_further}
 use Rattle.cs_value.specs.Entries.{Name, Ascend, compares}
 
@@ -17,18 +16,18 @@ pub empty : (V : Type 0) → Ascend {V = V} []
 unfolding IsStrictlySortedBy
 empty V = tt
 
-below_all : (k l : Name) (ks : List Name) → string_cmp k l ≡ Less
-    → AllByRecursion (λ y. string_cmp l y ≡ Less) ks
-    → AllByRecursion (λ y. string_cmp k y ≡ Less) ks
+below_all : (k l : Name) (ks : List Name) → compares k l ≡ Less
+    → AllByRecursion (λ y. compares l y ≡ Less) ks
+    → AllByRecursion (λ y. compares k y ≡ Less) ks
 below_all k l [] h a = tt
-below_all k l (m ∷ ks) h a = (string_cmp_total.trans k l m h a.0, below_all k l ks h a.1)
+below_all k l (m ∷ ks) h a = (nat_list_cmp_total.trans k l m h a.0, below_all k l ks h a.1)
 
-above_both : (text : List ℕ) (k l : Name) → compares text l ≡ Greater → string_cmp k l ≡ Less
+above_both : (text : List ℕ) (k l : Name) → compares text l ≡ Greater → compares k l ≡ Less
     → compares text k ≡ Greater
 above_both text k l h below =
-    let under = nat_list_cmp_total.antisymm (string_bytes l) text ∙ ap ordering_reverse h in
-    let first = nat_list_cmp_total.trans (string_bytes k) (string_bytes l) text below under in
-    nat_list_cmp_total.antisymm text (string_bytes k) ∙ ap ordering_reverse first
+    let under = nat_list_cmp_total.antisymm l text ∙ ap ordering_reverse h in
+    let first = nat_list_cmp_total.trans k l text below under in
+    nat_list_cmp_total.antisymm text k ∙ ap ordering_reverse first
 
 module _ {V : Type 0} where
   module _ (k : Name) (v : V) where
@@ -44,34 +43,34 @@ module _ {V : Type 0} where
     all_put P Greater e es rest p q a b = (q, b)
 
     all_insert_entry : (P : Name → Type 0) (es : Entries V) → P k → AllByRecursion P (keys_of es)
-        → AllByRecursion P (keys_of (insert_entry string_cmp es k v))
+        → AllByRecursion P (keys_of (insert_entry compares es k v))
     all_insert_entry P [] p a = (p, tt)
     all_insert_entry P (e ∷ es) p a =
-        all_put P (string_cmp k e.0) e es _ p a.0 a.1 (all_insert_entry P es p a.1)
+        all_put P (compares k e.0) e es _ p a.0 a.1 (all_insert_entry P es p a.1)
 
-    ordered : (o : Ordering) (e : Name × V) (es rest : Entries V) → string_cmp k e.0 ≡ o
+    ordered : (o : Ordering) (e : Name × V) (es rest : Entries V) → compares k e.0 ≡ o
         → Ascend (e ∷ es) → Ascend rest
-        → (string_cmp e.0 k ≡ Less → AllByRecursion (λ y. string_cmp e.0 y ≡ Less) (keys_of rest))
+        → (compares e.0 k ≡ Less → AllByRecursion (λ y. compares e.0 y ≡ Less) (keys_of rest))
         → Ascend (put_at o e es rest)
     unfolding IsStrictlySortedBy
     ordered Less e es rest h s t a = ((h, below_all k e.0 (keys_of es) h s.0), s)
     ordered Equal e es rest h s t a = s
     ordered Greater e es rest h s t a =
-        (a (string_cmp_total.antisymm e.0 k ∙ ap ordering_reverse h), t)
+        (a (nat_list_cmp_total.antisymm e.0 k ∙ ap ordering_reverse h), t)
 
     -- pairs stay in order when one is put among them
     pub Ascend-insert_entry : (es : Entries V) → Ascend es
-        → Ascend (insert_entry string_cmp es k v)
+        → Ascend (insert_entry compares es k v)
     unfolding IsStrictlySortedBy
     Ascend-insert_entry [] s = (tt, tt)
     Ascend-insert_entry (e ∷ es) s =
-        ordered (string_cmp k e.0) e es _ refl s (Ascend-insert_entry es s.1)
-        (λ below. all_insert_entry (λ y. string_cmp e.0 y ≡ Less) es below s.0)
+        ordered (compares k e.0) e es _ refl s (Ascend-insert_entry es s.1)
+        (λ below. all_insert_entry (λ y. compares e.0 y ≡ Less) es below s.0)
 
   -- whether or not there was memory for it
   pub Ascend-put : {A B : Type 0} (r : Result A B) (old new : Entries V) (k : Name) (v : V)
       → Ascend old
-      → OnOk r (new ≡ insert_entry string_cmp old k v) → OnErr r (new ≡ old) → Ascend new
+      → OnOk r (new ≡ insert_entry compares old k v) → OnErr r (new ≡ old) → Ascend new
   Ascend-put (Ok a) old new k v s is _ = subst Ascend (sym is) (Ascend-insert_entry k v old s)
   Ascend-put (Err b) old new k v s _ is = subst Ascend (sym is) s
 
@@ -101,7 +100,7 @@ module _ {V : Type 0} where
   Ascend-remove_entry test (e ∷ es) s =
       ascend_cond (test e.0) e es _ s (
         all_remove_entry
-            (λ y. string_cmp e.0 y ≡ Less) test es s.0,
+            (λ y. compares e.0 y ≡ Less) test es s.0,
         Ascend-remove_entry test es s.1,
       )
 
@@ -111,15 +110,15 @@ module _ {V : Type 0} where
   ascend_later (e ∷ es) fs s = ascend_later es fs s.1
 
   put_first : (e : Name × V) (fs : Entries V) → Ascend (e ∷ fs)
-      → insert_entry string_cmp fs e.0 e.1 ≡ e ∷ fs
+      → insert_entry compares fs e.0 e.1 ≡ e ∷ fs
   unfolding IsStrictlySortedBy
   put_first e [] s = refl
   put_first e (f ∷ fs) s =
-      ap (λ o. put_at e.0 e.1 o f fs (insert_entry string_cmp fs e.0 e.1)) s.0.0
+      ap (λ o. put_at e.0 e.1 o f fs (insert_entry compares fs e.0 e.1)) s.0.0
 
   -- the last of some pairs, put into a tree of those after it
   pub moved : (all row rest tree new : Entries V) (e : Name × V) → Ascend all → row ++ tree ≡ all
-      → row ≡ rest ++ e ∷ [] → new ≡ insert_entry string_cmp tree e.0 e.1
+      → row ≡ rest ++ e ∷ [] → new ≡ insert_entry compares tree e.0 e.1
       → (rest ++ new ≡ all) × (length rest + length new ≡ length row + length tree)
   moved all row rest tree new e s is last made =
       let split : rest ++ e ∷ tree ≡ all = sym (append_assoc rest (e ∷ []) tree)

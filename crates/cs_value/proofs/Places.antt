@@ -1,11 +1,10 @@
 -- What stands at the place of a name among pairs in order.
-use Rattle.std.proofs.Common.{◌≡◌, ℕ, zero, suc, ◌<◌, List, [], ◌∷◌, length, get_or, set, Some, None, Ok, Err, Bool, string_bytes, ap, ◌∙◌, refl, arith}
+use Rattle.std.proofs.Common.{◌≡◌, ℕ, zero, suc, ◌<◌, List, [], ◌∷◌, length, get_or, set, Some, None, Ok, Err, Bool, ap, ◌∙◌, refl, arith}
 use Rattle.std.proofs.lemmas.Cmp.{nat_list_cmp_total}
 use Rattle.std.proofs.lemmas.Map.{lookup-none}
 use Rattle.std.specs.List.{remove, slice_get}
 use Rattle.std.specs.Map.{values_of, lookup, remove_entry}
 use Rattle.std.specs.BTreeMap.{insert_entry, is_at}
-use Rattle.std.specs.String.{string_cmp}
 use Rattle.std_collections.specs.BTreeMap.Comparable.{le_lt_trans}
 use Rattle.std_collections.specs.Layout.BTreeMap.{seek}
 use Rattle.std_collections.specs.Layout.Columns.{set_value_at}
@@ -32,10 +31,10 @@ module _ {V : Type 0} where
   remove_none test (e ∷ es) h = cond-false _ _ h.0 ∙ ap (λ xs. e ∷ xs) (remove_none test es h.1)
 
   pub written_over : (es : List (Name × V)) (i : ℕ) (d : Name × V) (k : Name) (v : V)
-      → seek (string_cmp k) es ≡ Ok i
-      → set es i ((get_or es i d).0, v) ≡ insert_entry string_cmp es k v
-  written_over es i d k v h = written es i d v (seek-Ok (string_cmp k) es i h).0
-      ∙ insert_entry-Ok string_cmp k v es i h
+      → seek (compares k) es ≡ Ok i
+      → set es i ((get_or es i d).0, v) ≡ insert_entry compares es k v
+  written_over es i d k v h = written es i d v (seek-Ok (compares k) es i h).0
+      ∙ insert_entry-Ok compares k v es i h
 
   module _ (text : List ℕ) (es : List (Name × V)) (i : ℕ) where
     pub found : (d : Name × V) → seek (compares text) es ≡ Ok i
@@ -50,7 +49,7 @@ module _ {V : Type 0} where
     missing : Ascend es → seek (compares text) es ≡ Err i → NonePasses (is_at (compares text)) es
     missing s h =
         missing_at (compares text)
-        (λ x y. le_lt_trans nat_list_cmp_total text (string_bytes x) (string_bytes y)) es i s h
+        (λ x y. le_lt_trans nat_list_cmp_total text x y) es i s h
 
     pub absent : Ascend es → seek (compares text) es ≡ Err i
         → lookup (is_at (compares text)) es ≡ None

@@ -1,6 +1,7 @@
 -- Pairs in order in a vector: how far a scan has come.
-use Rattle.std.proofs.Common.{◌≡◌, ℕ, ◌+◌, ◌<◌, length, get_or, drop, List, Result, Ok, Err, Ordering, Less, Equal, Greater, ap, ◌∙◌, arith}
+use Rattle.std.proofs.Common.{◌≡◌, ℕ, ◌+◌, ◌<◌, length, get_or, drop, List, Option, Some, None, Bool, true, false, cond, Result, Ok, Err, Ordering, Less, Equal, Greater, ap, ◌∙◌, arith}
 use Rattle.std.proofs.lemmas.List.{at_drop_more, at_drop_all}
+use Rattle.std.specs.Map.{lookup}
 use Rattle.std.specs.Ordering.{match_ordering}
 use Rattle.std_collections.specs.Layout.BTreeMap.{seek, one_further}
 use Rattle.cs_value.specs.Entries.{Name}
@@ -45,3 +46,25 @@ module _ {V : Type 0} (q : Name → Ordering) (es : List (Name × V)) (i : ℕ) 
 
     pub goes_on : q (get_or es i d).0 ≡ Greater → at (drop i es) ≡ further (i + 1) (seek q left)
     goes_on h = step Greater h ∙ further-one_further i _
+
+-- how far a search for the first name that passes a test has come
+module _ {V : Type 0} (test : Name → Bool) (es : List (Name × V)) (i : ℕ) where
+  pub nowhere : i ≡ length es → lookup test (drop i es) ≡ None
+  nowhere e = at_drop_all (lookup test) es i (omega arith)
+
+  module _ (d : Name × V) (here : i < length es) where
+    abbrev rest : Option V
+    rest = lookup test (drop (i + 1) es)
+
+    asked : (b : Bool) → test (get_or es i d).0 ≡ b
+        → lookup test (drop i es) ≡ cond b (Some (get_or es i d).1) rest
+    asked b h =
+        at_drop_more (lookup test) es i d here
+        ∙ ap (λ t. cond t (Some (get_or es i d).1) rest) h
+
+    pub first_here : test (get_or es i d).0 ≡ true
+        → lookup test (drop i es) ≡ Some (get_or es i d).1
+    first_here h = asked true h
+
+    pub later : test (get_or es i d).0 ≡ false → lookup test (drop i es) ≡ rest
+    later h = asked false h

@@ -3,6 +3,7 @@ pub mod Id
 pub mod Left
 pub mod Pairs
 pub mod Same
+pub mod Text
 pub mod Tree
 pub mod Value
 pub mod View

@@ -40,7 +40,7 @@ fn copy_fields(alloc: Global, object: &Fields) -> Result<Fields, NoMemory>
 {
     let mut copies = Fields::with_capacity(alloc, object.pairs.len())?;
     for (key, member) in object.pairs.iter() {
-        let name = Txt::copy_of(alloc, key.as_str())?;
+        let name = Txt::copy_of(alloc, key)?;
         drop(copies.put(name, copy(alloc, member)?)?);
     }
     Ok(copies)

@@ -3,7 +3,6 @@ ghost use Rattle.std.specs.Prelude.{◌≡◌, ◌^◌, ◌<◌, [], length, IfO
 ghost use Rattle.std.specs.Map.{lookup, remove_entry};
 ghost use Rattle.std.specs.BTreeMap.{insert_entry, is_at};
 ghost use Rattle.std.specs.Option.{option_copied};
-ghost use Rattle.std.specs.String.{string_cmp};
 ghost use Rattle.std_collections.specs.Map.Iter.{ShowsInOrder, ShowsValuesInOrder, GivesInOrder, deref_pair};
 ghost use Rattle.cs_value.specs.Entries.{Name, Ascend, compares};
 
@@ -11,8 +10,10 @@ mod grow;
 pub(crate) mod iter;
 mod row;
 pub(crate) mod stored;
+mod tree;
 
 use crate::memory::NoMemory;
+use crate::txt::Txt;
 use iter::{IntoIter, Iter};
 use std::alloc::Global;
 use std::marker::Model;
@@ -24,6 +25,7 @@ use stored::Stored;
 #[derive(Drop)]
 pub struct OrderedMap<V> {
     stored: Stored<V>,
+    alloc: Global,
 }
 
 impl<V> Model for OrderedMap<V> {
@@ -47,6 +49,7 @@ impl<V> OrderedMap<V> {
     {
         OrderedMap {
             stored: Stored::new(alloc),
+            alloc,
         }
     }
 
@@ -57,6 +60,7 @@ impl<V> OrderedMap<V> {
     {
         Ok(OrderedMap {
             stored: Stored::with_capacity(alloc, pairs)?,
+            alloc,
         })
     }
 
@@ -98,7 +102,7 @@ impl<V> OrderedMap<V> {
         ensures runs { GivesInOrder (Name × V) }
         ensures ordered { Ascend self }
     {
-        let OrderedMap { stored } = self;
+        let OrderedMap { stored, alloc: _ } = self;
         stored.into_iter()
     }
 
@@ -112,14 +116,14 @@ impl<V> OrderedMap<V> {
     /// Puts the value at the name, and gives back the value that it replaces: `Ok(None)` exactly
     /// where the name was not there. A name above all others goes last without a search. `NoMemory`
     /// where the map cannot grow; it is unchanged then.
-    pub fn insert(&mut self, name: String, value: V) -> Result<Option<V>, NoMemory>
+    pub fn insert(&mut self, name: Txt, value: V) -> Result<Option<V>, NoMemory>
     where
         V: Drop,
-        ensures old { IfOk result (λ old. old ≡ lookup (is_at (string_cmp name)) self.old) }
-        ensures entries { OnOk result (self.new ≡ insert_entry string_cmp self.old name value) }
+        ensures old { IfOk result (λ old. old ≡ lookup (is_at (compares name)) self.old) }
+        ensures entries { OnOk result (self.new ≡ insert_entry compares self.old name value) }
         ensures kept { OnErr result (self.new ≡ self.old) }
     {
-        self.stored.insert(name, value)
+        self.stored.insert(self.alloc, name, value)
     }
 
     /// Takes the name out, and gives its value. `None` exactly where the map lacks the name.

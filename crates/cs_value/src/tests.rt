@@ -1,4 +1,4 @@
-// What no clause says: how large a value is, and the calls of an object at work on both of its
+// What no clause says: how large a value is, that a text comes back, and the calls of an object at work on both of its
 // forms.
 ghost use Rattle.std.specs.Prelude.{◌≤◌};
 
@@ -11,6 +11,31 @@ use std::test::Fail;
 #[test]
 fn a_value_is_small(rt: HostRuntime) -> Result<(), Fail> {
     assert!(rt; size_of::<Val>() <= 40);
+    assert!(rt; size_of::<Txt>() <= 32);
+    Ok(())
+}
+
+// Texts on both sides of the length up to which they lie in the value.
+#[test]
+fn a_text_comes_back_as_it_was(rt: HostRuntime) -> Result<(), Fail> {
+    comes_back(&rt, rt.alloc(), "")?;
+    comes_back(&rt, rt.alloc(), "abcdefghijklmnopqrstuvwxyz012")?;
+    comes_back(&rt, rt.alloc(), "abcdefghijklmnopqrstuvwxyz0123")?;
+    comes_back(&rt, rt.alloc(), "abcdefghijklmnopqrstuvwxyz01234")?;
+    comes_back(&rt, rt.alloc(), "ab\u{e9}ghijklmnopqrstuvwxyz0123\u{1f600}")
+}
+
+fn comes_back(rt: &impl Abort, alloc: Global, text: &str) -> Result<(), Fail> {
+    let copy = Txt::copy_of(alloc, text)?;
+    let moved = Txt::from_string(String::from_str(alloc, text)?);
+    let longer = Txt::from_string(format!(in alloc; "{text}x")?);
+    assert_eq!(rt; copy.as_str(), text);
+    assert!(rt; copy == moved);
+    assert!(rt; copy < longer);
+    assert!(rt; longer > moved);
+    assert!(rt; copy != longer);
+    let back = moved.into_string(alloc)?;
+    assert_eq!(rt; back.as_str(), text);
     Ok(())
 }
 
@@ -37,8 +62,8 @@ fn keeps(rt: &impl Abort, alloc: Global, many: u32) -> Result<(), Fail>
     assert_eq!(rt; object.pairs.len(), many as usize);
     let mut last = String::new(alloc);
     for (name, _) in object.pairs.iter() {
-        assert!(rt; last.as_str() < name.as_str());
-        last = name.clone()?;
+        assert!(rt; last.as_str() < name);
+        last = String::from_str(alloc, name)?;
     }
     for i in 0..many {
         let n = i * 7 % 101;

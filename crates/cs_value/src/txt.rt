@@ -1,56 +1,140 @@
 //! Texts.
-ghost use Rattle.std.specs.Prelude.{◌≡◌, IfOk, string_bytes};
+ghost use Rattle.std.proofs.Common.{rules};
+ghost use Rattle.std.specs.Prelude.{◌≡◌, ◌==◌, ◌≤◌, length, IfOk, string_bytes};
+ghost use Rattle.std.specs.Ordering.{nat_cmp, as_partial_cmp};
+ghost use Rattle.std.specs.Cmp.{partial_order_from_own_ties};
+ghost use Rattle.std.specs.Cmp.Lexicographic.{slice_cmp, pointwise};
+ghost use Rattle.std.specs.Cmp.Rules.{comparing};
+
+mod inside;
 
 use crate::memory::NoMemory;
+use inside::{MOST_INSIDE, Short};
 use std::alloc::Global;
+use std::cmp::Ordering;
 use std::convert::AsStr;
 use std::marker::Model;
 
-/// UTF-8 text. Contracts see it as the list of its bytes.
+/// UTF-8 text. One of at most 30 bytes lies in the value itself and takes no memory of its own.
+/// Contracts see it as the list of its bytes.
 #[derive(Drop)]
 pub struct Txt {
-    text: String,
+    held: Held,
+}
+
+#[derive(Drop)]
+enum Held {
+    Inside(Short),
+    Outside(String),
 }
 
 impl Model for Txt {
-    ghost use Rattle.std.specs.Prelude.{List, ℕ, string_bytes};
+    ghost use Rattle.std.specs.Prelude.{List, ℕ};
+    ghost use Rattle.cs_value.specs.Text.{text_bytes};
 
     ghost Value = { List ℕ };
 
-    ghost view = { λ t. string_bytes t.text };
+    ghost view = { λ t. text_bytes t.held };
 }
 
 impl Txt {
-    /// A copy of the text. `NoMemory` where the allocator has no room for it.
+    /// A copy of the text, which takes no memory if it is of at most 30 bytes. `NoMemory` where the
+    /// allocator has no room for a longer one.
     pub fn copy_of(alloc: Global, text: &str) -> Result<Txt, NoMemory>
         ensures { IfOk result (λ t. t ≡ text.now) }
     {
+        if text.len() <= MOST_INSIDE {
+            return Ok(Txt::short(text));
+        }
         match String::from_str(alloc, text) {
-            Ok(text) => Ok(Txt { text }),
+            Ok(text) => Ok(Txt {
+                held: Held::Outside(text),
+            }),
             Err(_) => Err(NoMemory),
         }
     }
 
-    /// The text itself, moved and not copied.
+    /// The text itself, moved and not copied if it is of more than 30 bytes.
     pub fn from_string(text: String) -> Txt
         ensures { result ≡ string_bytes text }
     {
-        Txt { text }
+        if text.len() <= MOST_INSIDE {
+            return Txt::short(text.as_str());
+        }
+        Txt {
+            held: Held::Outside(text),
+        }
+    }
+
+    fn short(text: &str) -> Txt
+        requires { length text.now ≤ 30 }
+        ensures { result ≡ text.now }
+    {
+        Txt {
+            held: Held::Inside(Short::of(text)),
+        }
     }
 
     /// The text, borrowed.
     pub fn as_str(&self) -> &str
         ensures { result.now ≡ self.now }
     {
-        self.text.as_str()
+        match &self.held {
+            Held::Inside(text) => text.as_str(),
+            Held::Outside(text) => text.as_str(),
+        }
     }
 
-    /// The text as a `String`, moved and not copied.
-    pub fn into_string(self) -> String
-        ensures { string_bytes result ≡ self }
+    /// The text as a `String`. It is moved if it is of more than 30 bytes. `NoMemory` where the
+    /// allocator has no room for a shorter one.
+    pub fn into_string(self, alloc: Global) -> Result<String, NoMemory>
+        ensures { IfOk result (λ s. string_bytes s ≡ self) }
     {
-        let Txt { text } = self;
-        text
+        let Txt { held } = self;
+        match held {
+            Held::Inside(text) => Ok(String::from_str(alloc, text.as_str())?),
+            Held::Outside(text) => Ok(text),
+        }
+    }
+}
+
+/// Texts are equal where their bytes are.
+impl PartialEq for Txt {
+    ghost eq = { pointwise ◌==◌ };
+
+    ghost laws = { Prim.search (comparing, rules) };
+
+    fn eq(&self, other: &Txt) -> bool {
+        self.as_str() == other.as_str()
+    }
+}
+
+impl Eq for Txt {
+    ghost laws = { Prim.search (comparing, rules) };
+}
+
+/// Texts are ordered by their bytes.
+impl Ord for Txt {
+    ghost cmp = { slice_cmp nat_cmp };
+
+    ghost total = { Prim.search (comparing, rules) };
+
+    ghost matches_partial_cmp = { Prim.search (comparing, rules) };
+
+    ghost matches_eq = { Prim.search (comparing, rules) };
+
+    fn cmp(&self, other: &Txt) -> Ordering {
+        self.as_str().cmp(other.as_str())
+    }
+}
+
+impl PartialOrd for Txt {
+    ghost partial_cmp = { as_partial_cmp (slice_cmp nat_cmp) };
+
+    ghost laws = { partial_order_from_own_ties (Prim.search (comparing, rules)) (Prim.search (comparing, rules)) };
+
+    fn partial_cmp(&self, other: &Txt) -> Option<Ordering> {
+        Some(self.cmp(other))
     }
 }
 
@@ -58,6 +142,6 @@ impl AsStr for Txt {
     ghost text = { λ t. t };
 
     fn as_str(&self) -> &str {
-        self.text.as_str()
+        self.as_str()
     }
 }

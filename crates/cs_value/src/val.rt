@@ -119,7 +119,7 @@ impl Fields {
         ensures put { IfOk result (λ _. fields self.new ≡ put name (tree val) (fields self.old)) }
         ensures kept { OnErr result (fields self.new ≡ fields self.old) }
     {
-        self.pairs.insert(name.into_string(), val)
+        self.pairs.insert(name, val)
     }
 
     /// Takes the name out, and gives its value. `None` exactly where the object lacks the name.

@@ -11,8 +11,7 @@ use cs_value::{Fields, Txt, Val};
 use std::alloc::Global;
 
 /// A command of the script: this project's profile. A `name` has the form of an id, a `text` is
-/// that
-/// of a query, and `params` are its parameters, an object without attributes where the key is
+/// that of a query, and `params` are its parameters, an object without attributes where the key is
 /// absent.
 #[derive(Drop)]
 pub enum Command {

@@ -43,7 +43,7 @@ fn has_only(object: &Fields, must: &[&str], may: &[&str]) -> bool
         (keys_of (fields object.now)) }
 {
     for (key, _) in object.pairs.iter() {
-        if !is_known(key.as_str(), must, may) {
+        if !is_known(key, must, may) {
             return false;
         }
     }

@@ -2,14 +2,16 @@
 ghost use Rattle.std.specs.Prelude.{◌≡◌, ◌<◌, ◌^◌, length};
 ghost use Rattle.std.specs.Iterator.{at_most};
 ghost use Rattle.std_collections.specs.Map.Iter.{TakesFirst, deref_pair};
+ghost use Rattle.cs_value.specs.Entries.{named};
 
+use crate::txt::Txt;
 use std::collections::{BTreeMap, btree_map};
 use std::marker::Model;
 use std::{slice, vec};
 
 #[derive(Drop)]
 enum Lent<'a, V> {
-    LentRow(slice::Iter<'a, (String, V)>),
+    LentRow(slice::Iter<'a, (Txt, V)>),
     LentTree(btree_map::Iter<'a, String, V>),
 }
 
@@ -34,7 +36,7 @@ impl<'a, V> Model for Iter<'a, V> {
 }
 
 impl<'a, V> Iter<'a, V> {
-    pub(super) fn of_row(row: &'a [(String, V)]) -> Iter<'a, V>
+    pub(super) fn of_row(row: &'a [(Txt, V)]) -> Iter<'a, V>
         ensures rest { result ≡ row.now }
         ensures fits { length row.now < 2 ^ 63 }
     {
@@ -44,7 +46,7 @@ impl<'a, V> Iter<'a, V> {
     }
 
     pub(super) fn of_tree(tree: &'a BTreeMap<String, V>) -> Iter<'a, V>
-        ensures rest { result ≡ tree.now.entries }
+        ensures rest { result ≡ named tree.now.entries }
         ensures fits { length tree.now.entries < 2 ^ 63 }
     {
         Iter {
@@ -54,26 +56,29 @@ impl<'a, V> Iter<'a, V> {
 }
 
 impl<'a, V> Iterator for Iter<'a, V> {
-    type Item = (&'a String, &'a V);
+    type Item = (&'a str, &'a V);
 
     ghost next_gives = { TakesFirst deref_pair };
 
     ghost remaining = { λ s. at_most (length s) };
 
-    fn next(&mut self) -> Option<(&'a String, &'a V)> {
+    fn next(&mut self) -> Option<(&'a str, &'a V)> {
         match &mut self.form {
             Lent::LentRow(pairs) => match pairs.next() {
-                Some((name, value)) => Some((name, value)),
+                Some((name, value)) => Some((name.as_str(), value)),
                 None => None,
             },
-            Lent::LentTree(pairs) => pairs.next(),
+            Lent::LentTree(pairs) => match pairs.next() {
+                Some((name, value)) => Some((name.as_str(), value)),
+                None => None,
+            },
         }
     }
 }
 
 #[derive(Drop)]
 enum Given<V> {
-    GivenRow(vec::IntoIter<(String, V)>),
+    GivenRow(vec::IntoIter<(Txt, V)>),
     GivenTree(btree_map::IntoIter<String, V>),
 }
 
@@ -98,7 +103,7 @@ impl<V> Model for IntoIter<V> {
 }
 
 impl<V> IntoIter<V> {
-    pub(super) fn of_row(row: Vec<(String, V)>) -> IntoIter<V>
+    pub(super) fn of_row(row: Vec<(Txt, V)>) -> IntoIter<V>
         ensures { result ≡ row.items }
     {
         IntoIter {
@@ -109,7 +114,7 @@ impl<V> IntoIter<V> {
     pub(super) fn of_tree(tree: BTreeMap<String, V>) -> IntoIter<V>
     where
         V: Drop,
-        ensures { result ≡ tree.entries }
+        ensures { result ≡ named tree.entries }
     {
         IntoIter {
             form: Given::GivenTree(tree.into_iter()),
@@ -118,16 +123,19 @@ impl<V> IntoIter<V> {
 }
 
 impl<V: Drop> Iterator for IntoIter<V> {
-    type Item = (String, V);
+    type Item = (Txt, V);
 
     ghost next_gives = { TakesFirst (λ p. p) };
 
     ghost remaining = { λ s. at_most (length s) };
 
-    fn next(&mut self) -> Option<(String, V)> {
+    fn next(&mut self) -> Option<(Txt, V)> {
         match &mut self.form {
             Given::GivenRow(pairs) => pairs.next(),
-            Given::GivenTree(pairs) => pairs.next(),
+            Given::GivenTree(pairs) => match pairs.next() {
+                Some((name, value)) => Some((Txt::from_string(name), value)),
+                None => None,
+            },
         }
     }
 }

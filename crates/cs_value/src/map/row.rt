@@ -4,11 +4,11 @@ ghost use Rattle.std.specs.List.Sorted.{IsSearchInRange};
 ghost use Rattle.std.specs.Map.{lookup, remove_entry};
 ghost use Rattle.std.specs.BTreeMap.{insert_entry, is_at};
 ghost use Rattle.std.specs.Option.{option_copied};
-ghost use Rattle.std.specs.String.{string_cmp};
 ghost use Rattle.std_collections.specs.Layout.BTreeMap.{seek};
 ghost use Rattle.cs_value.specs.Entries.{Ascend, compares};
 
 use crate::memory::NoMemory;
+use crate::txt::Txt;
 use std::cmp::Ordering;
 use std::mem;
 
@@ -17,7 +17,7 @@ const STEP: usize = 4;
 
 /// The place of the name, or else where it would go. The search stops at the first name that is not
 /// below it.
-pub(super) fn place<V>(row: &[(String, V)], name: &str) -> Result<usize, usize>
+pub(super) fn place<V>(row: &[(Txt, V)], name: &str) -> Result<usize, usize>
     ensures place { result ≡ seek (compares name.now) row.now }
     ensures within { IsSearchInRange result (length row.now) }
 {
@@ -31,19 +31,21 @@ pub(super) fn place<V>(row: &[(String, V)], name: &str) -> Result<usize, usize>
     Err(row.len())
 }
 
-/// The value of the name. `None` exactly where the row lacks the name.
-pub(super) fn get<'a, V>(row: &'a [(String, V)], name: &str) -> Option<&'a V>
-    requires { Ascend row.now }
+/// The value of the name. `None` exactly where the row lacks the name. It asks whether names are
+/// equal and not how they are ordered, since most that differ do so in their lengths.
+pub(super) fn get<'a, V>(row: &'a [(Txt, V)], name: &str) -> Option<&'a V>
     ensures { option_copied result ≡ lookup (is_at (compares name.now)) row.now }
 {
-    match place(row, name) {
-        Ok(at) => Some(&row[at].1),
-        Err(_) => None,
+    for (other, value) in row {
+        if name == other.as_str() {
+            return Some(value);
+        }
     }
+    None
 }
 
 /// Takes the name out, and gives its value. `None` exactly where the row lacks the name.
-pub(super) fn take<V: Drop>(row: &mut Vec<(String, V)>, name: &str) -> Option<V>
+pub(super) fn take<V: Drop>(row: &mut Vec<(Txt, V)>, name: &str) -> Option<V>
     requires { Ascend row.old.items }
     ensures value { result ≡ lookup (is_at (compares name.now)) row.old.items }
     ensures left { row.new.items ≡ remove_entry (is_at (compares name.now)) row.old.items }
@@ -58,7 +60,7 @@ pub(super) fn take<V: Drop>(row: &mut Vec<(String, V)>, name: &str) -> Option<V>
 }
 
 /// The same as [`place`], with one look at the last name alone where the name is above it.
-fn gap<V>(row: &[(String, V)], name: &str) -> Result<usize, usize>
+fn gap<V>(row: &[(Txt, V)], name: &str) -> Result<usize, usize>
     requires { Ascend row.now }
     ensures place { result ≡ seek (compares name.now) row.now }
     ensures within { IsSearchInRange result (length row.now) }
@@ -72,7 +74,7 @@ fn gap<V>(row: &[(String, V)], name: &str) -> Result<usize, usize>
 }
 
 // Room for one pair more.
-fn make_room<V>(row: &mut Vec<(String, V)>) -> Result<(), NoMemory>
+fn make_room<V>(row: &mut Vec<(Txt, V)>) -> Result<(), NoMemory>
     ensures { row.new.items ≡ row.old.items }
 {
     if row.len() == row.capacity() {
@@ -84,14 +86,14 @@ fn make_room<V>(row: &mut Vec<(String, V)>) -> Result<(), NoMemory>
 /// Puts the value at the name, and gives back the value that it replaces. `NoMemory` where the
 /// vector cannot grow; it is unchanged then.
 pub(super) fn put<V: Drop>(
-    row: &mut Vec<(String, V)>,
-    name: String,
+    row: &mut Vec<(Txt, V)>,
+    name: Txt,
     value: V,
 ) -> Result<Option<V>, NoMemory>
     requires { Ascend row.old.items }
-    ensures old { IfOk result (λ old. old ≡ lookup (is_at (string_cmp name)) row.old.items) }
+    ensures old { IfOk result (λ old. old ≡ lookup (is_at (compares name)) row.old.items) }
     ensures entries { OnOk result
-        (row.new.items ≡ insert_entry string_cmp row.old.items name value) }
+        (row.new.items ≡ insert_entry compares row.old.items name value) }
     ensures kept { OnErr result (row.new.items ≡ row.old.items) }
 {
     match gap(row.as_slice(), name.as_str()) {

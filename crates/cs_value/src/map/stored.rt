@@ -3,12 +3,12 @@ ghost use Rattle.std.specs.Prelude.{◌≡◌, ◌^◌, ◌<◌, [], length, IfO
 ghost use Rattle.std.specs.Map.{lookup, remove_entry};
 ghost use Rattle.std.specs.BTreeMap.{insert_entry, is_at};
 ghost use Rattle.std.specs.Option.{option_copied};
-ghost use Rattle.std.specs.String.{string_cmp};
 ghost use Rattle.cs_value.specs.Entries.{Ascend, compares, entries};
 
 use super::iter::{IntoIter, Iter};
-use super::{grow, row};
+use super::{grow, row, tree};
 use crate::memory::NoMemory;
+use crate::txt::Txt;
 use std::alloc::Global;
 use std::collections::BTreeMap;
 
@@ -17,7 +17,7 @@ pub const MOST_IN_ROW: usize = 32;
 
 #[derive(Drop)]
 pub(crate) enum Stored<V> {
-    Few(Vec<(String, V)>),
+    Few(Vec<(Txt, V)>),
     Many(BTreeMap<String, V>),
 }
 
@@ -53,7 +53,7 @@ impl<V> Stored<V> {
     {
         match self {
             Stored::Few(row) => row::get(row.as_slice(), name),
-            Stored::Many(tree) => tree.get(name),
+            Stored::Many(tree) => tree::get(tree, name),
         }
     }
 
@@ -66,25 +66,27 @@ impl<V> Stored<V> {
         }
     }
 
-    pub(super) fn insert(&mut self, name: String, value: V) -> Result<Option<V>, NoMemory>
+    pub(super) fn insert(
+        &mut self,
+        alloc: Global,
+        name: Txt,
+        value: V,
+    ) -> Result<Option<V>, NoMemory>
     where
         V: Drop,
         requires { Ascend (entries self.old) }
         ensures old { IfOk result
-            (λ old. old ≡ lookup (is_at (string_cmp name)) (entries self.old)) }
+            (λ old. old ≡ lookup (is_at (compares name)) (entries self.old)) }
         ensures entries { OnOk result
-            (entries self.new ≡ insert_entry string_cmp (entries self.old) name value) }
+            (entries self.new ≡ insert_entry compares (entries self.old) name value) }
         ensures kept { OnErr result (entries self.new ≡ entries self.old) }
     {
         if self.is_full_without(name.as_str()) {
-            grow::grow(self)?;
+            grow::grow(alloc, self)?;
         }
         match self {
             Stored::Few(row) => row::put(row, name, value),
-            Stored::Many(tree) => match tree.insert(name, value) {
-                Ok(old) => Ok(old),
-                Err(_) => Err(NoMemory),
-            },
+            Stored::Many(tree) => tree::put(alloc, tree, name, value),
         }
     }
 
@@ -98,7 +100,7 @@ impl<V> Stored<V> {
     {
         match self {
             Stored::Few(row) => row::take(row, name),
-            Stored::Many(tree) => tree.remove(name),
+            Stored::Many(tree) => tree::take(tree, name),
         }
     }
 

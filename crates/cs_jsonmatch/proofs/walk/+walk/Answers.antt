@@ -85,10 +85,10 @@ walk_pairs-loop-name-preserved t c =
     let ss = c.args.steps.now in
     let e : Entry = (c.in-Some.name.now, c.in-Some.member.now) in
     let name = c.in_ok-copy_of.field-0 in
-    let name_is = c.in_ok-copy_of.ensures ∙ c.as_str-in-loop-name.ensures.value in
+    let name_is = c.in_ok-copy_of.ensures in
     let above = l.above.items in
     let found = locations l.found.items in
-    let below_is = c.in_ok-below.ensures ∙ ap (λ m. next (selects 0 (Name m) (tree e.1)) false ws (path_of ss)) (c.as_str.ensures.value ∙ sym name_is) in
+    let below_is = c.in_ok-below.ensures ∙ ap (λ m. next (selects 0 (Name m) (tree e.1)) false ws (path_of ss)) (sym name_is) in
     let walked = c.in_ok-walk.ensures.found ∙ ap (λ a. found ++ reached a c.deref-in-loop-name.result.now (path_of ss) (tree e.1) (trails (tree e.1))) c.in_ok-push.ensures.items in
     let back = popped above c.walk.new.above.items c.pop.new.self.items (Name name) c.walk.new.above.len (c.in_ok-walk.ensures.above ∙ c.in_ok-push.ensures.items) (omega arith) c.pop.ensures.rest in (
       rw back (pair_step found (locations c.walk.new.found.items) above ws c.deref-in-loop-name.result.now (path_of ss) c.args.object.now l.name-iterator c.next.new.self name e c.in-Some.ensures.steps name_is (c.deref-in-loop-name.ensures.value ∙ below_is) walked ∙ l.invariant.0),
@@ -103,10 +103,10 @@ walk_pairs-loop-name-preserved-then-not-any_waits t c =
     let below = c.deref.result.now in
     let above = l.above.items in
     let found = locations l.found.items in
-    let name = c.as_str.result.now in
+    let name = c.in-Some.name.now in
     let none : list_any (λ b. b) below ≡ false = sym c.any_waits.ensures ∙ c.if-not-any_waits.true in
     let walked = none_reached found (above ++ Name name ∷ []) below ms (tree e.1) (trails (tree e.1)) none in (
-      pair_step found found above c.args.waiting.now below ms c.args.object.now l.name-iterator c.next.new.self name e c.in-Some.ensures.steps c.as_str.ensures.value (c.deref.ensures.value ∙ c.in_ok-below.ensures) walked ∙ l.invariant.0,
+      pair_step found found above c.args.waiting.now below ms c.args.object.now l.name-iterator c.next.new.self name e c.in-Some.ensures.steps refl (c.deref.ensures.value ∙ c.in_ok-below.ensures) walked ∙ l.invariant.0,
       l.invariant.1,
     )
 

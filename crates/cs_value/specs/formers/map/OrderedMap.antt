@@ -1,8 +1,8 @@
 -- `OrderedMap` as a type that may hold the type that holds it, by its values.
-use Rattle.std.specs.Prelude.{◌≡◌, List, [], ◌∷◌, map}
+use Rattle.std.specs.Prelude.{◌≡◌, List, [], ◌∷◌, map, String, string_bytes}
 use mathlib.Core.Path.{refl, sym, ap, subst, ◌∙◌}
 use mathlib.Core.Logic.{◌⊎◌, inl, inr}
-use mathlib.Core.Former.{Former, this, or, list, via, children}
+use mathlib.Core.Former.{Former, one_more, this, const, pair, or, list, via, children}
 use denote.RattleType.{RattleType}
 use denote.HoleLaws.{Alike}
 use denote.HolePlaces.{Recodes, struct_places, enum_places, eachs, laid, stays}
@@ -26,8 +26,8 @@ use Rattle.std_collections.specs.formers.btree_map.BTreeMap as btree
 use Rattle.std_collections.specs.Layout.Former.{entry, on_value, entries_puts, values_listed, keys_on_values, entries_recoded}
 use Rattle.std.specs.List.Sorted.{IsStrictlySortedBy, IsStrictlySortedBy-prop}
 use Rattle.std.specs.Map.{keys_of, values_of}
-use Rattle.std.specs.String.{string_cmp}
-use Rattle.cs_value.specs.Entries.{Name, entries}
+use Rattle.cs_value.specs.Entries.{Name, compares, named, entries}
+use Rattle.cs_value.specs.contracts.txt.Txt as txt
 use Rattle.cs_value.specs.declared.map.stored.Stored.{Stored}
 use Rattle.cs_value.specs.declared.map.stored.Stored.TheVariants.{Few, Many}
 use Rattle.cs_value.specs.contracts.map.stored.Stored as P
@@ -61,7 +61,7 @@ abbrev few : Former {0}
 few = vec.the_former (entry this Name) Global
 
 abbrev many : Former {0}
-many = btree.the_former this Name Global
+many = btree.the_former this (String Global) Global
 
 module _ {X : Type 0} where
   abbrev split : Stored X → few.Of X ⊎ many.Of X
@@ -85,29 +85,45 @@ forms = via (or few many) (λ X. Stored X) (λ X. split) (λ X. join) (λ X. joi
     (λ X. split-join)
 
 abbrev fields : Former {0}
-fields = via forms Inside (λ X a. a.stored) (λ X p. record { stored = p }) (λ X a. refl)
-    (λ X p. refl)
+fields = via (pair forms (const Global)) Inside (λ X a. (a.stored, a.alloc))
+    (λ X p. record { stored = p.0; alloc = p.1 }) (λ X a. refl) (λ X p. refl)
+
+natural_tree : (X Y : Type 0) (h : X → Y) (es : List (String Global × X))
+    → named (map (on_value h) es) ≡ map (on_value h) (named es)
+natural_tree X Y h [] = refl
+natural_tree X Y h (e ∷ es) = ap (λ l. (string_bytes e.0, h e.1) ∷ l) (natural_tree X Y h es)
+
+keeps_tree : (X : Type 0) (es : List (String Global × X))
+    → held (list (entry this Name)) X (named es) ≡ held (list (entry this (String Global))) X es
+keeps_tree X [] = refl
+keeps_tree X (e ∷ es) = λ i. (
+  one_more (keeps_tree X es i).0,
+  (e.1, (keeps_tree X es i).1),
+)
 
 natural : (X Y : Type 0) (h : X → Y) (p : Stored X)
     → entries (forms.map X Y h p) ≡ map (on_value h) (entries p)
 natural X Y h (Few v) = refl
-natural X Y h (Many m) = refl
+natural X Y h (Many m) = natural_tree X Y h m.entries
 
 keeps : (X : Type 0) (p : Stored X) → held (the_former this) X (entries p) ≡ held forms X p
 keeps X (Few v) = refl
-keeps X (Many m) = refl
+keeps X (Many m) = keeps_tree X m.entries
 
 abbrev name_row : RattleType
-name_row = string.the_row heap.the_row ghosts
+name_row = txt.the_row
 
-abbrev name_ord : ord'.Ghosts Name
-name_ord = ord.ghosts heap.the_row ghosts ord.no_dict ord.no_dict
+abbrev string_row : RattleType
+string_row = string.the_row heap.the_row ghosts
 
-abbrev name_eq : eq'.Ghosts Name
-name_eq = eq.ghosts heap.the_row ghosts eq.no_dict eq.no_dict
+abbrev string_ord : ord'.Ghosts (String Global)
+string_ord = ord.ghosts heap.the_row ghosts ord.no_dict ord.no_dict
 
-abbrev name_partial : partial'.Ghosts Name
-name_partial = partial.ghosts heap.the_row ghosts partial.no_dict partial.no_dict
+abbrev string_eq : eq'.Ghosts (String Global)
+string_eq = eq.ghosts heap.the_row ghosts eq.no_dict eq.no_dict
+
+abbrev string_partial : partial'.Ghosts (String Global)
+string_partial = partial.ghosts heap.the_row ghosts partial.no_dict partial.no_dict
 
 abbrev pair_rows : RattleType → List RattleType
 pair_rows R = name_row ∷ R ∷ []
@@ -144,7 +160,7 @@ module _ (R S : RattleType) (h : R.Denot → S.Denot) where
         (
           (
             laid _ _ _
-                (btree.the_places name_row heap.the_row name_ord name_eq name_partial ghosts R S
+                (btree.the_places string_row heap.the_row string_ord string_eq string_partial ghosts R S
                 h a),
             tt,
           ),
@@ -159,12 +175,12 @@ module _ (R S : RattleType) (h : R.Denot → S.Denot) where
       (λ X u. keeps X u.stored)
       R.Denot S.Denot h (C.the_row R).coded (C.the_row S).coded (invariant R.Denot)
       (invariant S.Denot)
-      (λ u. IsStrictlySortedBy-prop string_cmp _) (λ u. IsStrictlySortedBy-prop string_cmp _)
-      (λ u s. subst (IsStrictlySortedBy string_cmp) (sym (same_names u.stored)) s)
-      (λ u s. subst (IsStrictlySortedBy string_cmp) (same_names u.stored) s)
+      (λ u. IsStrictlySortedBy-prop compares _) (λ u. IsStrictlySortedBy-prop compares _)
+      (λ u s. subst (IsStrictlySortedBy compares) (sym (same_names u.stored)) s)
+      (λ u s. subst (IsStrictlySortedBy compares) (same_names u.stored) s)
       (over (I.the_row R)) (over (I.the_row S))
-      (struct_places (I.the_type R) (I.the_type S) (forms.map R.Denot S.Denot h, tt) _
-      (λ d. refl) refl (laid _ _ _ (forms_places a), tt))
+      (struct_places (I.the_type R) (I.the_type S) (forms.map R.Denot S.Denot h, (λ z. z, tt)) _
+      (λ d. refl) refl (laid _ _ _ (forms_places a), ((refl, (λ n. refl, λ n. refl)), tt)))
 
   pub the_codes_placed : Recodes R S h
       → Recodes (C.the_row R) (C.the_row S) ((the_former this).map R.Denot S.Denot h)

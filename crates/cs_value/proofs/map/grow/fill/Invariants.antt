@@ -1,10 +1,12 @@
 use Rattle.std.proofs.Common.{◌≡◌, ◌+◌, ◌≤◌, ◌++◌, length}
 use Rattle.std.specs.Vec.{vec_capacity}
+use Rattle.cs_value.specs.Entries.{named}
 use Rattle.cs_value.proofs.map.grow.fill.Given as goal
 
 abbrev pub invariant-loop-name : goal.invariant-loop-name
 invariant-loop-name g l =
-    (l.row.items ++ l.tree.entries ≡ l.initial.row.items ++ l.initial.tree.entries)
+    (l.row.items ++ named l.tree.entries
+    ≡ l.initial.row.items ++ named l.initial.tree.entries)
     × (length l.row.items + length l.tree.entries ≤ vec_capacity l.row)
 
 abbrev pub decreases-loop-name : goal.decreases-loop-name

@@ -1,8 +1,9 @@
 use Rattle.std.proofs.Common.{◌≡◌, ◌+◌, ◌≤◌, ◌++◌, length}
 use Rattle.std.specs.Vec.{vec_capacity}
+use Rattle.cs_value.specs.Entries.{named}
 use Rattle.cs_value.proofs.map.grow.refill.Given as goal
 
-abbrev pub invariant-loop-pair : goal.invariant-loop-pair
-invariant-loop-pair g l =
-    (l.row.items ++ l.pair-iterator ≡ l.initial.row.items ++ l.fn.tree.entries)
-    × (length l.row.items + length l.pair-iterator ≤ vec_capacity l.row)
+abbrev pub invariant-loop-name : goal.invariant-loop-name
+invariant-loop-name g l =
+    (l.row.items ++ named l.name-iterator ≡ l.initial.row.items ++ named l.fn.tree.entries)
+    × (length l.row.items + length l.name-iterator ≤ vec_capacity l.row)

@@ -8,6 +8,6 @@ pub returns-in-Greater-clause-place : goal.returns-in-Greater-clause-place
 returns-in-Greater-clause-place g c =
     let row = c.args.row.now in
     let text = c.args.name.now in
-    let o = ap (slice_cmp nat_cmp text) (sym c.as_str.ensures.value) ∙ sym c.cmp.ensures
+    let o = ap (slice_cmp nat_cmp text) (sym c.as_str.ensures) ∙ sym c.cmp.ensures
     ∙ c.in-Greater.is in
     sym (above_last text row c.in-Some.field-0.now c.requires c.in-Some.ensures.value o)

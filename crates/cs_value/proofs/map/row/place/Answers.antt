@@ -14,7 +14,7 @@ loop-at-preserved g c =
     let row = c.args.row.now in
     let here : at < length row = omega arith in
     let name = c.args.name.now in
-    let o = ap (slice_cmp nat_cmp name) (sym c.as_str.ensures.value) ∙ sym c.cmp.ensures
+    let o = ap (slice_cmp nat_cmp name) (sym c.as_str.ensures) ∙ sym c.cmp.ensures
     ∙ c.in-Greater.is in
     c.loop-at.invariant ∙ goes_on (compares name) row at c.index-row-at.result here o
 
@@ -24,7 +24,7 @@ returns-in-Less-clause-place g c =
     let row = c.args.row.now in
     let here : at < length row = omega arith in
     let name = c.args.name.now in
-    let o = ap (slice_cmp nat_cmp name) (sym c.as_str.ensures.value) ∙ sym c.cmp.ensures
+    let o = ap (slice_cmp nat_cmp name) (sym c.as_str.ensures) ∙ sym c.cmp.ensures
     ∙ c.in-Less.is in
     sym (c.loop-at.invariant ∙ ends_below (compares name) row at c.index-row-at.result here o)
 
@@ -34,7 +34,7 @@ returns-in-Equal-clause-place g c =
     let row = c.args.row.now in
     let here : at < length row = omega arith in
     let name = c.args.name.now in
-    let o = ap (slice_cmp nat_cmp name) (sym c.as_str.ensures.value) ∙ sym c.cmp.ensures
+    let o = ap (slice_cmp nat_cmp name) (sym c.as_str.ensures) ∙ sym c.cmp.ensures
     ∙ c.in-Equal.is in
     sym (c.loop-at.invariant ∙ ends_at (compares name) row at c.index-row-at.result here o)
 

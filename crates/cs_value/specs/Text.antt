@@ -1,0 +1,8 @@
+-- The bytes of a text: RFC 8259, "Strings", as UTF-8 (RFC 3629).
+use Rattle.std.specs.Prelude.{ℕ, List, string_bytes}
+use Rattle.cs_value.specs.declared.txt.Held.{Held}
+use Rattle.cs_value.specs.declared.txt.Held.TheVariants.{Inside, Outside}
+
+abbrev pub text_bytes : Held → List ℕ
+text_bytes (Inside text) = text
+text_bytes (Outside text) = string_bytes text
