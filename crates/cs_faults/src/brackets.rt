@@ -1,7 +1,7 @@
 // What is computed of constants alone.
-ghost use Rattle.std.specs.Prelude.{◌≡◌, option_map};
+ghost use Rattle.std.specs.Prelude.{◌≡◌};
 ghost use Rattle.cs_syntax.specs.Expression.{operands_of};
-ghost use Rattle.cs_syntax.specs.Brackets.{are_signs, is_arithmetic, is_constant, are_constant, key_of};
+ghost use Rattle.cs_syntax.specs.Brackets.{are_signs, is_arithmetic, is_constant, are_constant};
 ghost use Rattle.cs_syntax.specs.View.{expression, operands};
 
 use cs_syntax::{BinSign, Expr, PreSign};
@@ -54,11 +54,4 @@ fn are_constant(rest: &[(BinSign, Expr)]) -> bool
         }
     }
     true
-}
-
-/// The key of an entry that is the expression alone, `Expr::key`.
-pub fn key_of(expr: &Expr) -> Option<&str>
-    ensures { option_map (λ k. k.now) result ≡ key_of (expression expr.now) }
-{
-    expr.key()
 }

@@ -11,7 +11,6 @@ mod numbers;
 mod tests;
 mod walk;
 
-pub use brackets::key_of;
 pub use fault::Fault;
 pub use laws::{each_function_has_its_arity, global_is_the_same_function, no_function_is_left_out};
 pub use walk::first_fault;

@@ -1,7 +1,7 @@
 -- How outcomes that enough steps give are put together.
 use Rattle.std.proofs.Common.{◌≡◌, ℕ, zero, suc, ◌+◌, ◌≤◌, List, Option, Some, None, refl, sym, ap, ◌∙◌, arith}
 use Rattle.cs_syntax.specs.Expression.{Tok, Expression}
-use Rattle.cs_grammar.specs.Reading.{Goal, Outcome, fail, got, bind, Oracle, match_after, step, read, Gives, Reads}
+use Rattle.cs_grammar.specs.Reading.{Goal, Outcome, fail, got, bind, Oracle, match_after, read_goal, read, Gives, Reads}
 
 pub by_const : (o : Outcome) → Gives (λ f. o) o
 by_const o = record { enough = 0; from = λ n h. refl }
@@ -43,12 +43,12 @@ by_none k d e b =
     }
 
 read_of_step : (g : Goal) (ts : List Tok) (o : Outcome) (m : ℕ) →
-    ((n : ℕ) → m ≤ n → step (read n) g ts ≡ o) → (n : ℕ) → m + 1 ≤ n → read n g ts ≡ o
+    ((n : ℕ) → m ≤ n → read_goal (read n) g ts ≡ o) → (n : ℕ) → m + 1 ≤ n → read n g ts ≡ o
 unfolding read
 read_of_step g ts o m all zero h = absurd (omega arith)
 read_of_step g ts o m all (suc n) h = all n (omega arith)
 
-pub by_step : {g : Goal} {ts : List Tok} {o : Outcome} → Gives (λ f. step f g ts) o → Reads g ts o
+pub by_step : {g : Goal} {ts : List Tok} {o : Outcome} → Gives (λ f. read_goal f g ts) o → Reads g ts o
 by_step {g = g} {ts = ts} {o = o} a =
     record { given = record { enough = a.enough + 1; from = read_of_step g ts o a.enough a.from } }
 

@@ -3,7 +3,7 @@ use Rattle.std.proofs.Common.{◌≡◌, ℕ, List, Option, Some, None, refl, sy
 use Rattle.std.specs.Option.{option_map, option_and_then}
 use Rattle.cs_syntax.specs.declared.sign.Sign.TheVariants as sign
 use Rattle.cs_syntax.specs.Expression.{Tok, Expression, Step}
-use Rattle.cs_grammar.specs.Reading.{Outcome, fail, after, after_word, joined, read_keyed_pipe, pipe_from, Gives, Reads}
+use Rattle.cs_grammar.specs.Reading.{Outcome, fail, after, after_word, name_of_words, read_keyed_pipe, pipe_from, Gives, Reads}
 use Rattle.cs_grammar.specs.Answers.{after_colons, after_name}
 use Rattle.cs_grammar.proofs.Given.{by_none, by_some, by_step}
 use Rattle.cs_grammar.proofs.Behind.{no_word}
@@ -13,7 +13,7 @@ use Rattle.cs_grammar.proofs.StepsInside.{reads_pipe_alone, reads_pipe_open, rea
 data Named (ts : List Tok) (w : List ℕ) (r : List Tok) : Type 0 where
   one : after_word ts ≡ Some (w, r) → after sign.ColonColon r ≡ None → Named ts w r
   two : (v : List ℕ) (q : List Tok) (s : List Tok) (u : List ℕ) → after_word ts ≡ Some (v, q) →
-      after sign.ColonColon q ≡ Some s → after_word s ≡ Some (u, r) → joined v u ≡ w → Named ts w r
+      after sign.ColonColon q ≡ Some s → after_word s ≡ Some (u, r) → name_of_words v u ≡ w → Named ts w r
 
 some_same : {A : Type 0} {x y : A} → Some x ≡ Some y → x ≡ y
 some_same h = cc
@@ -28,10 +28,10 @@ named ts w r h = by_first (after_word ts) refl h
   where
     by_second : (v : List ℕ) (q s : List Tok) (x : Option (List ℕ × List Tok)) →
         after_word ts ≡ Some (v, q) → after sign.ColonColon q ≡ Some s → after_word s ≡ x →
-        option_map {U = List ℕ × List Tok} (λ y. (joined v y.0, y.1)) x ≡ Some (w, r) →
+        option_map {U = List ℕ × List Tok} (λ y. (name_of_words v y.0, y.1)) x ≡ Some (w, r) →
         Named ts w r
     by_second v q s (Some y) i j k h =
-        let p = pair_of (joined v y.0, y.1) (w, r) h in
+        let p = pair_of (name_of_words v y.0, y.1) (w, r) h in
         two v q s y.0 i j (k ∙ ap (λ z. Some (y.0, z)) p.1) p.0
     by_second v q s None i j k h = absurd (cc)
 
@@ -81,7 +81,7 @@ reads_no_name {ts = ts} {e = e} {ss = ss} a h = by_first (after_word ts) refl h
   where
     by_second : (v : List ℕ) (q s : List Tok) (x : Option (List ℕ × List Tok)) →
         after_word ts ≡ Some (v, q) → after sign.ColonColon q ≡ Some s → after_word s ≡ x →
-        option_map {U = List ℕ × List Tok} (λ y. (joined v y.0, y.1)) x ≡ None →
+        option_map {U = List ℕ × List Tok} (λ y. (name_of_words v y.0, y.1)) x ≡ None →
         Reads (pipe_from e ss) ts fail
     by_second v q s (Some y) i j k h = absurd (cc)
     by_second v q s None i j k h = reads_pipe_name_open i j k

@@ -1,7 +1,7 @@
 -- What is read is spelled so, whatever is read.
 use Rattle.std.proofs.Common.{◌≡◌, ℕ, zero, suc, List, arith}
 use Rattle.cs_syntax.specs.Expression.{Tok, Expression}
-use Rattle.cs_grammar.specs.Reading.{Goal, expr, expr_from, conjunction, cmp, cmp_from, sum, product, run_from, neg_from, pow, pow_from, pre_from, link, base, carets_from, steps_from, arrow_from, bracket_from, pipe_from, keys_from, next_key, args_from, arg_from, next_arg, elements_from, next_element, entries_from, keyed_from, next_entry, got, Oracle, step, read, Reads}
+use Rattle.cs_grammar.specs.Reading.{Goal, expr, expr_from, conjunction, cmp, cmp_from, sum, product, run_from, neg_from, pow, pow_from, pre_from, link, base, carets_from, steps_from, arrow_from, bracket_from, pipe_from, keys_from, next_key, args_from, arg_from, next_arg, elements_from, next_element, entries_from, keyed_from, next_entry, got, Oracle, read_goal, read, Reads}
 use Rattle.cs_grammar.proofs.Taken.{Sound, IsSound}
 use Rattle.cs_grammar.proofs.SoundLevels.{sound_expr, sound_conjunction, sound_cmp, sound_sum, sound_product, sound_pow, sound_link, sound_expr_from, sound_run, sound_cmp_from, sound_neg, sound_pow_from, sound_pre}
 use Rattle.cs_grammar.proofs.SoundBases.{sound_base, sound_carets}
@@ -10,7 +10,7 @@ use Rattle.cs_grammar.proofs.SoundLists.{sound_args, sound_arg, sound_next_arg, 
 
 -- one step
 sound_step : (f : Oracle) → IsSound f →
-    (g : Goal) (ts : List Tok) (t : Expression) (r : List Tok) → step f g ts ≡ got t r →
+    (g : Goal) (ts : List Tok) (t : Expression) (r : List Tok) → read_goal f g ts ≡ got t r →
     Sound g ts t r
 sound_step f h expr ts t r eq = sound_expr f h ts t r eq
 sound_step f h (expr_from e) ts t r eq = sound_expr_from f h e ts t r eq

@@ -4,7 +4,7 @@ use Rattle.cs_syntax.specs.declared.sign.Sign.{Sign}
 use Rattle.cs_syntax.specs.declared.sign.Sign.TheVariants as sign
 use Rattle.cs_syntax.specs.Expression.{Tok, number_tok, text_tok, param_tok, word_tok, sign_tok, Expression, parent, round, call, arguments_of}
 use Rattle.cs_grammar.specs.Spells.{constant_of, IsName, name_word, name_within, AreCarets, carets_one, carets_more, IsBase, base_constant, base_number, base_text, base_param, base_word, base_this, base_everything, base_parent, base_round, base_call, base_call_with, base_array, base_object}
-use Rattle.cs_grammar.specs.Reading.{expr, base, carets_from, args_from, elements_from, entries_from, fail, got, bind, Oracle, match_after, expect, after, after_word, after_caret, plain_word, joined, read_call, read_word, read_sign, read_base, read_carets}
+use Rattle.cs_grammar.specs.Reading.{expr, base, carets_from, args_from, elements_from, entries_from, fail, got, bind, Oracle, match_after, expect, after, after_word, after_caret, plain_word, name_of_words, read_call, read_word, read_sign, read_base, read_carets}
 use Rattle.cs_grammar.proofs.Behind.{after_is, after_word_is, after_caret_is}
 use Rattle.cs_grammar.proofs.Taken.{bound, Split, found, missing, split, must, expected, got_tree, got_rest, Took, ◌then◌, one, two, none, MoreArguments, MoreElements, MoreEntries, Sound, IsSound, base_as, all_closed}
 
@@ -69,13 +69,13 @@ module _ (f : Oracle) (h : IsSound f) where
     where
       by_colons : Split (after sign.ColonColon ts)
           (λ s. match_after (after_word s)
-          (λ x. expect sign.OpenParen x.1 (read_call f (joined w x.0))) fail)
+          (λ x. expect sign.OpenParen x.1 (read_call f (name_of_words w x.0))) fail)
           (got (plain_word w (constant_of w)) ts) (got t r) → Sound base (word_tok w ∷ ts) t r
       by_colons (found q i j) =
           let m = must (after_word q)
-          (λ x. expect sign.OpenParen x.1 (read_call f (joined w x.0))) j in
-          let o = expected sign.OpenParen m.value.1 (read_call f (joined w m.value.0)) m.goes_on in
-          let y = call_taken (joined w m.value.0) o.rest t r o.goes_on in
+          (λ x. expect sign.OpenParen x.1 (read_call f (name_of_words w x.0))) j in
+          let o = expected sign.OpenParen m.value.1 (read_call f (name_of_words w m.value.0)) m.goes_on in
+          let y = call_taken (name_of_words w m.value.0) o.rest t r o.goes_on in
           record {
             taken = word_tok w ∷ sign_tok sign.ColonColon ∷ word_tok m.value.0 ∷ sign_tok
                 sign.OpenParen ∷ y.taken;
@@ -93,7 +93,7 @@ module _ (f : Oracle) (h : IsSound f) where
       by_open : Split (after sign.OpenParen ts) (read_call f w)
           (match_after (after sign.ColonColon ts)
           (λ s. match_after (after_word s)
-          (λ x. expect sign.OpenParen x.1 (read_call f (joined w x.0))) fail)
+          (λ x. expect sign.OpenParen x.1 (read_call f (name_of_words w x.0))) fail)
           (got (plain_word w (constant_of w)) ts)) (got t r) → Sound base (word_tok w ∷ ts) t r
       by_open (found q i j) =
           let y = call_taken w q t r j in

@@ -4,7 +4,7 @@ use Rattle.std.specs.Prelude.{codes}
 use Rattle.cs_syntax.specs.declared.sign.Sign.TheVariants as sign
 use Rattle.cs_syntax.specs.Expression.{Tok, word_tok, sign_tok, Expression, Step, attr, deref, each, slice, bracket, project, pipe, OrderKey, order_key, keys_of, chain_of}
 use Rattle.cs_grammar.specs.Spells.{range_of, IsName, name_word, name_within, IsExpr, steps_none, steps_more, steps_arrow, IsStep, step_attr, step_deref, step_each, step_slice, step_bracket, step_project, step_piped_project, step_pipe, step_pipe_with, AreKeys, keys_last, keys_more, IsKey, key_plain, key_asc, key_desc}
-use Rattle.cs_grammar.specs.Reading.{expr, expr_from, sum, steps_from, arrow_from, bracket_from, pipe_from, keys_from, next_key, entries_from, fail, got, bind, Oracle, match_after, expect, after, after_sign, after_word, after_keyword, after_attribute, entries_in, joined, read_projection, read_steps, read_arrow, read_bracket, read_keyed_pipe, read_pipe, read_keys, read_next_key}
+use Rattle.cs_grammar.specs.Reading.{expr, expr_from, sum, steps_from, arrow_from, bracket_from, pipe_from, keys_from, next_key, entries_from, fail, got, bind, Oracle, match_after, expect, after, after_sign, after_word, after_keyword, after_attribute, entries_in, name_of_words, read_projection, read_steps, read_arrow, read_bracket, read_keyed_pipe, read_pipe, read_keys, read_next_key}
 use Rattle.cs_grammar.proofs.Behind.{after_is, after_sign_is, after_word_is, after_keyword_is, after_attribute_is}
 use Rattle.cs_grammar.proofs.Taken.{bound, Split, found, missing, split, must, expected, got_tree, got_rest, Took, ◌then◌, one, none, RunTree, MoreSteps, MoreEntries, Sound, IsSound, step_as, key_as, next_close, next_comma, more_item, all_closed}
 
@@ -301,15 +301,15 @@ module _ (f : Oracle) (h : IsSound f) where
       by_colons : (w : List ℕ) (q : List Tok) → ts ≡ word_tok w ∷ q →
           Split (after sign.ColonColon q)
           (λ s. match_after (after_word s)
-          (λ y. expect sign.OpenParen y.1 (read_keyed_pipe f e ss (joined w y.0))) fail)
+          (λ y. expect sign.OpenParen y.1 (read_keyed_pipe f e ss (name_of_words w y.0))) fail)
           (expect sign.OpenParen q (read_keyed_pipe f e ss w)) (got t r) →
           Sound (pipe_from e ss) ts t r
       by_colons w q p (found s i j) =
           let m = must (after_word s)
-          (λ y. expect sign.OpenParen y.1 (read_keyed_pipe f e ss (joined w y.0))) j in
-          let o = expected sign.OpenParen m.value.1 (read_keyed_pipe f e ss (joined w m.value.0))
+          (λ y. expect sign.OpenParen y.1 (read_keyed_pipe f e ss (name_of_words w y.0))) j in
+          let o = expected sign.OpenParen m.value.1 (read_keyed_pipe f e ss (name_of_words w m.value.0))
           m.goes_on in
-          let y = pipe_taken e ss (joined w m.value.0) o.rest t r o.goes_on in
+          let y = pipe_taken e ss (name_of_words w m.value.0) o.rest t r o.goes_on in
           record {
             taken = word_tok w ∷ sign_tok sign.ColonColon ∷ word_tok m.value.0 ∷ sign_tok
                 sign.OpenParen ∷ y.taken;
@@ -331,7 +331,7 @@ module _ (f : Oracle) (h : IsSound f) where
           (match_after (after_word ts)
           (λ x. match_after (after sign.ColonColon x.1)
           (λ s. match_after (after_word s)
-          (λ y. expect sign.OpenParen y.1 (read_keyed_pipe f e ss (joined x.0 y.0))) fail)
+          (λ y. expect sign.OpenParen y.1 (read_keyed_pipe f e ss (name_of_words x.0 y.0))) fail)
           (expect sign.OpenParen x.1 (read_keyed_pipe f e ss x.0)))
           fail) (got t r) → Sound (pipe_from e ss) ts t r
       by_brace (found q i j) =
@@ -349,7 +349,7 @@ module _ (f : Oracle) (h : IsSound f) where
           let m = must (after_word ts)
           (λ x. match_after (after sign.ColonColon x.1)
           (λ s. match_after (after_word s)
-          (λ y. expect sign.OpenParen y.1 (read_keyed_pipe f e ss (joined x.0 y.0))) fail)
+          (λ y. expect sign.OpenParen y.1 (read_keyed_pipe f e ss (name_of_words x.0 y.0))) fail)
           (expect sign.OpenParen x.1 (read_keyed_pipe f e ss x.0))) j in
           by_colons m.value.0 m.value.1 (after_word_is ts m.is)
           (split (after sign.ColonColon m.value.1) _ _ m.goes_on)

@@ -12,7 +12,7 @@ use Rattle.cs_syntax.specs.declared.tree.PreSign.{PreSign}
 use Rattle.cs_syntax.specs.declared.tree.PreSign.TheVariants as pre
 use Rattle.cs_syntax.specs.Expression.{Tok, number_tok, text_tok, param_tok, sign_tok, Expression, number_literal, text_literal, param, this, everything, parent, round, call, within, between, arguments_of, run_of, prefix_of}
 use Rattle.cs_grammar.specs.Spells.{constant_of, comparison_op, prefix_op, range_of}
-use Rattle.cs_grammar.specs.Reading.{Goal, expr, expr_from, conjunction, cmp, cmp_from, sum, product, run_from, neg_from, pow, pow_from, pre_from, link, base, carets_from, steps_from, args_from, elements_from, entries_from, Outcome, fail, got, after, after_sign, after_word, after_keyword, after_caret, op_of, operand_of, plain_word, joined, read_sign, Gives, Reads}
+use Rattle.cs_grammar.specs.Reading.{Goal, expr, expr_from, conjunction, cmp, cmp_from, sum, product, run_from, neg_from, pow, pow_from, pre_from, link, base, carets_from, steps_from, args_from, elements_from, entries_from, Outcome, fail, got, after, after_sign, after_word, after_keyword, after_caret, op_of, operand_of, plain_word, name_of_words, read_sign, Gives, Reads}
 use Rattle.cs_grammar.proofs.Given.{by_const, by_call, by_bind, by_fail, by_some, by_none, by_step}
 use Rattle.cs_grammar.proofs.Behind.{after_is, after_word_is, signs_apart, no_sign, keywords_apart}
 
@@ -256,14 +256,14 @@ module _ {ts r : List Tok} {w : List ℕ} (h : after_word ts ≡ Some (w, r)) wh
 
       pub reads_name_call : {u q : List Tok} → after sign.OpenParen t ≡ Some u →
           after sign.CloseParen u ≡ Some q →
-          Reads base ts (got (call (joined w v) (arguments_of [])) q)
+          Reads base ts (got (call (name_of_words w v) (arguments_of [])) q)
       reads_name_call k l =
           reads_at (after_word_is ts h)
           (by_step (by_none _ _ (signs_apart sign.OpenParen sign.ColonColon r i refl)
           (by_some _ _ i (by_some _ _ j (by_some _ _ k (by_some _ _ l (by_const _)))))))
 
       pub reads_name_call_with : {u : List Tok} {o : Outcome} → after sign.OpenParen t ≡ Some u →
-          after sign.CloseParen u ≡ None → Reads (args_from (joined w v) []) u o → Reads base ts o
+          after sign.CloseParen u ≡ None → Reads (args_from (name_of_words w v) []) u o → Reads base ts o
       reads_name_call_with k l a =
           reads_at (after_word_is ts h)
           (by_step (by_none _ _ (signs_apart sign.OpenParen sign.ColonColon r i refl)

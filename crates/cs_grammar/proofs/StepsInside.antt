@@ -5,7 +5,7 @@ use Rattle.std.specs.Prelude.{codes}
 use Rattle.cs_syntax.specs.declared.sign.Sign.TheVariants as sign
 use Rattle.cs_syntax.specs.Expression.{Tok, Expression, this, call, array, object_literal, Step, attr, deref, each, slice, bracket, project, pipe, Entry, keyed, bare, when, spread, Element, element, spread_element, Argument, argument, when_argument, OrderKey, order_key, entries_of, elements_of, arguments_of, keys_of, chain_of}
 use Rattle.cs_grammar.specs.Spells.{range_of}
-use Rattle.cs_grammar.specs.Reading.{expr, expr_from, sum, steps_from, arrow_from, bracket_from, pipe_from, keys_from, next_key, args_from, arg_from, next_arg, elements_from, next_element, entries_from, keyed_from, next_entry, Outcome, fail, got, after, after_sign, after_word, after_keyword, after_attribute, key_of, entries_in, joined, read_keyed, Gives, Reads}
+use Rattle.cs_grammar.specs.Reading.{expr, expr_from, sum, steps_from, arrow_from, bracket_from, pipe_from, keys_from, next_key, args_from, arg_from, next_arg, elements_from, next_element, entries_from, keyed_from, next_entry, Outcome, fail, got, after, after_sign, after_word, after_keyword, after_attribute, key_of, entries_in, name_of_words, read_keyed, Gives, Reads}
 use Rattle.cs_grammar.proofs.Given.{by_const, by_call, by_bind, by_fail, by_some, by_none, by_step}
 use Rattle.cs_grammar.proofs.Behind.{signs_apart, no_word, keywords_apart}
 
@@ -194,7 +194,7 @@ module _ {ts r : List Tok} {w : List ℕ} {e : Expression} {ss : List Step} (h :
 
       pub reads_pipe_name_call : {u q : List Tok} {o : Outcome} →
           after sign.OpenParen t ≡ Some u → after sign.CloseParen u ≡ Some q →
-          Reads (steps_from e (ss ++ (pipe (joined w v) (keys_of []) ∷ []))) q o →
+          Reads (steps_from e (ss ++ (pipe (name_of_words w v) (keys_of []) ∷ []))) q o →
           Reads (pipe_from e ss) ts o
       reads_pipe_name_call k l a =
           by_step (by_none _ _ (no_word sign.OpenBrace ts h)
@@ -203,7 +203,7 @@ module _ {ts r : List Tok} {w : List ℕ} {e : Expression} {ss : List Step} (h :
 
       pub reads_pipe_name_call_with : {u : List Tok} {o : Outcome} →
           after sign.OpenParen t ≡ Some u → after sign.CloseParen u ≡ None →
-          Reads (keys_from e ss (joined w v) []) u o → Reads (pipe_from e ss) ts o
+          Reads (keys_from e ss (name_of_words w v) []) u o → Reads (pipe_from e ss) ts o
       reads_pipe_name_call_with k l a =
           by_step (by_none _ _ (no_word sign.OpenBrace ts h)
           (by_some _ _ h

@@ -15,7 +15,7 @@ use Rattle.cs_syntax.specs.View.{expression, step, entry, elem, arg, key, entrie
 use Rattle.cs_grammar.specs.declared.fault.GrammarFault.{GrammarFault}
 use Rattle.cs_grammar.specs.declared.fault.GrammarFault.TheVariants.{Syntax, NoMemory}
 use Rattle.cs_grammar.specs.View.{left}
-use Rattle.cs_grammar.specs.Reading.{Goal, base, steps_from, arrow_from, bracket_from, pipe_from, keys_from, next_key, args_from, next_arg, elements_from, next_element, entries_from, keyed_from, next_entry, Outcome, fail, got, after, after_word, joined, read_call, Gives, Reads}
+use Rattle.cs_grammar.specs.Reading.{Goal, base, steps_from, arrow_from, bracket_from, pipe_from, keys_from, next_key, args_from, next_arg, elements_from, next_element, entries_from, keyed_from, next_entry, Outcome, fail, got, after, after_word, name_of_words, read_call, Gives, Reads}
 
 -- Syntax where nothing is read; want of memory at any time
 abbrev pub Refuses : GrammarFault → Type 0 → Type 0
@@ -156,7 +156,7 @@ AnswersPipe = AnswersPart pipe_from
 
 -- the name that stands first, and the tokens behind it: a word, or two joined by `::`
 abbrev pub after_colons : List ℕ → List Tok → Option (List Tok) → Option (List ℕ × List Tok)
-after_colons w r (Some s) = option_map (λ x. (joined w x.0, x.1)) (after_word s)
+after_colons w r (Some s) = option_map (λ x. (name_of_words w x.0, x.1)) (after_word s)
 after_colons w r None = Some (w, r)
 
 abbrev pub after_name : List Tok → Option (List ℕ × List Tok)

@@ -1,5 +1,4 @@
--- What reading a whole list of tokens answers: GROQ-1.revision1 "Syntax", as this project's
--- profile
+-- What reading a whole list of tokens answers: GROQ-1.revision1 "Syntax", as this project's profile
 -- has it.
 use Rattle.std.specs.Prelude.{ℕ, ◌≤◌, List, Result, Ok, Err, Box, IsCharBoundary, IsSome, ⊤}
 use Rattle.std.specs.declared.alloc.Global.{Global}

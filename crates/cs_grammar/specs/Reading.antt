@@ -194,8 +194,8 @@ entries_in (object_literal xs) = xs
 entries_in _ = no_entries
 
 -- two words as one name
-abbrev pub joined : List ℕ → List ℕ → List ℕ
-joined v w = v ++ (codes "::" ++ w)
+abbrev pub name_of_words : List ℕ → List ℕ → List ℕ
+name_of_words v w = v ++ (codes "::" ++ w)
 
 module _ (f : Oracle) where
   abbrev pub read_expr_from : Expression → List Tok → Outcome
@@ -250,7 +250,7 @@ module _ (f : Oracle) where
       match_after (after sign.OpenParen r) (read_call w)
       (match_after (after sign.ColonColon r)
       (λ s. match_after (after_word s)
-      (λ x. expect sign.OpenParen x.1 (read_call (joined w x.0))) fail)
+      (λ x. expect sign.OpenParen x.1 (read_call (name_of_words w x.0))) fail)
       (got (plain_word w (constant_of w)) r))
 
   -- behind a sign with which a base begins
@@ -318,7 +318,7 @@ module _ (f : Oracle) where
       (match_after (after_word ts)
       (λ x. match_after (after sign.ColonColon x.1)
       (λ s. match_after (after_word s)
-      (λ y. expect sign.OpenParen y.1 (read_keyed_pipe e ss (joined x.0 y.0))) fail)
+      (λ y. expect sign.OpenParen y.1 (read_keyed_pipe e ss (name_of_words x.0 y.0))) fail)
       (expect sign.OpenParen x.1 (read_keyed_pipe e ss x.0)))
       fail)
 
@@ -386,41 +386,41 @@ module _ (f : Oracle) where
       match_after (after sign.Comma ts) (λ s. f (entries_from xs) s)
       (expect sign.CloseBrace ts (λ s. got (object_literal (entries_of xs)) s))
 
-  abbrev pub step : Goal → List Tok → Outcome
-  step expr ts = bind (f sum ts) (λ e r. f (expr_from e) r)
-  step (expr_from e) ts = read_expr_from e ts
-  step conjunction ts = bind (f cmp ts) (λ c r. f (run_from level.And c []) r)
-  step cmp ts = bind (f sum ts) (λ e r. f (cmp_from e) r)
-  step (cmp_from e) ts = read_cmp e ts
-  step sum ts = bind (f product ts) (λ e r. f (run_from level.Sum e []) r)
-  step product ts = bind (f (neg_from []) ts) (λ e r. f (run_from level.Product e []) r)
-  step (run_from l e xs) ts = read_run l e xs ts
-  step (neg_from ps) ts = read_neg ps ts
-  step pow ts = bind (f (pre_from []) ts) (λ e r. f (pow_from e []) r)
-  step (pow_from e xs) ts = read_pow e xs ts
-  step (pre_from ps) ts = read_pre ps ts
-  step link ts = bind (f base ts) (λ e r. f (steps_from e []) r)
-  step base ts = read_base ts
-  step (carets_from n) ts = read_carets n ts
-  step (steps_from e ss) ts = read_steps e ss ts
-  step (arrow_from e ss) ts = read_arrow e ss ts
-  step (bracket_from e ss) ts = read_bracket e ss ts
-  step (pipe_from e ss) ts = read_pipe e ss ts
-  step (keys_from e ss w ks) ts = read_keys e ss w ks ts
-  step (next_key e ss w ks) ts = read_next_key e ss w ks ts
-  step (args_from w xs) ts = bind (f expr ts) (λ e r. f (arg_from w xs e) r)
-  step (arg_from w xs e) ts = read_arg w xs e ts
-  step (next_arg w xs) ts = read_next_arg w xs ts
-  step (elements_from xs) ts = read_elements xs ts
-  step (next_element xs) ts = read_next_element xs ts
-  step (entries_from xs) ts = read_entries xs ts
-  step (keyed_from xs e) ts = read_keyed xs e ts
-  step (next_entry xs) ts = read_next_entry xs ts
+  abbrev pub read_goal : Goal → List Tok → Outcome
+  read_goal expr ts = bind (f sum ts) (λ e r. f (expr_from e) r)
+  read_goal (expr_from e) ts = read_expr_from e ts
+  read_goal conjunction ts = bind (f cmp ts) (λ c r. f (run_from level.And c []) r)
+  read_goal cmp ts = bind (f sum ts) (λ e r. f (cmp_from e) r)
+  read_goal (cmp_from e) ts = read_cmp e ts
+  read_goal sum ts = bind (f product ts) (λ e r. f (run_from level.Sum e []) r)
+  read_goal product ts = bind (f (neg_from []) ts) (λ e r. f (run_from level.Product e []) r)
+  read_goal (run_from l e xs) ts = read_run l e xs ts
+  read_goal (neg_from ps) ts = read_neg ps ts
+  read_goal pow ts = bind (f (pre_from []) ts) (λ e r. f (pow_from e []) r)
+  read_goal (pow_from e xs) ts = read_pow e xs ts
+  read_goal (pre_from ps) ts = read_pre ps ts
+  read_goal link ts = bind (f base ts) (λ e r. f (steps_from e []) r)
+  read_goal base ts = read_base ts
+  read_goal (carets_from n) ts = read_carets n ts
+  read_goal (steps_from e ss) ts = read_steps e ss ts
+  read_goal (arrow_from e ss) ts = read_arrow e ss ts
+  read_goal (bracket_from e ss) ts = read_bracket e ss ts
+  read_goal (pipe_from e ss) ts = read_pipe e ss ts
+  read_goal (keys_from e ss w ks) ts = read_keys e ss w ks ts
+  read_goal (next_key e ss w ks) ts = read_next_key e ss w ks ts
+  read_goal (args_from w xs) ts = bind (f expr ts) (λ e r. f (arg_from w xs e) r)
+  read_goal (arg_from w xs e) ts = read_arg w xs e ts
+  read_goal (next_arg w xs) ts = read_next_arg w xs ts
+  read_goal (elements_from xs) ts = read_elements xs ts
+  read_goal (next_element xs) ts = read_next_element xs ts
+  read_goal (entries_from xs) ts = read_entries xs ts
+  read_goal (keyed_from xs e) ts = read_keyed xs e ts
+  read_goal (next_entry xs) ts = read_next_entry xs ts
 
 -- reading in at most n steps on a path
 unfoldable pub read : ℕ → Oracle
 read zero g ts = out
-read (suc n) g ts = step (read n) g ts
+read (suc n) g ts = read_goal (read n) g ts
 
 -- an outcome that enough steps give
 pub record Gives (φ : Oracle → Outcome) (o : Outcome) : Type 0 where

@@ -56,7 +56,7 @@ fn word_base(
     let Some(inside) = ts.behind(after_name, Sign::OpenParen) else {
         return Err(GrammarFault::Syntax);
     };
-    call(alloc, make::joined(alloc, word, second)?, ts, inside)
+    call(alloc, make::name_of_words(alloc, word, second)?, ts, inside)
 }
 
 // Behind the bracket that opens a call.

@@ -144,7 +144,7 @@ fn name(alloc: Global, ts: &Tokens<'_>, at: usize) -> Result<(Txt, usize), Gramm
     let Some((second, rest)) = ts.word(after_colons) else {
         return Err(GrammarFault::Syntax);
     };
-    Ok((make::joined(alloc, first, second)?, rest))
+    Ok((make::name_of_words(alloc, first, second)?, rest))
 }
 
 // One or more keys, up to and with the bracket that closes.

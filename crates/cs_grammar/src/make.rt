@@ -4,7 +4,7 @@ ghost use Rattle.cs_syntax.specs.Expression.{number_literal, text_literal, param
 ghost use Rattle.cs_syntax.specs.Escapes.{decoded};
 ghost use Rattle.cs_syntax.specs.View.{expression, step, entry, elem, arg, key, operands, steps, entries, elements, arguments, keys};
 ghost use Rattle.cs_grammar.specs.Spells.{constant_of};
-ghost use Rattle.cs_grammar.specs.Reading.{key_of, plain_word, joined};
+ghost use Rattle.cs_grammar.specs.Reading.{key_of, plain_word, name_of_words};
 ghost use Rattle.cs_grammar.specs.View.{text_of};
 
 use cs_syntax::{Arg, BinSign, Elem, Entry, Expr, OrderKey, PreSign, Step, unescape};
@@ -12,8 +12,8 @@ use cs_value::{NoMemory, Txt};
 use std::alloc::Global;
 
 // Two words as one name.
-pub fn joined(alloc: Global, first: &str, second: &str) -> Result<Txt, NoMemory>
-    ensures { IfOk result (λ t. t ≡ joined first.now second.now) }
+pub fn name_of_words(alloc: Global, first: &str, second: &str) -> Result<Txt, NoMemory>
+    ensures { IfOk result (λ t. t ≡ name_of_words first.now second.now) }
 {
     let mut name = String::from_str(alloc, first)?;
     name.push_str("::")?;

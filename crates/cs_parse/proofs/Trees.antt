@@ -1,5 +1,4 @@
--- The trees of small texts, computed: each sign, operator, step and entry once at least, as
--- another
+-- The trees of small texts, computed: each sign, operator, step and entry once at least, as another
 -- reader of the language has them.
 use Rattle.std.proofs.Common.{◌≡◌, ℕ, List, [], ◌∷◌, true, false, Option, Some, None, refl}
 use Rattle.std.specs.Prelude.{codes}

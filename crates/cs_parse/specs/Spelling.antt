@@ -1,6 +1,5 @@
 -- The expression that tokens spell as a function: what the grammar's reading from the left gives,
--- in as many steps as it
--- can take.
+-- in as many steps as it can take.
 use Rattle.std.specs.Prelude.{◌+◌, ◌*◌, List, [], ◌∷◌, length, Option, Some, None}
 use Rattle.cs_syntax.specs.Expression.{Tok, Expression}
 use Rattle.cs_grammar.specs.Reading.{expr, Outcome, out, fail, got, read}

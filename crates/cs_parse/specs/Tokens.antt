@@ -1,6 +1,5 @@
--- The tokens of a text as a function: past blanks the longest token at each place, up to the end
--- of the text or to a place
--- where none begins.
+-- The tokens of a text as a function: past blanks the longest token at each place, up to the end of
+-- the text or to a place where none begins.
 use Rattle.std.specs.Prelude.{ℕ, zero, suc, nat_lt, if◌then◌else◌, List, [], ◌∷◌, length, Option, Some, None, slice_index}
 use Rattle.cs_syntax.specs.declared.token.Kind.{Kind}
 use Rattle.cs_syntax.specs.declared.token.Token.{Token}

@@ -1,10 +1,7 @@
 -- What a text is as a query: GROQ-1.revision1 "Syntax", as this project's profile has it. The
--- causes
--- for which a text is none come in an order: a place without a token, brackets too deep, tokens
--- that
--- spell nothing, and then the first fault in the order of the text. Each text has one reading:
--- `IsRead`
--- says which by tokens, depth, grammar and faults, and `verdict` computes it.
+-- causes for which a text is none come in an order: a place without a token, brackets too deep,
+-- tokens that spell nothing, and then the first fault in the order of the text. Each text has one
+-- reading: `IsRead` says which by tokens, depth, grammar and faults, and `verdict` computes it.
 use Rattle.std.specs.Prelude.{◌≡◌, ℕ, List, if◌then◌else◌, Option, Some, None, Result, Ok, Err}
 use Rattle.cs_syntax.specs.declared.token.Token.{Token}
 use Rattle.cs_syntax.specs.declared.query.Query.{Query}

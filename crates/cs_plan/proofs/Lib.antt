@@ -1,7 +1,6 @@
 pub mod Choices
 pub mod Conditions
 pub mod ConstantParts
-pub mod Digits
 pub mod Levels
 pub mod PathNames
 pub mod Sets

@@ -34,9 +34,8 @@ at_names [] v = v
 at_names (name ∷ names) v = at_names names (field name v)
 
 -- The constant that an expression is, in the scope in which the filter's chain stands: a text, a
--- number, `-` and a number,
--- a boolean, a parameter, or attributes of a value of that scope, where `@` is a document not yet
--- known.
+-- number, `-` and a number, a boolean, a parameter, or attributes of a value of that scope, where
+-- `@` is a document not yet known.
 abbrev pub constant : Expression → List Tree → Pairs → Option Scalar
 constant (text_literal s) scope params = Some (Text s)
 constant (number_literal n) scope params = scalar_of (literal n)

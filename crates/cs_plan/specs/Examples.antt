@@ -21,10 +21,8 @@ outer = object_of ((codes "_id", text (codes "a")) ∷ (codes "n", whole 7) ∷ 
 
 -- An id counts before a reference, a reference before a value at a path, and this before an
 -- element.
--- `n == 1 && 'x' in tags && references('a') && _id == 'b'`
--- `'x' in tags && n == 1 && references('a')`
--- `'x' in tags && n == 1`
--- `'x' in tags && n > 1`
+-- `n == 1 && 'x' in tags && references('a') && _id == 'b'` `'x' in tags && n == 1 &&
+-- references('a')` `'x' in tags && n == 1` `'x' in tags && n > 1`
 abbrev pub KindsInOrder : Type 0
 KindsInOrder =
     (key_in (run (binary_of (word (codes "n")) sign.Eq (number_literal (codes "1")))
@@ -44,8 +42,7 @@ KindsInOrder =
     ≡ Elem (codes "tags" ∷ []) (Text (codes "x")))
 
 -- Of two keys of one kind the leftmost counts, whichever side its path is on.
--- `a == 1 && b == 2`
--- `2 == b && a == 1`
+-- `a == 1 && b == 2` `2 == b && a == 1`
 abbrev pub LeftmostOfAKind : Type 0
 LeftmostOfAKind =
     (key_in (binary_of (binary_of (word (codes "a")) sign.Eq (number_literal (codes "1"))) sign.And
@@ -55,13 +52,8 @@ LeftmostOfAKind =
     sign.And (binary_of (word (codes "a")) sign.Eq (number_literal (codes "1")))) (null ∷ []) given
     ≡ Path (codes "b" ∷ []) (Num (pos 2)))
 
--- What is joined by `||`, negated, compared otherwise or compared with null gives no key.
--- `a == 1 || b == 2`
--- `a == 1 || b == 2 && _id == 'c'`
--- `!(a == 1)`
--- `a != 1`
--- `a == null`
--- `true`
+-- What is joined by `||`, negated, compared otherwise or compared with null gives no key. `a == 1
+-- || b == 2` `a == 1 || b == 2 && _id == 'c'` `!(a == 1)` `a != 1` `a == null` `true`
 abbrev pub NoKeyOfEither : Type 0
 NoKeyOfEither =
     (key_in (binary_of (binary_of (word (codes "a")) sign.Eq (number_literal (codes "1"))) sign.Or
@@ -77,10 +69,8 @@ NoKeyOfEither =
     × (key_in (binary_of (word (codes "a")) sign.Eq null_literal) (null ∷ []) given ≡ All)
     × (key_in (bool_literal true) (null ∷ []) given ≡ All)
 
--- Round brackets around conjuncts are opened, those around a path or a constant are not.
--- `(x > 1) && ((a == 1 && b == 2))`
--- `(a) == 1`
--- `a == (1)`
+-- Round brackets around conjuncts are opened, those around a path or a constant are not. `(x > 1)
+-- && ((a == 1 && b == 2))` `(a) == 1` `a == (1)`
 abbrev pub BracketsOpened : Type 0
 BracketsOpened =
     (key_in (binary_of (round (binary_of (word (codes "x")) sign.Gt (number_literal (codes "1"))))
@@ -94,10 +84,7 @@ BracketsOpened =
     (null ∷ []) given ≡ All)
 
 -- A path has at most four names, and each is an attribute of an object.
--- `a.b['c'].d == 1`
--- `a.b.c.d.e == 1`
--- `a->b == 1`
--- `a[0] == 1`
+-- `a.b['c'].d == 1` `a.b.c.d.e == 1` `a->b == 1` `a[0] == 1`
 abbrev pub PathsOfFour : Type 0
 PathsOfFour =
     (key_in (binary_of
@@ -115,13 +102,7 @@ PathsOfFour =
     sign.Eq (number_literal (codes "1"))) (null ∷ []) given ≡ All)
 
 -- What a path may be compared with: texts, numbers, booleans, and parameters that are one of these.
--- `a == -1`
--- `a == true`
--- `_id == 5`
--- `a == $p`
--- `a == $q`
--- `a == $l`
--- `a == 1 + 1`
+-- `a == -1` `a == true` `_id == 5` `a == $p` `a == $q` `a == $l` `a == 1 + 1`
 abbrev pub ConstantsOfAFilter : Type 0
 ConstantsOfAFilter =
     (key_in (binary_of (word (codes "a")) sign.Eq
@@ -140,12 +121,7 @@ ConstantsOfAFilter =
     given ≡ All)
 
 -- Values of the scope around the filter are constants; the document itself is not.
--- `r == ^._id`
--- `^['n'] == r`
--- `r == ^.m`
--- `r == ^`
--- `r == @`
--- `r == ^.^._id`
+-- `r == ^._id` `^['n'] == r` `r == ^.m` `r == ^` `r == @` `r == ^.^._id`
 abbrev pub OuterConstants : Type 0
 OuterConstants =
     (key_in (binary_of (word (codes "r")) sign.Eq (path (parent 1) (attr (codes "_id") ∷ [])))
@@ -160,10 +136,7 @@ OuterConstants =
     outer given ≡ All)
 
 -- A reference is looked up where one text is given.
--- `references('a')`
--- `global::references($p)`
--- `references('a', 'b')`
--- `references(['a'])`
+-- `references('a')` `global::references($p)` `references('a', 'b')` `references(['a'])`
 -- `references(1)`
 abbrev pub ReferencesOfOneText : Type 0
 ReferencesOfOneText =
@@ -179,20 +152,10 @@ ReferencesOfOneText =
     ≡ All)
 
 -- Which queries are simple: `*` with one filter, and behind it no further one, no `->` and no `*`.
--- `*[a * 2 == 4] | order(a)[0..2].b[]{c}`
--- `*[a == 1]`
--- `*[a == 1]['b'][-1]`
--- `*[c[d > 1] == e]{'f': g[h]}`
--- `*[a == 1][b == 2]`: not simple
--- `*[a == 1]->`: not simple
--- `*[a == b->c]`: not simple
--- `*[a == 1]{'x': *[0]}`: not simple
--- `*[count(*) > 1]`: not simple
--- `*`: not simple
--- `*[0]`: not simple
--- `*.a[b]`: not simple
--- `(*)[a]`: not simple
--- `a[b]`: not simple
+-- `*[a * 2 == 4] | order(a)[0..2].b[]{c}` `*[a == 1]` `*[a == 1]['b'][-1]` `*[c[d > 1] == e]{'f':
+-- g[h]}` `*[a == 1][b == 2]`: not simple `*[a == 1]->`: not simple `*[a == b->c]`: not simple `*[a
+-- == 1]{'x': *[0]}`: not simple `*[count(*) > 1]`: not simple `*`: not simple `*[0]`: not simple
+-- `*.a[b]`: not simple `(*)[a]`: not simple `a[b]`: not simple
 abbrev pub SimpleQueries : Type 0
 SimpleQueries =
     (is_simple (from_all

@@ -1,7 +1,6 @@
 -- The key of a filter: which documents alone can make it true, as far as its form tells: this
--- project's profile, over the
--- operators of GROQ-1.revision1, "And operator", "Equality operators", "In operator",
--- "references()".
+-- project's profile, over the operators of GROQ-1.revision1, "And operator", "Equality operators",
+-- "In operator", "references()".
 use Rattle.std.specs.Prelude.{ℕ, List, [], ◌∷◌, ◌++◌, Bool, true, false, nat_le, length, filter, flat_map, Option, Some, None, option_map, option_and_then, option_to_list, codes, if◌then◌else◌}
 use Rattle.std.specs.Option.{option_or}
 use Rattle.std.specs.Str.{bytes_eq}
@@ -118,8 +117,7 @@ is_element_key (Elem names s) = true
 is_element_key k = false
 
 -- The keys by their kinds: an id, then a reference, then a value at a path, then an element of a
--- list; those of one kind
--- from the left.
+-- list; those of one kind from the left.
 abbrev pub by_kind : List Key → List Key
 by_kind ks =
     filter is_id_key ks

@@ -9,8 +9,7 @@ use Rattle.cs_plan.specs.Filters.{key_in}
 
 abbrev mutual
   -- An expression is quiet: neither `*` as a value nor `->` stands anywhere in it, so no document
-  -- but those at hand is
-  -- looked at.
+  -- but those at hand is looked at.
   pub is_quiet : Expression → Bool
   is_quiet everything = false
   is_quiet (round e) = is_quiet e
@@ -89,8 +88,7 @@ is_filter (bracket e) = is_condition (bracketed e)
 is_filter _ = false
 
 -- The kinds of steps that may stand behind the filter of a simple query: an attribute, a
--- projection, `[]`, a slice, an
--- element and a piped order.
+-- projection, `[]`, a slice, an element and a piped order.
 abbrev pub is_tail_step : Step → Bool
 is_tail_step deref = false
 is_tail_step (bracket e) = if is_condition (bracketed e) then false else true

@@ -40,8 +40,7 @@ pub data Bracketed : Type 0 where
   condition : Bracketed
 
 -- A position is an element, a text alone an attribute, and all else a filter: "Element access",
--- "Attribute access",
--- "Filter".
+-- "Attribute access", "Filter".
 abbrev pub bracketed_by : Option ℤ → Option (List ℕ) → Bracketed
 bracketed_by (Some n) s = position n
 bracketed_by None (Some s) = named s

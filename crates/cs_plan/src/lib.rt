@@ -14,7 +14,8 @@ mod steps;
 mod tails;
 
 pub use choice::choose;
-pub use numbers::{literal, whole_number};
+pub use cs_syntax::whole_number;
+pub use numbers::literal;
 pub use scopes::up;
 pub use steps::text_of;
 pub use tails::simple;

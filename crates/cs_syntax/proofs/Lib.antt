@@ -1,5 +1,6 @@
 pub mod AsciiEnds
 pub mod Decoded
+pub mod Digits
 pub mod Escaped
 pub mod FirstBytes
 pub mod Fronts

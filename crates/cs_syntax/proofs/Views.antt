@@ -1,6 +1,5 @@
--- The expression of a tree of the code, each by its parts, and the lists of trees as those inside
--- an
--- expression.
+-- The expression of a tree of the code, each by its parts, and the lists of trees as those
+-- inside an expression.
 use Rattle.std.proofs.Common.{◌≡◌, ℕ, List, [], ◌∷◌, map, length, refl, sym, ap, ◌∙◌, arith, rules, Vec, Box, Global, Bool}
 use Rattle.cs_syntax.specs.Expression.{call, array, object_literal, chain, prefix, run, word, parent, within, between, slice, bracket, project, pipe, bare, when, when_argument, order_key, arguments_of, elements_of, entries_of, steps_of, operands_of, keys_of}
 use Rattle.cs_syntax.specs.Functions.{count_of}

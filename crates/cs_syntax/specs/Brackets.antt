@@ -1,6 +1,5 @@
 -- What stands in the bracket of a step, and the key of an entry without one: GROQ-1.revision1,
--- "Compound expressions" and
--- "Object", as this project's profile has them.
+-- "Compound expressions" and "Object", as this project's profile has them.
 use Rattle.std.specs.Prelude.{ℕ, List, [], ◌∷◌, Bool, true, false, ◌&&◌, Option, Some, None, if◌then◌else◌}
 use Rattle.cs_syntax.specs.declared.tree.BinSign.{BinSign}
 use Rattle.cs_syntax.specs.declared.tree.BinSign.TheVariants as operator

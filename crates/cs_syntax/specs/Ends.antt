@@ -1,6 +1,5 @@
--- For private clauses: how far each kind of token reaches from a place of a text. Past the end of
--- the
--- text the byte is 0, which is in no token but a text.
+-- For private clauses: how far each kind of token reaches from a place of a text. Past the end
+-- of the text the byte is 0, which is in no token but a text.
 use Rattle.std.specs.Prelude.{ℕ, zero, suc, ◌+◌, ◌*◌, Bool, not, ◌&&◌, ◌||◌, ◌==◌, nat_lt, if◌then◌else◌, List, [], ◌∷◌, drop, Option, Some, None, option_map, option_and_then, find, slice_index}
 use Rattle.std.specs.List.{prefix_len, list_any}
 use Rattle.std.specs.Char.{is_ascii_digit, digit_value, is_digit}

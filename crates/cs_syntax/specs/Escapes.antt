@@ -1,6 +1,6 @@
 -- What a text token means: GROQ-1.revision1 "String", as this project's profile has it. A text
--- stands
--- between two `"` or two `'`, and holds any character but that quote and `\`, and escapes.
+-- stands between two `"` or two `'`, and holds any character but that quote and `\`, and
+-- escapes.
 use Rattle.std.specs.Prelude.{ℕ, zero, suc, ◌+◌, ◌*◌, Bool, ◌&&◌, ◌||◌, ◌==◌, nat_lt, if◌then◌else◌, List, [], ◌∷◌, ◌++◌, drop, Option, Some, None, option_map, option_and_then, find, encode_utf8}
 use Rattle.std.specs.Char.{digit_value, is_digit}
 use Rattle.std.specs.Char.Utf16.{is_high_surrogate, is_low_surrogate, surrogate_pair_char}
@@ -36,9 +36,8 @@ unit bs = None
 
 -- A reading of an escape is its character, and how many bytes behind its `\` it has.
 
--- `\uXXXX` of the number u, before the bytes `more`: a high surrogate wants a low one behind it,
--- and a
--- low one alone is no escape
+-- `\uXXXX` of the number u, before the bytes `more`: a high surrogate wants a low one behind
+-- it, and a low one alone is no escape
 abbrev pub by_unit : ℕ → List ℕ → Option (ℕ × ℕ)
 by_unit u more =
     if is_high_surrogate u
@@ -65,9 +64,8 @@ abbrev pub escape : List ℕ → Option (ℕ × ℕ)
 escape [] = None
 escape (b ∷ bs) = if b == 117 then unicode bs else option_map (λ c. (c, 1)) (letter b)
 
--- what the byte b stands for, or the escape that begins with it, and how many of the bytes behind
--- it
--- belong to it
+-- what the byte b stands for, or the escape that begins with it, and how many of the bytes
+-- behind it belong to it
 abbrev pub piece : ℕ → List ℕ → Option (List ℕ × ℕ)
 piece b bs = if b == 92 then option_map (λ e. (encode_utf8 e.0, e.1)) (escape bs)
     else Some (b ∷ [], 0)

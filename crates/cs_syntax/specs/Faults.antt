@@ -1,8 +1,7 @@
 -- The faults of an expression, in the order of the text: what the grammar spells and this
--- project's profile refuses. The
--- first of them is the one that is told. An expression's faults are those at its first token and
--- those behind it: between
--- the two stands the fault of a bare entry without a determinable key.
+-- project's profile refuses. The first of them is the one that is told. An expression's faults
+-- are those at its first token and those behind it: between the two stands the fault of a bare
+-- entry without a determinable key.
 use Rattle.std.specs.Prelude.{ℕ, List, [], ◌∷◌, ◌++◌, Bool, ◌&&◌, ◌||◌, codes, if◌then◌else◌, Option, Some, None}
 use Rattle.std.specs.Str.{bytes_eq}
 use Rattle.cs_syntax.specs.declared.tree.BinSign.{BinSign}
@@ -13,8 +12,8 @@ use Rattle.cs_syntax.specs.Functions.{Arity, exactly, arity_of, accepts, is_left
 use Rattle.cs_syntax.specs.Numbers.{has_exponent, has_fraction, is_wide}
 
 -- a form or function that the profile leaves out, by its name; a function that there is not; a
--- call with a wrong number of
--- arguments, or with `=>` where none may stand; a bare entry whose key is not determinable
+-- call with a wrong number of arguments, or with `=>` where none may stand; a bare entry whose
+-- key is not determinable
 pub data Fault : Type 0 where
   unsupported : List ℕ → Fault
   unknown_function : List ℕ → Fault

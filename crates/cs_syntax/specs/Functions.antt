@@ -1,6 +1,5 @@
 -- The functions of the query language, and the numbers of their arguments: GROQ-1.revision1,
--- "Functions" and
--- "Namespaces", as this project's profile has them.
+-- "Functions" and "Namespaces", as this project's profile has them.
 use Rattle.std.specs.Prelude.{ℕ, ◌+◌, List, [], ◌∷◌, Bool, true, false, ◌&&◌, ◌||◌, Option, option_map, codes, if◌then◌else◌, nat_eq, nat_le, drop}
 use Rattle.std.specs.List.{list_any, starts_with}
 use Rattle.std.specs.Str.{bytes_eq}

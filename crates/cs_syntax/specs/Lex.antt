@@ -1,10 +1,10 @@
 -- The tokens of a text: GROQ-1.revision1 "Syntax", as this project's profile has it. A text is
--- the list
--- of its bytes. Between tokens stand blanks and comments, and each token is the longest at its
--- place.
+-- the list of its bytes. Between tokens stand blanks and comments, and each token is the
+-- longest at its place.
 use Rattle.std.specs.Prelude.{◌≡◌, ℕ, suc, ◌+◌, ◌-◌, ◌<◌, ◌≤◌, Bool, true, false, not, ◌&&◌, ◌||◌, ◌==◌, if◌then◌else◌, List, [], ◌∷◌, length, take, drop, filter_map, Option, Some, None, option_map, IsSome, slice_index, IsCharBoundary, ⊤}
 use Rattle.std.specs.List.{list_all}
 use Rattle.std.specs.Char.{is_ascii_digit, is_ascii_alphabetic}
+use Rattle.cs_syntax.specs.declared.sign.Sign.{Sign}
 use Rattle.cs_syntax.specs.declared.token.Kind.{Kind}
 use Rattle.cs_syntax.specs.declared.token.Kind.TheVariants as kind
 use Rattle.cs_syntax.specs.declared.token.Token.{Token}
@@ -74,6 +74,14 @@ meaning kind.Text source = option_map text_tok (decoded source)
 meaning kind.Param source = option_map param_tok (param_name source)
 meaning kind.Sign source = option_map sign_tok (sign_of source)
 
+-- the sign that a token is
+abbrev pub sign_in : Tok → Option Sign
+sign_in (sign_tok s) = Some s
+sign_in (number_tok n) = None
+sign_in (text_tok s) = None
+sign_in (param_tok p) = None
+sign_in (word_tok w) = None
+
 -- a space, a tab, a newline or a carriage return
 abbrev pub is_blank : ℕ → Bool
 is_blank b = b == 32 || b == 9 || b == 10 || b == 13
@@ -83,8 +91,7 @@ abbrev pub opens_comment : List ℕ → Bool
 opens_comment s = slice_index s 0 == 47 && slice_index s 1 == 47
 
 -- how many bytes of blanks and comments stand at the front, where a comment is open or not: a
--- comment
--- is open from its `//` up to a newline
+-- comment is open from its `//` up to a newline
 abbrev pub blank_from : Bool → List ℕ → ℕ
 blank_from open_comment [] = 0
 blank_from open_comment (b ∷ bs) =

@@ -19,8 +19,7 @@ abbrev pub is_wide : List ℕ → Bool
 is_wide number = nat_lt 9223372036854775807 (whole_number number)
 
 -- the number that is written, where the profile takes it: it has neither an exponent nor a
--- fraction,
--- and is not above 2^63-1
+-- fraction, and is not above 2^63-1
 abbrev pub written_number : List ℕ → Option ℕ
 written_number number =
     if has_exponent number || has_fraction number || is_wide number then None

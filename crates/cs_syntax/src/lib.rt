@@ -21,7 +21,7 @@ pub use query::Query;
 pub use sign::Sign;
 pub use token::{Kind, Token, TokenFault, tokens};
 pub use tree::{Arg, BinSign, Elem, Entry, Expr, OrderKey, PreSign, Step};
-pub use written::{has_exponent, has_fraction, without_global};
+pub use written::{has_exponent, has_fraction, whole_number, without_global, written_number};
 
 #[cfg(test)]
 mod tests;

@@ -11,9 +11,8 @@ use cs_value::Val;
 
 /// A query: an expression that has no fault. Contracts speak of it by its expression.
 ///
-/// It keeps the null that `@` is outside of all scopes, so that an evaluation can lend it for as
-/// long
-/// as it lends parts of the query.
+/// It keeps the null that `@` is outside of all scopes, so that an evaluation can lend it for
+/// as long as it lends parts of the query.
 #[derive(Drop)]
 pub struct Query {
     expr: Expr,

@@ -12,7 +12,7 @@ fn meaning(alloc: Global, text: &str, token: &Token) -> Result<String, Fail>
     a_token_means_its_source();
     let source = token.source(text);
     Ok(match token.kind {
-        Kind::Text => unescape(alloc, source)?.into_string(),
+        Kind::Text => unescape(alloc, source)?.into_string(alloc)?,
         Kind::Param => String::from_str(alloc, token.name(text))?,
         Kind::Sign => {
             let Some(sign) = Sign::of(source) else {

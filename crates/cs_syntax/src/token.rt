@@ -1,11 +1,12 @@
 // The tokens of a text.
-ghost use Rattle.std.specs.Prelude.{◌≡◌, ◌^◌, ◌<◌, All, IfErr, IfOk, Some, length, vec_len};
+ghost use Rattle.std.specs.Prelude.{◌≡◌, ◌^◌, ◌<◌, All, IfErr, IfOk, Some, length, option_and_then, vec_len};
 ghost use Rattle.cs_syntax.specs.declared.token.Kind.TheVariants as kind;
 ghost use Rattle.cs_syntax.specs.Expression.{param_tok};
-ghost use Rattle.cs_syntax.specs.Lex.{Ascend, IsFaultOf, IsTokenOf, IsTokens, meaning, source};
+ghost use Rattle.cs_syntax.specs.Lex.{Ascend, IsFaultOf, IsTokenOf, IsTokens, meaning, sign_in, source};
 
 use crate::blank::past_blank;
 use crate::longest::{kind_of, token_end};
+use crate::sign::Sign;
 use std::alloc::{AllocFailed, Global};
 
 /// The kinds of tokens.
@@ -74,6 +75,19 @@ impl Token {
     {
         let source = self.source(text);
         &source[1..]
+    }
+
+    /// The sign that the token is: `None` exactly where it is of another kind.
+    #[tactic(auto, using(crate::proofs::Meanings::sign_by_kind, crate::proofs::Meanings::no_sign_by_kind))]
+    pub fn sign(&self, text: &str) -> Option<Sign>
+        requires { IsTokenOf text.now self.now }
+        ensures { result
+            ≡ option_and_then sign_in (meaning self.now.kind (source text.now self.now)) }
+    {
+        match self.kind {
+            Kind::Sign => Sign::of(self.source(text)),
+            _ => None,
+        }
     }
 }
 

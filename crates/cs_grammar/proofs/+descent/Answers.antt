@@ -278,7 +278,7 @@ bases::word_base-returns-clause-read t c =
     (by_some _ _ (sym c.in-Some-word.ensures.same)
     (by_some _ _ (sym c.in-Some-behind-2.ensures.same) k)))))
     (subst (λ z. AnswersCall z c.args.ts.now c.in-Some-behind-2.inside c.call-2.result)
-    c.in_ok-joined.ensures c.call-2.ensures.read)
+    c.in_ok-name_of_words.ensures c.call-2.ensures.read)
 
 pub chains::bracket_step-returns-in-Some-clause-read : goal.chains::bracket_step-returns-in-Some-clause-read
 chains::bracket_step-returns-in-Some-clause-read t c =

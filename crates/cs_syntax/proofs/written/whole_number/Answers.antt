@@ -1,7 +1,7 @@
 use Rattle.std.proofs.Common.{◌<◌, arith, drop}
 use Rattle.std.specs.Prelude.{fold}
-use Rattle.cs_plan.proofs.Digits.{passes, next}
-use Rattle.cs_plan.proofs.numbers.whole_number.Goals as goal
+use Rattle.cs_syntax.proofs.Digits.{passes, next}
+use Rattle.cs_syntax.proofs.written.whole_number.Goals as goal
 
 pub returns-then-value-gt18446744073709551615 : goal.returns-then-value-gt18446744073709551615
 returns-then-value-gt18446744073709551615 c =
