@@ -1,5 +1,6 @@
 -- A dataset to which a document without strong references comes.
-use Rattle.std.proofs.Common.{◌≡◌, ◌∙◌, ap, refl, ℕ, List, [], ◌∷◌, Bool, true, false, cond, is_some, Some, Less, Equal, Greater}
+use Rattle.std.specs.Prelude.{Result, Ok, Err, OnOk, OnErr}
+use Rattle.std.proofs.Common.{◌≡◌, ◌∙◌, ap, refl, ℕ, ◌≤◌, ◌<◌, ◌+◌, List, [], ◌∷◌, length, Bool, true, false, cond, is_some, Some, Less, Equal, Greater, arith}
 use Rattle.std.specs.List.{list_all}
 use Rattle.std.specs.FinMap.Entries.{by_order}
 use Rattle.cs_value.specs.Tree.{Tree}
@@ -7,6 +8,7 @@ use Rattle.cs_view.specs.Document.{id_of}
 use Rattle.cs_view.specs.Dataset.{id_cmp, same_id, At, stands, with_doc}
 use Rattle.cs_view.proofs.Booleans.{and-left, and-right, both}
 use Rattle.cs_view.proofs.Datasets.{At-with_doc}
+use Rattle.cs_docs.specs.Limits.{most_documents}
 use Rattle.cs_docs.specs.References.{strong, clean}
 
 -- what stands, stands with a document more
@@ -64,3 +66,27 @@ entering-clean docs d h none =
     let still : Tree → Bool = λ e. list_all (λ t. stands t (with_doc d docs)) (strong e) in
     all_with all still d (λ e whole. all_stand_still d docs (strong e) whole)
     (ap (λ ts. list_all (λ t. stands t (with_doc d docs)) ts) none) docs h
+
+length-with_doc : (d : Tree) (es : List Tree) → length (with_doc d es) ≤ length es + 1
+length-with_doc d [] = omega arith
+length-with_doc d (e ∷ es) =
+    let rest = length-with_doc d es in
+    elim (id_cmp (id_of d) (id_of e)) as (λ o. length (by_order o (d ∷ e ∷ es) (d ∷ es)
+    (e ∷ with_doc d es)) ≤ length (e ∷ es) + 1) [
+      | Less ↦ omega arith
+      | Equal ↦ omega arith
+      | Greater ↦ omega (arith, rest)
+    ]
+
+-- a clean dataset with room, whether or not a document was put into it that keeps it clean
+pub held-with : {A E : Type 0} (r : Result A E) (d : Tree) (old now : List Tree)
+    → OnOk r (now ≡ with_doc d old)
+    → OnErr r (now ≡ old)
+    → clean (with_doc d old) ≡ true
+    → clean old ≡ true
+    → length old < most_documents
+    → (clean now ≡ true) × (length now ≤ most_documents)
+held-with (Ok a) d old now is same whole was room =
+    (ap clean is ∙ whole, omega (arith, ap length is, length-with_doc d old, room))
+held-with (Err e) d old now is same whole was room =
+    (ap clean same ∙ was, omega (arith, ap length same, room))

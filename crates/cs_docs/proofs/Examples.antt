@@ -1,7 +1,8 @@
 -- References of small documents, computed.
 use Rattle.std.proofs.Common.{◌≡◌, ℕ, pos, List, [], ◌∷◌, true, false, Some, None, codes, refl}
 use Rattle.cs_value.specs.Tree.{Tree, null, boolean, integer, text, list, object, trees, pairs}
-use Rattle.cs_docs.specs.References.{strong, clean, first_dangling, next_referrer}
+use Rattle.cs_shelf.specs.Referring.{next_referrer}
+use Rattle.cs_docs.specs.References.{strong, clean, first_dangling}
 use Rattle.cs_docs.specs.Verdict.{fits, dangles, verdict}
 
 abbrev whole : ℕ → Tree

@@ -1,6 +1,12 @@
 pub mod Clean
-mod Entering
-mod Examples
-pub mod Placing
-pub mod Selecting
+pub mod Counts
+pub mod Entering
+pub mod Examples
+pub mod Filters
+pub mod Gathering
+pub mod Installs
+pub mod Joins
+pub mod Placed
+pub mod Seeking
 pub mod Standing
+pub mod Walks

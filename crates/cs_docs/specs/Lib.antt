@@ -1,9 +1,11 @@
+pub mod Faults
+pub mod Gathered
+pub mod Installing
 pub mod Kept
 pub mod Laws
 pub mod Limits
 pub mod Missing
-pub mod Places
 pub mod References
-pub mod Shelves
 pub mod Store
+pub mod Suspects
 pub mod Verdict

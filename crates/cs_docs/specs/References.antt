@@ -1,16 +1,14 @@
 -- References between documents: Sanity's documentation, "Reference"; which of them are strong is
--- this
--- project's profile.
-use Rattle.std.specs.Prelude.{ℕ, List, [], ◌∷◌, ◌++◌, map, Bool, true, false, not, ◌&&◌, ◌||◌, cond, is_some, Option, Some, None, option_map, option_and_then, unwrap_or, codes}
+-- this project's profile.
+use Rattle.std.specs.Prelude.{ℕ, List, [], ◌∷◌, ◌++◌, map, Bool, false, not, ◌||◌, cond, is_some, Option, option_and_then, unwrap_or, codes}
 use Rattle.std.specs.List.{filter, list_all}
 use Rattle.std.specs.Option.{option_to_list}
-use Rattle.std.specs.Ordering.{is_lt}
 use Rattle.cs_value.specs.Tree.{Tree, null, boolean, integer, text, list, object, Trees, no_trees, more_trees, Pairs, no_pairs, more_pairs}
 use Rattle.cs_value.specs.Pairs.{find}
 use Rattle.cs_value.specs.Words.{as_boolean, as_text}
 use Rattle.cs_view.specs.Document.{id_of}
-use Rattle.cs_view.specs.Dataset.{id_cmp, stands}
-use Rattle.cs_view.specs.Keys.{has_ref}
+use Rattle.cs_view.specs.Dataset.{stands}
+use Rattle.cs_shelf.specs.Referring.{first_of}
 
 -- whether the boolean true is there
 abbrev pub is_yes : Option Tree → Bool
@@ -21,8 +19,7 @@ abbrev pub texts : Option Tree → List (List ℕ)
 texts t = option_to_list (option_and_then as_text t)
 
 -- the target of an object that is a strong reference: one with a text `_ref`, with no
--- `_dataset`, and
--- whose `_weak` is not true
+-- `_dataset`, and whose `_weak` is not true
 abbrev pub own_target : Pairs → List (List ℕ)
 own_target ps =
     cond (is_some (find (codes "_dataset") ps) || is_yes (find (codes "_weak") ps))
@@ -60,22 +57,6 @@ abbrev pub dangling_in : List Tree → List Tree → List (List ℕ × List ℕ)
 dangling_in docs [] = []
 dangling_in docs (d ∷ ds) = map (λ t. (id_of d, t)) (missing docs d) ++ dangling_in docs ds
 
-abbrev pub first_of : {X : Type 0} → List X → Option X
-first_of [] = None
-first_of (x ∷ xs) = Some x
-
 -- the first dangling reference of a dataset: by the referrer's id, and then in document order
 abbrev pub first_dangling : List Tree → Option (List ℕ × List ℕ)
 first_dangling docs = first_of (dangling_in docs docs)
-
--- the id is above another, where one is given
-abbrev pub above : Option (List ℕ) → List ℕ → Bool
-above None id = true
-above (Some low) id = is_lt (id_cmp low id)
-
--- the least id, above another where one is given, of a document that has the target as `_ref` of
--- some
--- object
-abbrev pub next_referrer : List Tree → List ℕ → Option (List ℕ) → Option (List ℕ)
-next_referrer docs target low =
-    option_map id_of (first_of (filter (λ d. has_ref target d && above low (id_of d)) docs))

@@ -1,7 +1,8 @@
 -- What is asked of a dataset after a transaction, or of that of a data file: this project's
 -- profile.
-use Rattle.std.specs.Prelude.{ℕ, List, length, nat_lt, cond, Option, Some, None}
+use Rattle.std.specs.Prelude.{◌≡◌, ℕ, List, length, nat_lt, cond, Option, Some, None}
 use Rattle.cs_value.specs.Tree.{Tree}
+use Rattle.cs_view.specs.Changes.{Edit, LeadFrom, After}
 use Rattle.cs_docs.specs.Limits.{most_documents}
 use Rattle.cs_docs.specs.References.{first_dangling}
 
@@ -18,3 +19,8 @@ of_pair (Some p) = dangles p.0 p.1
 -- more documents than a store holds, and then the first dangling reference
 abbrev pub verdict : List Tree → Verdict
 verdict docs = cond (nat_lt most_documents (length docs)) full (of_pair (first_dangling docs))
+
+-- changes that lead from the dataset to one that a store can hold
+pub record AreTaken (docs : List Tree) (cs : List Edit) : Type 0 where
+  pub leads : LeadFrom docs cs
+  pub holds : verdict (After docs cs) ≡ fits

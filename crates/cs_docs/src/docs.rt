@@ -1,29 +1,32 @@
 //! The documents of the store.
-ghost use Rattle.std.specs.Prelude.{◌≡◌, ◌<◌, length, [], true, option_map, Some, slice_get, OnOk, OnErr};
-ghost use Rattle.cs_view.specs.Dataset.{with_doc, At};
+ghost use Rattle.std.specs.Prelude.{◌≡◌, ◌≤◌, ◌<◌, length, [], true, false, option_map, map, Some, IsSome, IfOk, OnOk, OnErr};
+ghost use Rattle.cs_view.specs.Dataset.{At, stands, with_doc};
 ghost use Rattle.cs_view.specs.Document.{id_of};
 ghost use Rattle.cs_view.specs.View.{doc};
+ghost use Rattle.cs_shelf.specs.View.{documents};
 ghost use Rattle.cs_docs.specs.Limits.{most_documents};
 ghost use Rattle.cs_docs.specs.References.{clean};
-ghost use Rattle.cs_docs.specs.Shelves.{documents};
 
-use crate::shelf::Shelf;
+use cs_shelf::Shelf;
 use cs_value::{NoMemory, Txt};
 use cs_view::Doc;
 use std::alloc::Global;
 
-/// The documents of the store: at most [`crate::MOST_DOCUMENTS`], in ascending order of their ids'
-/// bytes, and each strong reference in one names one of them. Contracts speak of them by the list
-/// of their trees.
+/// The most documents that the store holds: this project's profile.
+pub const MOST_DOCUMENTS: usize = 1_048_576;
+
+/// The documents of the store: at most [`MOST_DOCUMENTS`], and each strong reference in one names
+/// one of them. Each stands at a place, which it keeps while it stands. Contracts speak of them by
+/// the list of their trees, in ascending order of the bytes of their ids.
 #[derive(Drop)]
 pub struct Docs {
-    shelf: Shelf,
+    pub(crate) shelf: Shelf,
     pub ghost clean: { clean (documents shelf) ≡ true },
+    pub ghost within: { length (documents shelf) ≤ most_documents },
 }
 
 impl Docs {
-    ghost use Rattle.cs_docs.specs.Store.{docs};
-    ghost use Rattle.cs_docs.specs.Places.{IsGapFor};
+    ghost use Rattle.cs_docs.specs.Store.{docs, doc_at, place_at};
 
     /// No documents. It takes no memory.
     pub fn new(alloc: Global) -> Docs
@@ -34,32 +37,41 @@ impl Docs {
         }
     }
 
-    /// These documents, of which no strong reference dangles. They are moved, not copied.
-    pub fn of(shelf: Shelf) -> Docs
-        requires { clean (documents shelf) ≡ true }
-        ensures { docs result ≡ documents shelf }
-    {
-        Docs { shelf }
-    }
-
-    /// The documents as they stand in the order of their ids.
-    pub fn shelf(&self) -> &Shelf
-        ensures { documents result.now ≡ docs self.now }
-    {
-        &self.shelf
-    }
-
     /// How many documents there are.
     pub fn len(&self) -> u32
         ensures { result ≡ length (docs self.now) }
     {
-        self.shelf.len()
+        self.shelf.count() as u32
     }
 
-    /// The document at a place, counted from 0 in the order of the ids.
+    /// The place of the document with the id, which it keeps while it stands. `None` exactly where
+    /// there is none.
+    pub fn place(&self, id: &Txt) -> Option<u32>
+        ensures { result ≡ place_at self.now id.now }
+    {
+        self.shelf.place(id)
+    }
+
+    /// What stands at a place, if a document does.
+    pub fn found(&self, place: u32) -> Option<&Doc>
+        ensures { option_map (λ d. doc d.now) result ≡ doc_at self.now place }
+    {
+        self.shelf.found(place)
+    }
+
+    /// The places of all documents, in the order of their ids. `NoMemory` where the allocator has
+    /// no room for them.
+    pub fn places(&self, alloc: Global) -> Result<Vec<u32>, NoMemory>
+        ensures { IfOk result
+            (λ places. map (doc_at self.now) places.items ≡ map Some (docs self.now)) }
+    {
+        self.shelf.places(alloc)
+    }
+
+    /// The document at a place where one stands.
     pub fn at(&self, place: u32) -> &Doc
-        requires { place < length (docs self.now) }
-        ensures { slice_get (docs self.now) place ≡ Some (doc result.now) }
+        requires { IsSome (doc_at self.now place) }
+        ensures { doc_at self.now place ≡ Some (doc result.now) }
     {
         self.shelf.at(place)
     }
@@ -71,16 +83,16 @@ impl Docs {
         self.shelf.get(id)
     }
 
-    /// Puts a document at the place where it would go, as [`Shelf::search`] gives it, where there
-    /// is room for it and no strong reference dangles afterwards. `NoMemory` where the allocator has
-    /// none; nothing changes then.
-    pub fn insert(&mut self, place: usize, document: Doc) -> Result<(), NoMemory>
-        requires gap { IsGapFor (id_of (doc document)) (docs self.old) place }
+    /// Puts a document of a new id, where there is room for it and no strong reference dangles
+    /// afterwards. It is moved, not copied. `NoMemory` where the allocator has none; nothing
+    /// changes then.
+    pub fn add(&mut self, document: Doc) -> Result<(), NoMemory>
+        requires fresh { stands (id_of (doc document)) (docs self.old) ≡ false }
         requires room { length (docs self.old) < most_documents }
         requires clean { clean (with_doc (doc document) (docs self.old)) ≡ true }
         ensures put { OnOk result (docs self.new ≡ with_doc (doc document) (docs self.old)) }
         ensures kept { OnErr result (docs self.new ≡ docs self.old) }
     {
-        self.shelf.insert(place, document)
+        self.shelf.add(document)
     }
 }

@@ -1,9 +1,11 @@
 //! The documents of a store as a view, on three of them.
-ghost use Rattle.std.specs.Prelude.{◌≡◌, ◌<◌};
+ghost use Rattle.std.specs.Prelude.{◌≡◌, ◌<◌, [], ◌∷◌, IfOk};
+ghost use Rattle.cs_view.specs.View.{edits};
+ghost use Rattle.cs_docs.specs.Gathered.{entering};
 
 use super::*;
-use cs_value::{Fields, Steps, Txt, Val};
-use cs_view::{Doc, Key, Names, Scalar, View};
+use cs_value::{Fields, NoMemory, Steps, Txt, Val};
+use cs_view::{Change, Doc, Key, Names, Scalar, View};
 use std::alloc::Global;
 use std::marker::Brand;
 use std::sync::ledger::{Blank, Ledger};
@@ -29,26 +31,37 @@ fn document<'x>(alloc: Global, id: &'x str, word: &'x str) -> Result<Doc, Fail> 
     }
 }
 
-fn put(shelf: &mut Shelf, document: Doc) -> Result<(), Fail> {
-    if shelf.is_full() {
-        return Err(Fail::new("no room"));
+// The changes that put one document.
+fn one_change(alloc: Global, document: Doc) -> Result<Vec<Change>, NoMemory>
+    ensures { IfOk result (λ cs. edits cs.items ≡ entering (document ∷ [])) }
+{
+    let mut changes = Vec::new(alloc);
+    changes.push(Change {
+        id: Txt::copy_of(alloc, document.id().as_str())?,
+        before: None,
+        after: Some(document),
+    })?;
+    Ok(changes)
+}
+
+fn put(alloc: Global, docs: &mut Docs, document: Doc) -> Result<(), Fail> {
+    if docs.get(document.id()).is_some() {
+        return Err(Fail::new("there already"));
     }
-    match shelf.search(document.id().as_str()) {
-        Ok(_) => Err(Fail::new("there already")),
-        Err(place) => Ok(shelf.insert(place, document)?),
+    let changes = one_change(alloc, document)?;
+    match Prepared::make(alloc, docs, docs, changes) {
+        Ok(prepared) => Ok(docs.install(&prepared)?),
+        Err(_) => Err(Fail::new("not taken")),
     }
 }
 
 // The documents a, b and c, of which b has another word.
 fn three(alloc: Global) -> Result<Docs, Fail> {
-    let mut shelf = Shelf::new(alloc);
-    put(&mut shelf, document(alloc, "b", "y")?)?;
-    put(&mut shelf, document(alloc, "c", "x")?)?;
-    put(&mut shelf, document(alloc, "a", "x")?)?;
-    match shelf.first_dangling() {
-        None => Ok(Docs::of(shelf)),
-        Some(_) => Err(Fail::new("a reference dangles")),
-    }
+    let mut docs = Docs::new(alloc);
+    put(alloc, &mut docs, document(alloc, "b", "y")?)?;
+    put(alloc, &mut docs, document(alloc, "c", "x")?)?;
+    put(alloc, &mut docs, document(alloc, "a", "x")?)?;
+    Ok(docs)
 }
 
 // The ids of the documents of a view that have the key.

@@ -1,22 +1,20 @@
-//! The documents of the store as a view, at which each document stands at its place in the order of
-//! the ids.
-ghost use Rattle.std.specs.Prelude.{◌≡◌, map, IfOk, option_map, Some, slice_get};
-ghost use Rattle.cs_view.specs.Dataset.{At};
-ghost use Rattle.cs_view.specs.Keys.{Sel};
-ghost use Rattle.cs_docs.specs.Store.{docs as docs_of};
+//! The documents of the store as a view, and as those who know who refers to an id.
+ghost use Rattle.cs_docs.specs.Store.{docs as docs_of, doc_at as document_at};
 
 use crate::docs::Docs;
+use crate::referrers::Referrers;
 use cs_value::{NoMemory, Steps, Txt};
-use cs_view::{Doc, Key, View, has};
+use cs_view::{Doc, Key, View};
 use std::alloc::Global;
 use std::sync::ledger::Ledger;
 
+/// The documents at their places.
 impl<L: Ledger> View<L> for Docs {
     ghost use Rattle.cs_docs.specs.Kept.{is_dataset_of};
 
     ghost docs = { docs_of };
 
-    ghost doc_at = { λ d. slice_get (docs_of d) };
+    ghost doc_at = { document_at };
 
     ghost dataset = { is_dataset_of };
 
@@ -26,7 +24,7 @@ impl<L: Ledger> View<L> for Docs {
 
     // Each document is tested.
     fn select(&self, alloc: Global, key: &Key) -> Result<Vec<u32>, NoMemory> {
-        places_with(self, alloc, key)
+        self.shelf.select(alloc, key)
     }
 
     fn at(&self, place: u32, steps: &mut Steps<L>) -> &Doc {
@@ -35,31 +33,15 @@ impl<L: Ledger> View<L> for Docs {
     }
 
     fn by_id(&self, id: &Txt) -> Option<u32> {
-        place_of(self, id)
+        self.shelf.by_id(id)
     }
 }
 
-// The places of the documents that have the key, in the order of their ids.
-fn places_with(docs: &Docs, alloc: Global, key: &Key) -> Result<Vec<u32>, NoMemory>
-    ensures { IfOk result (λ places. map (slice_get (docs_of docs.now)) places.items
-        ≡ map Some (Sel key.now (docs_of docs.now))) }
-{
-    let mut places = Vec::new(alloc);
-    for place in 0..docs.len() {
-        if has(key, docs.at(place)) {
-            places.push(place)?;
-        }
-    }
-    Ok(places)
-}
+/// It walks over the documents.
+impl Referrers for Docs {
+    ghost dataset = { docs_of };
 
-// The place of the document with the id.
-fn place_of(docs: &Docs, id: &Txt) -> Option<u32>
-    ensures { option_map (slice_get (docs_of docs.now)) result
-        ≡ option_map Some (At id.now (docs_of docs.now)) }
-{
-    match docs.shelf().search(id.as_str()) {
-        Ok(place) => Some(place as u32),
-        Err(_) => None,
+    fn next_referrer(&self, target: &Txt, low: Option<&Txt>) -> Option<&Txt> {
+        self.shelf.next_referrer(target, low)
     }
 }

@@ -1,5 +1,4 @@
--- Plain predicates, the filters that a listener may have: Sanity's HTTP documentation,
--- "Listening",
+-- Plain predicates, the filters that a listener may have: Sanity's HTTP documentation, "Listening",
 -- in this project's profile.
 use Rattle.std.specs.Prelude.{Bool, true, false, ◌&&◌, ◌||◌, List, [], ◌∷◌, Option, Some, None, is_some, cond}
 use Rattle.cs_syntax.specs.declared.tree.BinSign.{BinSign}
@@ -30,9 +29,8 @@ is_measure (applying (Some Length)) = true
 is_measure _ = false
 
 abbrev mutual
-  -- An operand: null, a boolean, a number, `-` and a number, a text, a parameter, `@`, a word
-  -- with any number of `.w` and
-  -- `["w"]` behind it, or `count` or `length` of an operand.
+  -- An operand: null, a boolean, a number, `-` and a number, a text, a parameter, `@`, a word with
+  -- any number of `.w` and `["w"]` behind it, or `count` or `length` of an operand.
   pub is_operand : Expression → Bool
   is_operand null_literal = true
   is_operand (bool_literal b) = true
@@ -125,8 +123,7 @@ all_not _ = false
 
 abbrev mutual
   -- A condition: operands that are compared or looked for, tests of operands, an operand itself,
-  -- and what `&&`, `||`, `!`
-  -- and round brackets make of conditions.
+  -- and what `&&`, `||`, `!` and round brackets make of conditions.
   pub is_plain : Expression → Bool
   is_plain (round e) = is_plain e
   is_plain (run e rest) = (is_plain e && are_joined rest) || (is_operand e && is_compared rest)
@@ -151,9 +148,8 @@ abbrev pub filter_alone : Steps → Option Expression
 filter_alone (more_steps s no_steps) = filter_in s
 filter_alone _ = None
 
--- The filter that a listener's query stands for: `true` for `*` alone, the condition of `*` and
--- one filter; none where the
--- query has another form.
+-- The filter that a listener's query stands for: `true` for `*` alone, the condition of `*` and one
+-- filter; none where the query has another form.
 abbrev pub listened_filter : Expression → Option Expression
 listened_filter everything = Some (bool_literal true)
 listened_filter (chain everything ss) = filter_alone ss

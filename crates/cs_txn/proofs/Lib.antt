@@ -3,5 +3,7 @@ mod Differing
 mod Edits
 mod Forms
 mod Installs
+mod Keeping
 mod Kept
 mod Told
+mod Workings

@@ -3,9 +3,9 @@
 use Rattle.std.specs.Prelude.{ℕ, ℤ, List, [], ◌∷◌, ◌++◌, length, Bool, not, ◌&&◌, ◌||◌, cond, nat_le, ◌==◌, is_some, take, Option, Some, None, option_map, option_and_then, bytes_eq, codes}
 use Rattle.std.specs.List.{list_all}
 use Rattle.std.specs.Fmt.{decimal}
-use Rattle.cs_value.specs.Tree.{Tree, null, boolean, integer, text, list, object, members, Pairs, attributes}
+use Rattle.cs_value.specs.Tree.{Tree, null, boolean, integer, text, list, object, Pairs, attributes}
 use Rattle.cs_value.specs.Pairs.{find}
-use Rattle.cs_value.specs.Words.{as_text, as_object}
+use Rattle.cs_value.specs.Words.{as_text, as_object, as_list, as_integer}
 use Rattle.cs_value.specs.Id.{is_between}
 use Rattle.cs_wire.specs.Commands.{has_keys, text_in, params_in, value_or, given}
 use Rattle.cs_patch.specs.Inserted.{Side, before, after, replace as instead}
@@ -19,22 +19,6 @@ pub data Body : Type 0 where
   no_command : Body
   bad_id : Body
   transaction : Transaction → Body
-
-abbrev pub as_list : Tree → Option (List Tree)
-as_list null = None
-as_list (boolean b) = None
-as_list (integer n) = None
-as_list (text s) = None
-as_list (list ts) = Some (members ts)
-as_list (object ps) = None
-
-abbrev pub as_integer : Tree → Option ℤ
-as_integer null = None
-as_integer (boolean b) = None
-as_integer (integer n) = Some n
-as_integer (text s) = None
-as_integer (list ts) = None
-as_integer (object ps) = None
 
 -- all of them read, where each can be
 abbrev pub all_read : {A B : Type 0} → (A → Option B) → List A → Option (List B)

@@ -1,5 +1,4 @@
--- What a transaction does to a dataset: Sanity's HTTP documentation, "Mutations", in this
--- project's
+-- What a transaction does to a dataset: Sanity's HTTP documentation, "Mutations", in this project's
 -- profile.
 use Rattle.std.specs.Prelude.{ℕ, ◌+◌, List, [], ◌∷◌, None, Ok, Err}
 use Rattle.cs_value.specs.Tree.{Tree}

@@ -1,6 +1,5 @@
 -- The document that a mutation installs: Sanity's HTTP documentation, "Mutations", on the
--- attributes
--- that the store sets itself.
+-- attributes that the store sets itself.
 use Rattle.std.specs.Prelude.{ℕ, List, ◌++◌, cond, is_some, codes}
 use Rattle.std.specs.Fmt.{decimal}
 use Rattle.cs_value.specs.Tree.{Tree, null, boolean, integer, text, list, object}

@@ -1,13 +1,11 @@
--- Transactions and their refusals, as plain data: Sanity's HTTP documentation, "Mutations", in
--- this
+-- Transactions and their refusals, as plain data: Sanity's HTTP documentation, "Mutations", in this
 -- project's profile.
 use Rattle.std.specs.Prelude.{ℕ, List, Bool, Option, Result}
 use Rattle.cs_value.specs.Tree.{Tree, Pairs}
 use Rattle.cs_parse.specs.Verdict.{Reading}
 use Rattle.cs_patch.specs.Patched.{Patch}
 
--- which documents a mutation is meant for: that of an id, or those that a query with its
--- parameters
+-- which documents a mutation is meant for: that of an id, or those that a query with its parameters
 -- finds
 pub data Aim : Type 0 where
   one : List ℕ → Aim

@@ -45,7 +45,7 @@ find-above q (e ∷ es) h =
     ap (λ b. cond b (Some e.1) (find id_cmp q es)) (lower-differs q e.0 (and-left _ _ h)) ∙ find-above q es (and-right (is_lt (id_cmp q e.0)) _ h)
 
 -- a document put among the documents is put among the pairs
-keyed-with_doc : (d : Tree) (es : List Tree) → keyed (with_doc d es) ≡ put id_cmp (id_of d) d (keyed es)
+pub keyed-with_doc : (d : Tree) (es : List Tree) → keyed (with_doc d es) ≡ put id_cmp (id_of d) d (keyed es)
 keyed-with_doc d [] = refl
 keyed-with_doc d (e ∷ es) =
     elim (id_cmp (id_of d) (id_of e)) as (λ o. id_cmp (id_of d) (id_of e) ≡ o → keyed (by_order o (d ∷ e ∷ es) (d ∷ es) (e ∷ with_doc d es)) ≡ by_order o ((id_of d, d) ∷ (id_of e, e) ∷ keyed es) ((id_of e, d) ∷ keyed es) ((id_of e, e) ∷ put id_cmp (id_of d) d (keyed es))) [
@@ -54,7 +54,7 @@ keyed-with_doc d (e ∷ es) =
       | Greater ↦ λ h. ap (λ (r : List (List ℕ × Tree)). (id_of e, e) ∷ r) (keyed-with_doc d es)
     ] refl
 
-keyed-without : (id : List ℕ) (es : List Tree) → keyed (without id es) ≡ where_key id_cmp (λ k. not (same_id id k)) (keyed es)
+pub keyed-without : (id : List ℕ) (es : List Tree) → keyed (without id es) ≡ where_key id_cmp (λ k. not (same_id id k)) (keyed es)
 keyed-without id [] = refl
 keyed-without id (e ∷ es) =
     elim (not (same_id id (id_of e))) as (λ b. keyed (cond b (e ∷ without id es) (without id es)) ≡ cond b ((id_of e, e) ∷ where_key id_cmp (λ k. not (same_id id k)) (keyed es)) (where_key id_cmp (λ k. not (same_id id k)) (keyed es))) [

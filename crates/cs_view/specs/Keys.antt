@@ -1,7 +1,6 @@
 -- Keys, by which documents are looked up, and which documents have one: this project's profile.
--- Equality is that of
--- GROQ-1.revision1, "Equality operators"; names are followed as in its "Attribute access
--- traversal".
+-- Equality is that of GROQ-1.revision1, "Equality operators"; names are followed as in its
+-- "Attribute access traversal".
 use Rattle.std.specs.Prelude.{ℕ, Bool, true, false, ◌||◌, List, [], ◌∷◌, Option, Some, option_and_then, codes, filter}
 use Rattle.std.specs.List.{list_any}
 use Rattle.std.specs.Ordering.{is_eq, bool_cmp, int_eq}

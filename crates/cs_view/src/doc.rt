@@ -12,8 +12,7 @@ pub const DEEPEST_DOCUMENT: u32 = 48;
 
 /// A document: an object of depth at most [`DEEPEST_DOCUMENT`] with an id as `_id`, a text of at
 /// least one byte as `_type`, and texts as `_rev`, `_createdAt` and `_updatedAt`. Contracts speak
-/// of
-/// it by its tree.
+/// of it by its tree.
 #[derive(Drop)]
 pub struct Doc {
     val: Val,

@@ -40,6 +40,15 @@ impl Names {
         Names { texts }
     }
 
+    /// How many names there are.
+    pub fn len(&self) -> usize
+        ensures count { result ≡ length self.now }
+        ensures some { 0 < length self.now }
+        ensures few { length self.now ≤ most_names }
+    {
+        self.texts.len()
+    }
+
     /// The names as a slice.
     pub fn texts(&self) -> &[Txt]
         ensures names { result.now ≡ self.now }

@@ -88,8 +88,10 @@ fn is_ref(object: &Fields, target: &Txt) -> bool
     }
 }
 
+/// Whether an object at any depth of the value, the value itself included, has the text as `_ref`.
+/// It takes no memory.
 #[cycle(has_ref)]
-fn has_ref(val: &Val, target: &Txt) -> bool
+pub fn has_ref(val: &Val, target: &Txt) -> bool
     ensures { result ≡ has_ref target.now (tree val.now) }
 {
     match val {

@@ -11,8 +11,7 @@ use std::alloc::Global;
 use std::marker::Model;
 
 /// The keys that an evaluation looked up, in the order in which they were added. Contracts see it
-/// as
-/// the list of its keys.
+/// as the list of its keys.
 #[derive(Drop)]
 pub struct Record {
     keys: Vec<Key>,

@@ -1,6 +1,6 @@
 use Rattle.std.proofs.Common.{map, ap, ◌∙◌}
 use Rattle.cs_view.specs.Keys.{Sel}
-use Rattle.cs_docs.proofs.Standing.{stands}
+use Rattle.cs_docs.proofs.Placed.{stands}
 use Rattle.cs_docs.proofs.tests.selected.Goals as goal
 
 pub at-requires : goal.at-requires

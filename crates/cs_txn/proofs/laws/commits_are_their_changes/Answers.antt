@@ -1,5 +1,4 @@
-use Rattle.std.specs.Prelude.{◌≡◌, true}
-use Rattle.cs_view.specs.Dataset.{ascending, is_dataset}
+use Rattle.cs_view.specs.Dataset.{ascending}
 use Rattle.cs_view.proofs.Booleans.{and-left}
 use Rattle.cs_txn.proofs.Differing.{each-differs}
 use Rattle.cs_txn.proofs.laws.commits_are_their_changes.Goals as goal

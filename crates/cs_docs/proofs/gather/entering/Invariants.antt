@@ -1,0 +1,9 @@
+use Rattle.std.proofs.Common.{◌≡◌, ◌++◌}
+use Rattle.std.specs.Vec.Iter.{into_iter_items}
+use Rattle.cs_view.specs.View.{edits}
+use Rattle.cs_docs.specs.Gathered.{entering}
+use Rattle.cs_docs.proofs.gather.entering.Given as goal
+
+abbrev pub invariant-loop-document : goal.invariant-loop-document
+invariant-loop-document l =
+    edits l.changes.items ++ entering (into_iter_items l.document-iterator) ≡ entering l.fn.documents.items

@@ -1,0 +1,185 @@
+//! Prepared changes put into the store. What is copied comes first, then what stands under new ids,
+//! which is undone where memory is refused, and then what takes no memory.
+ghost use Rattle.std.specs.Prelude.{◌≡◌, ◌++◌, [], true, false, OnOk, OnErr, IfOk, map};
+ghost use Rattle.std.specs.List.{AllByRecursion};
+ghost use Rattle.std.specs.Option.{option_to_list};
+ghost use Rattle.cs_view.specs.Changes.{After, LeadFrom};
+ghost use Rattle.cs_view.specs.Dataset.{stands};
+ghost use Rattle.cs_view.specs.Document.{id_of};
+ghost use Rattle.cs_view.specs.View.{doc, edit, edits};
+ghost use Rattle.cs_shelf.specs.View.{documents, StayIn, AreSteady};
+ghost use Rattle.cs_docs.specs.Installing.{entered, replaced, put, is_new, is_gone, picked, with_all, without_all};
+ghost use Rattle.cs_docs.specs.Verdict.{AreTaken};
+ghost use Rattle.cs_docs.specs.Store.{docs, prepared as changes_of, AreChanges, ArePlacesSteady};
+
+use crate::docs::Docs;
+use crate::prepared::Prepared;
+use cs_shelf::Shelf;
+use cs_value::NoMemory;
+use cs_view::{Change, Doc};
+use std::alloc::Global;
+
+// Copies of what changes put: under new ids, and in the place of other documents.
+#[derive(Drop)]
+struct Copies {
+    entering: Vec<Doc>,
+    replacing: Vec<Doc>,
+}
+
+impl Copies {
+    // One more copy, of what the change puts, if anything.
+    fn add(&mut self, alloc: Global, change: &Change) -> Result<(), NoMemory>
+        ensures entering { OnOk result (map doc self.new.entering.items
+            ≡ map doc self.old.entering.items ++ option_to_list (entered (edit change.now).1)) }
+        ensures replacing { OnOk result (map doc self.new.replacing.items
+            ≡ map doc self.old.replacing.items ++ option_to_list (replaced (edit change.now).1)) }
+    {
+        if let Some(after) = &change.after {
+            let copy = after.copy(alloc)?;
+            match &change.before {
+                Some(_) => self.replacing.push(copy)?,
+                None => self.entering.push(copy)?,
+            }
+        }
+        Ok(())
+    }
+}
+
+fn make_copies(alloc: Global, changes: &[Change]) -> Result<Copies, NoMemory>
+    ensures entering { IfOk result
+        (λ c. map doc c.entering.items ≡ picked entered (edits changes.now)) }
+    ensures replacing { IfOk result
+        (λ c. map doc c.replacing.items ≡ picked replaced (edits changes.now)) }
+{
+    let mut copies = Copies {
+        entering: Vec::new(alloc),
+        replacing: Vec::new(alloc),
+    };
+    for change in changes {
+        copies.add(alloc, change)?;
+    }
+    Ok(copies)
+}
+
+// Takes out what stands under the ids that are new in the changes.
+fn leave(shelf: &mut Shelf, changes: &[Change])
+    ensures left { documents shelf.new
+        ≡ without_all is_new (edits changes.now) (documents shelf.old) }
+    ensures stood { StayIn shelf.new shelf.old }
+{
+    for change in changes {
+        if change.before.is_none() {
+            shelf.remove(&change.id);
+        }
+    }
+}
+
+// Puts the documents of new ids. Without memory nothing changes.
+fn enter(shelf: &mut Shelf, changes: &[Change], entering: Vec<Doc>) -> Result<(), NoMemory>
+    requires changes { AreChanges changes.now }
+    requires leads { LeadFrom (documents shelf.old) (edits changes.now) }
+    requires these { map doc entering.items ≡ picked entered (edits changes.now) }
+    ensures entered { OnOk result (documents shelf.new
+        ≡ with_all (picked entered (edits changes.now)) (documents shelf.old)) }
+    ensures kept { OnErr result (documents shelf.new ≡ documents shelf.old) }
+    ensures stay { OnOk result (StayIn shelf.old shelf.new) }
+    ensures steady { OnErr result (AreSteady shelf.old shelf.new) }
+{
+    for document in entering {
+        match shelf.add(document) {
+            Ok(()) => {}
+            Err(refused) => {
+                leave(shelf, changes);
+                return Err(refused);
+            }
+        }
+    }
+    Ok(())
+}
+
+// Puts the documents in the place of those of their ids. It takes no memory.
+fn replace(shelf: &mut Shelf, replacing: Vec<Doc>)
+    requires { AllByRecursion (λ d. stands (id_of d) (documents shelf.old) ≡ true)
+        (map doc replacing.items) }
+    ensures replaced { documents shelf.new
+        ≡ with_all (map doc replacing.items) (documents shelf.old) }
+    ensures stay { StayIn shelf.old shelf.new }
+{
+    for document in replacing {
+        shelf.replace(document);
+    }
+}
+
+// Takes out what changes take away. It takes no memory.
+fn remove(shelf: &mut Shelf, changes: &[Change])
+    ensures removed { documents shelf.new
+        ≡ without_all is_gone (edits changes.now) (documents shelf.old) }
+    ensures stood { StayIn shelf.new shelf.old }
+{
+    for change in changes {
+        if change.after.is_none() {
+            shelf.remove(&change.id);
+        }
+    }
+}
+
+// Puts what the change puts, if anything, where none of its id stands. It is moved.
+fn add(shelf: &mut Shelf, change: Change) -> Result<(), NoMemory>
+    requires { AllByRecursion (λ d. stands (id_of d) (documents shelf.old) ≡ false)
+        (option_to_list (put (edit change).1)) }
+    ensures { OnOk result (documents shelf.new
+        ≡ with_all (option_to_list (put (edit change).1)) (documents shelf.old)) }
+{
+    let Change { after, .. } = change;
+    match after {
+        Some(document) => shelf.add(document),
+        None => Ok(()),
+    }
+}
+
+// Puts what changes put and takes out what they take away. Without memory nothing changes.
+fn install(shelf: &mut Shelf, changes: &[Change]) -> Result<(), NoMemory>
+    requires changes { AreChanges changes.now }
+    requires leads { LeadFrom (documents shelf.old) (edits changes.now) }
+    ensures installed { OnOk result (documents shelf.new
+        ≡ After (documents shelf.old) (edits changes.now)) }
+    ensures kept { OnErr result (documents shelf.new ≡ documents shelf.old) }
+    ensures steady { AreSteady shelf.old shelf.new }
+{
+    let Copies {
+        entering,
+        replacing,
+    } = make_copies(shelf.alloc(), changes)?;
+    enter(shelf, changes, entering)?;
+    replace(shelf, replacing);
+    remove(shelf, changes);
+    Ok(())
+}
+
+impl Docs {
+    /// Installs prepared changes: documents are copied out of them. `NoMemory` where the allocator
+    /// has no room for them; nothing changes then. Each change costs some look-ups by id.
+    pub fn install(&mut self, prepared: &Prepared) -> Result<(), NoMemory>
+        requires { AreTaken (docs self.old) (changes_of prepared.now) }
+        ensures installed { OnOk result (docs self.new
+            ≡ After (docs self.old) (changes_of prepared.now)) }
+        ensures kept { OnErr result (docs self.new ≡ docs self.old) }
+        ensures steady { ArePlacesSteady self.old self.new }
+    {
+        install(&mut self.shelf, prepared.changes())
+    }
+
+    /// The store of changes that are prepared for the empty one. The documents are moved, and none
+    /// is copied. `NoMemory` where the allocator has no room for their places.
+    pub fn of(alloc: Global, prepared: Prepared) -> Result<Docs, NoMemory>
+        requires { AreTaken [] (changes_of prepared) }
+        ensures { IfOk result (λ d. docs d ≡ After [] (changes_of prepared)) }
+    {
+        let mut shelf = Shelf::new(alloc);
+        let Prepared { changes, .. } = prepared;
+        for change in changes {
+            add(&mut shelf, change)?;
+        }
+        Ok(Docs { shelf })
+    }
+}

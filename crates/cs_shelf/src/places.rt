@@ -1,0 +1,81 @@
+//! Looking documents up.
+ghost use Rattle.std.specs.Prelude.{◌≡◌, length, [], Some, option_map, IsSome};
+ghost use Rattle.cs_view.specs.Dataset.{At};
+ghost use Rattle.cs_view.specs.View.{doc};
+ghost use Rattle.cs_shelf.specs.View.{documents, doc_at, place_at};
+
+use crate::shelf::Shelf;
+use cs_value::Txt;
+use cs_view::Doc;
+use slab::Slab;
+use std::alloc::Global;
+use std::collections::BTreeMap;
+
+impl Shelf {
+    /// No documents. It takes no memory.
+    pub fn new(alloc: Global) -> Shelf
+        ensures { documents result ≡ [] }
+    {
+        Shelf {
+            store: Slab::new(alloc),
+            order: BTreeMap::new(alloc),
+            alloc,
+        }
+    }
+
+    /// The allocator that it takes its memory from.
+    pub fn alloc(&self) -> Global {
+        self.alloc
+    }
+
+    /// How many documents there are.
+    pub fn count(&self) -> usize
+        ensures { result ≡ length (documents self.now) }
+    {
+        self.order.len()
+    }
+
+    /// The place of the document with the id: `None` exactly where there is none.
+    #[tactic(auto, using(crate::proofs::Standing::place_of))]
+    pub fn by_id(&self, id: &Txt) -> Option<u32>
+        ensures { option_map (doc_at self.now) result
+            ≡ option_map Some (At id.now (documents self.now)) }
+    {
+        self.order.get(id).copied()
+    }
+
+    /// The place of the document with the id, which it keeps while it stands.
+    pub fn place(&self, id: &Txt) -> Option<u32>
+        ensures { result ≡ place_at self.now id.now }
+    {
+        self.order.get(id).copied()
+    }
+
+    /// What stands at a place, if a document does.
+    pub fn found(&self, place: u32) -> Option<&Doc>
+        ensures { option_map (λ d. doc d.now) result ≡ doc_at self.now place }
+    {
+        self.store.get(place as usize)
+    }
+
+    /// The document at a place where one stands.
+    pub fn at(&self, place: u32) -> &Doc
+        requires { IsSome (doc_at self.now place) }
+        ensures { doc_at self.now place ≡ Some (doc result.now) }
+    {
+        match self.store.get(place as usize) {
+            Some(doc) => doc,
+            None => unreachable!(),
+        }
+    }
+
+    /// The document with the id: `None` exactly where there is none.
+    pub fn get(&self, id: &Txt) -> Option<&Doc>
+        ensures { option_map (λ d. doc d.now) result ≡ At id.now (documents self.now) }
+    {
+        match self.by_id(id) {
+            Some(place) => Some(self.at(place)),
+            None => None,
+        }
+    }
+}
