@@ -2,6 +2,7 @@
 use Rattle.std.proofs.Common.{◌≡◌, ◌≤◌, ◌+◌, ℕ, List, [], ◌∷◌, map, length, sym, ap, subst, ◌∙◌, rules, Vec, Box, Global, refl, true, false, Bool, ◌&&◌, IfNone}
 use Rattle.std.specs.Prelude.{filter, IfSome, OnOk}
 use Rattle.std.proofs.Common.{Option, None, Some, Result, Ok, Err}
+use Rattle.cs_value.specs.Words.{list_of}
 use Rattle.cs_value.specs.Tree.{Tree, null, Pairs}
 use Rattle.cs_view.specs.Keys.{Sel, has}
 use Rattle.cs_view.specs.declared.key.Key.{Key}
@@ -13,14 +14,13 @@ use Rattle.cs_syntax.specs.declared.tree.Step.{Step as CodeStep}
 use Rattle.cs_plan.specs.Filters.{key_in}
 use Rattle.cs_plan.specs.Simple.{is_simple, is_simple_rest, quiet_step, quiet_steps, are_tail_steps, query_key}
 use Rattle.cs_meaning.specs.Hits.{is_hit, hits, tail, cost}
-use Rattle.cs_meaning.specs.Joining.{list_of}
 use Rattle.cs_meaning.specs.Looked.{query_looked, starts_with_filter}
 use Rattle.cs_meaning.specs.Operators.{is_true}
 use Rattle.cs_meaning.specs.Values.{value, pipes_value, query_value}
 use Rattle.cs_meaning.proofs.Simple.{simple-looked, simple-tail}
 use Rattle.cs_meaning.proofs.Sound.{filter-within}
 use Rattle.cs_meaning.proofs.TrueKey.{true-has_key}
-use Rattle.cs_eval.specs.Starts.{enter_value}
+use Rattle.cs_expr.specs.Starts.{enter_value}
 
 pub expression_chain : (base : Box Expr Global) (ss : Vec CodeStep Global) → expression (code.Chain base ss) ≡ chain (expression base.value) (steps_of (map step ss.items))
 unfolding expression step
@@ -74,10 +74,6 @@ simple_visits docs params scope e f later k before after is root is-k few =
 pub some_then : {A : Type 0} (r : Option A) {P Q : A → Type 0} → ((x : A) → P x → Q x) → IfSome r P → IfSome r Q
 some_then None f h = tt
 some_then (Some x) f h = f x h
-
-pub on_ok : {A E : Type 0} (r : Result A E) {P : Type 0} → P → OnOk r P
-on_ok (Ok x) h = h
-on_ok (Err x) h = tt
 
 pub none_then : {A : Type 0} (r : Option A) {P Q : Type 0} → (P → Q) → IfNone r P → IfNone r Q
 none_then None f h = f h

@@ -1,12 +1,7 @@
 //! The value of a query over the documents of a view, and what finding it looks up.
 #![tactic(auto)]
 
-mod calls;
-mod chains;
-mod expressions;
-mod levels;
 mod queries;
-mod steps;
 
 pub use cs_meaning::{
     functions_are_evaluated, hits_have_key, looked_settles_value, quiet_asks_nothing,

@@ -1,5 +1,6 @@
 //! Queries: any one over a view, and simple ones over the documents that have their key.
 ghost use Rattle.std.specs.Prelude.{◌≡◌, ◌≤◌, ◌+◌, ◌∷◌, ◌++◌, [], true, false, IfNone, IfOk, IfSome, OnOk, map, filter};
+ghost use Rattle.cs_value.specs.Words.{list_of};
 ghost use Rattle.cs_value.specs.Tree.{null as null_tree};
 ghost use Rattle.cs_value.specs.View.{tree, fields};
 ghost use Rattle.cs_syntax.specs.Expression.{steps_of, chain, everything, more_steps, bracket as bracket_step};
@@ -9,16 +10,13 @@ ghost use Rattle.cs_view.specs.Scopes.{scope};
 ghost use Rattle.cs_view.specs.View.{doc as document};
 ghost use Rattle.cs_plan.specs.Simple.{is_simple};
 ghost use Rattle.cs_meaning.specs.Hits.{is_hit, tail, cost};
-ghost use Rattle.cs_meaning.specs.Joining.{list_of};
 ghost use Rattle.cs_meaning.specs.Looked.{query_looked};
 ghost use Rattle.cs_meaning.specs.Operators.{is_true};
 ghost use Rattle.cs_parts.specs.Parts.{got};
 ghost use Rattle.cs_meaning.specs.Values.{value as value_of, pipes_value, query_value};
-ghost use Rattle.cs_eval.specs.Starts.{enter_value};
+ghost use Rattle.cs_expr.specs.Starts.{enter_value};
 
-use crate::chains::{enter, pipes};
-use crate::expressions::eval as evaluate;
-use crate::steps::{holds, keep_lent};
+use cs_expr::{enter, eval as evaluate, holds, keep_lent, pipes};
 use cs_parts::{Got, NoDocs, Source, head_filter, kinds, push};
 use cs_plan::{choose, simple};
 use cs_syntax::{Expr, Query, Step};

@@ -2,10 +2,11 @@
 use Rattle.std.proofs.Common.{◌≡◌, Bool, true, false, cond, List, [], ◌∷◌, ◌++◌, map, refl, ap, Option, Some, None}
 use Rattle.std.specs.Prelude.{⊤, filter, flat_map}
 use Rattle.std.specs.Option.{option_map_or}
+use Rattle.cs_value.specs.Words.{as_list, list_of}
 use Rattle.cs_value.specs.Tree.{Tree, null}
 use Rattle.cs_view.specs.Keys.{Sel}
 use Rattle.cs_view.specs.declared.key.Key.{Key}
-use Rattle.cs_meaning.specs.Joining.{as_list, list_of, mapped, flat_elements, flattened, entered, onward}
+use Rattle.cs_meaning.specs.Joining.{mapped, flat_elements, flattened, entered, onward}
 use Rattle.cs_meaning.specs.Looked.{each_looked, entered_looked, onward_looked}
 use Rattle.cs_meaning.specs.Operators.{is_true}
 use Rattle.cs_meaning.specs.Ordered.{Ranked, ranked, in_order, ordered}

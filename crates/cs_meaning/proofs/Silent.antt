@@ -3,7 +3,7 @@ use Rattle.std.proofs.Common.{◌≡◌, Bool, true, false, cond, ◌&&◌, List
 use Rattle.std.specs.Prelude.{flat_map}
 use Rattle.std.specs.Option.{option_map_or}
 use Rattle.cs_value.specs.Tree.{Tree, Pairs}
-use Rattle.cs_value.specs.Words.{is_object}
+use Rattle.cs_value.specs.Words.{is_object, as_list, list_of}
 use Rattle.cs_func.specs.Lists.{is_null}
 use Rattle.cs_syntax.specs.Expression.{Expression, everything, round, call, array, object_literal, chain, prefix, run, within, between, Operands, no_operands, more_operands, Step, attr, deref, each, slice, bracket, project, pipe, Steps, no_steps, more_steps, Entry, keyed, bare, when, spread, Entries, no_entries, more_entries, Element, element, spread_element, Elements, no_elements, more_elements, Argument, argument, when_argument, Arguments, no_arguments, more_arguments, order_key, OrderKeys, no_keys, more_keys}
 use Rattle.cs_view.specs.Keys.{Sel}
@@ -11,7 +11,7 @@ use Rattle.cs_view.specs.declared.key.Key.{Key}
 use Rattle.cs_plan.specs.Filters.{key_in}
 use Rattle.cs_plan.specs.Simple.{is_quiet, quiet_operands, quiet_argument, quiet_arguments, quiet_element, quiet_elements, quiet_entry, quiet_entries, quiet_step, quiet_steps, quiet_keys}
 use Rattle.cs_plan.specs.Steps.{Bracketed, position, named, condition, bracketed, is_order_name}
-use Rattle.cs_meaning.specs.Joining.{as_list, list_of, mapped, form, kind, way, entrance, entered, base_entrance}
+use Rattle.cs_meaning.specs.Joining.{mapped, form, kind, way, entrance, entered, base_entrance}
 use Rattle.cs_meaning.specs.Looked.{each_looked, entered_looked, onward_looked, bracket_looked, called_looked, is_everything, starts_with_filter, looked, filter_looked, run_looked, argument_looked, arguments_looked, coalesced_looked, selected_looked, element_looked, elements_looked, entry_looked, entries_looked, rest_looked, pipes_looked, step_looked, keys_looked}
 use Rattle.cs_meaning.specs.Operators.{is_true, operator_of, operated, decides, Callee, coalescing, selecting, referring, applying, callee}
 use Rattle.cs_meaning.specs.Values.{is_pipe, value, argument_value, rest_value, step_value}

@@ -1,6 +1,7 @@
 -- A simple query: what it looks up, and its value from its hits.
 use Rattle.std.proofs.Common.{◌≡◌, Bool, true, false, cond, ◌&&◌, List, [], ◌∷◌, ◌++◌, append-nil, refl, ap, sym, ◌∙◌, subst}
 use Rattle.std.specs.Prelude.{filter}
+use Rattle.cs_value.specs.Words.{list_of}
 use Rattle.cs_value.specs.Tree.{Tree, null, Pairs}
 use Rattle.cs_syntax.specs.Expression.{Expression, everything, chain, bracket, Steps, more_steps}
 use Rattle.cs_view.specs.declared.key.Key.{Key}
@@ -8,7 +9,7 @@ use Rattle.cs_plan.specs.Filters.{key_in}
 use Rattle.cs_plan.specs.Simple.{is_quiet, quiet_steps, is_filter, are_tail_steps, is_simple_rest, is_simple, filter_of, query_key}
 use Rattle.cs_plan.specs.Steps.{condition, bracketed}
 use Rattle.cs_meaning.specs.Hits.{hits, tail}
-use Rattle.cs_meaning.specs.Joining.{list_of, kind, entrance, entered, base_entrance}
+use Rattle.cs_meaning.specs.Joining.{kind, entrance, entered, base_entrance}
 use Rattle.cs_meaning.specs.Looked.{entered_looked, starts_with_filter, looked, filter_looked, rest_looked, pipes_looked, query_looked}
 use Rattle.cs_meaning.specs.Operators.{is_true}
 use Rattle.cs_meaning.specs.Values.{value, rest_value, pipes_value, query_value}

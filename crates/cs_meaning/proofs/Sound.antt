@@ -5,7 +5,7 @@ use Rattle.std.specs.Option.{option_map_or}
 use Rattle.std.proofs.lemmas.Slice.Eq.{bytes_eq-Decides}
 use Rattle.cs_value.specs.Tree.{Tree, null, boolean, integer, text, list, object, Pairs, no_pairs}
 use Rattle.cs_value.specs.Pairs.{put}
-use Rattle.cs_value.specs.Words.{is_object}
+use Rattle.cs_value.specs.Words.{is_object, as_list, list_of}
 use Rattle.cs_value.proofs.Views.{members-trees}
 use Rattle.cs_func.specs.Lists.{is_null}
 use Rattle.cs_ops.specs.Operators as operators
@@ -23,7 +23,7 @@ use Rattle.cs_view.specs.declared.key.Key.TheVariants.{All, Id}
 use Rattle.cs_plan.specs.Filters.{key_in}
 use Rattle.cs_plan.specs.Simple.{is_condition}
 use Rattle.cs_plan.specs.Steps.{Bracketed, position, named, condition, bracketed, is_order_name}
-use Rattle.cs_meaning.specs.Joining.{as_list, list_of, bracket_form, form, kind_before, kind, way, entrance, entered, onward, base_entrance}
+use Rattle.cs_meaning.specs.Joining.{bracket_form, form, kind_before, kind, way, entrance, entered, onward, base_entrance}
 use Rattle.cs_meaning.specs.declared.join.Kind.{Kind}
 use Rattle.cs_meaning.specs.declared.join.Kind.TheVariants.{Empty, Taking}
 use Rattle.cs_meaning.specs.declared.join.Form.TheVariants.{Listing}

@@ -1,12 +1,11 @@
 -- Examples of values and of what is looked up, computed from the definitions: GROQ-1.revision1, by
--- the sections named, as
--- this project's profile has them.
+-- the sections named, as this project's profile has them.
 use Rattle.std.specs.Prelude.{◌≡◌, ℕ, List, [], ◌∷◌, true, false, negsuc, codes}
+use Rattle.cs_value.specs.Words.{list_of}
 use Rattle.cs_value.specs.Tree.{Tree, null, boolean, integer, text, no_pairs, pairs}
 use Rattle.cs_syntax.specs.declared.tree.BinSign.TheVariants as sign
 use Rattle.cs_syntax.specs.declared.tree.PreSign.TheVariants as front
 use Rattle.cs_syntax.specs.Expression.{Expression, null_literal, bool_literal, number_literal, text_literal, param, word, this, everything, parent, round, call, array, object_literal, prefix, within, between, attr, deref, each, slice, bracket, pipe, keyed, bare, when, spread, element, spread_element, argument, when_argument, order_key, elements_of, entries_of, arguments_of, keys_of}
-use Rattle.cs_meaning.specs.Joining.{list_of}
 use Rattle.cs_view.specs.declared.key.Scalar.TheVariants.{Text}
 use Rattle.cs_view.specs.declared.key.Key.TheVariants.{All, Id, Path, Ref}
 use Rattle.cs_meaning.specs.Looked.{query_looked}
@@ -476,9 +475,7 @@ Parameters =
     ≡ list_of (whole 1 ∷ null ∷ [])
 
 -- A dereference is looked up whether or not a document is found; what has no reference is not.
--- `*[_type == 'post'].author->name`
--- `*[_id == 'p2']{'a': author->}`
--- `*[_type == 'tag']->`
+-- `*[_type == 'post'].author->name` `*[_id == 'p2']{'a': author->}` `*[_type == 'tag']->`
 abbrev pub EachDereference : Type 0
 EachDereference =
     (query_looked library no_pairs
@@ -497,11 +494,8 @@ EachDereference =
 -- A filter of `*` is looked up by its key, and what it looks up itself is looked up for the
 -- documents of the key; without a key all documents are.
 -- `*[_type == 'author']{name, 'posts': *[_type == 'post' && author._ref == ^._id].title}`
--- `*[author._ref == 'au-ann' && count(*[references(^._id)]) > 0]._id`
--- `*[_type == 'post' || _type == 'tag']`
--- `count(*)`
--- `*{name}`
--- `(*)[_id == 'p1']`
+-- `*[author._ref == 'au-ann' && count(*[references(^._id)]) > 0]._id` `*[_type == 'post' || _type
+-- == 'tag']` `count(*)` `*{name}` `(*)[_id == 'p1']`
 abbrev pub FiltersByKeys : Type 0
 FiltersByKeys =
     (query_looked library no_pairs
@@ -537,12 +531,8 @@ FiltersByKeys =
     (bracket (binary_of (word (codes "_id")) sign.Eq (text_literal (codes "p1"))) ∷ [])) ≡ All ∷ [])
 
 -- A right side is not looked at where the left one decides.
--- `false && count(*) > 0`
--- `true || count(*) > 0`
--- `true && count(*) > 0`
--- `null && count(*) > 0`
--- `false || count(*) > 0`
--- `*[_type == 'post' && author->name == 'Ann']._id`
+-- `false && count(*) > 0` `true || count(*) > 0` `true && count(*) > 0` `null && count(*) > 0`
+-- `false || count(*) > 0` `*[_type == 'post' && author->name == 'Ann']._id`
 abbrev pub DecidedAlready : Type 0
 DecidedAlready =
     (query_looked library no_pairs
@@ -575,12 +565,9 @@ DecidedAlready =
 
 -- `coalesce` and `select` look at no argument behind the one that counts, nor at values that are
 -- not taken; an entry under a condition is looked at where this is true.
--- `coalesce(1, count(*))`
--- `coalesce(null, count(*))`
--- `select(true => 1, count(*))`
--- `select(false => count(*), 2)`
--- `select(count(*) > 0 => 1, *[_id == 'p1'])`
--- `{false => *[0], true => *[_id == 'p1'][0]}`
+-- `coalesce(1, count(*))` `coalesce(null, count(*))` `select(true => 1, count(*))` `select(false =>
+-- count(*), 2)` `select(count(*) > 0 => 1, *[_id == 'p1'])` `{false => *[0], true => *[_id ==
+-- 'p1'][0]}`
 abbrev pub ArgumentsThatCount : Type 0
 ArgumentsThatCount =
     (query_looked library no_pairs
@@ -617,9 +604,8 @@ ArgumentsThatCount =
 
 -- What is mapped looks up for each element in order, an order for the keys of each, and `path` for
 -- its pattern.
--- `[{'_ref': 'a'}, 1, {'_ref': 'b', '_dataset': 'c'}, {'_ref': 'd'}][]->`
--- `[{'_ref': 'b'}, {'_ref': 'a'}] | order(@->name)[0]->`
--- `'x' in path(*[_id == 'p1'][0].title)`
+-- `[{'_ref': 'a'}, 1, {'_ref': 'b', '_dataset': 'c'}, {'_ref': 'd'}][]->` `[{'_ref': 'b'}, {'_ref':
+-- 'a'}] | order(@->name)[0]->` `'x' in path(*[_id == 'p1'][0].title)`
 abbrev pub EachElement : Type 0
 EachElement =
     (query_looked library no_pairs

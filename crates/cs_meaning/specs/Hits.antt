@@ -1,10 +1,11 @@
 -- The documents behind a simple query's answer: this project's profile.
 use Rattle.std.specs.Prelude.{ℕ, length, filter, List, [], ◌∷◌, Bool}
+use Rattle.cs_value.specs.Words.{list_of}
 use Rattle.cs_value.specs.Tree.{Tree, null, Pairs}
 use Rattle.cs_syntax.specs.Expression.{Expression}
 use Rattle.cs_view.specs.Keys.{Sel}
 use Rattle.cs_plan.specs.Simple.{filter_of, tail_of, steps_behind, query_key}
-use Rattle.cs_meaning.specs.Joining.{list_of, kind, entrance, entered}
+use Rattle.cs_meaning.specs.Joining.{kind, entrance, entered}
 use Rattle.cs_meaning.specs.Operators.{is_true}
 use Rattle.cs_meaning.specs.Values.{value, rest_value, pipes_value}
 

@@ -1,9 +1,9 @@
 -- How the steps of a chain are joined: this project's profile, after GROQ-1.revision1, "Compound
--- expressions" and "Array
--- postfix". A rest is what stands behind a step, up to the next piped call.
+-- expressions" and "Array postfix". A rest is what stands behind a step, up to the next piped call.
 use Rattle.std.specs.Prelude.{Bool, true, false, List, [], ◌∷◌, map, flat_map, Option, Some, None, if◌then◌else◌}
 use Rattle.std.specs.Option.{option_map_or}
-use Rattle.cs_value.specs.Tree.{Tree, null, boolean, integer, text, list, object, trees, members}
+use Rattle.cs_value.specs.Words.{as_list, list_of, of_list}
+use Rattle.cs_value.specs.Tree.{Tree, null, boolean, integer, text, list, object}
 use Rattle.cs_syntax.specs.Expression.{Expression, everything, array, Step, attr, deref, each, slice, bracket, project, pipe, Steps, no_steps, more_steps}
 use Rattle.cs_plan.specs.Steps.{Bracketed, position, named, condition, bracketed}
 use Rattle.cs_meaning.specs.declared.join.Shape.TheVariants.{One, Array}
@@ -15,23 +15,6 @@ use Rattle.cs_meaning.specs.declared.join.Way.{Way}
 use Rattle.cs_meaning.specs.declared.join.Way.TheVariants.{Through, Over, After, Ends}
 use Rattle.cs_meaning.specs.declared.join.Entrance.{Entrance}
 use Rattle.cs_meaning.specs.declared.join.Entrance.TheVariants.{Whole, Mapped, Flat}
-
--- The elements of a list, none where the value is no list.
-abbrev pub as_list : Tree → Option (List Tree)
-as_list null = None
-as_list (boolean b) = None
-as_list (integer n) = None
-as_list (text s) = None
-as_list (list ts) = Some (members ts)
-as_list (object ps) = None
-
--- The value that is a list of these.
-abbrev pub list_of : List Tree → Tree
-list_of ts = list (trees ts)
-
--- What f makes of a list's elements, null of anything else.
-abbrev pub of_list : (List Tree → Tree) → Tree → Tree
-of_list f v = option_map_or f (as_list v) null
 
 -- `Map`: the list of what f makes of each element, null where there is no list.
 abbrev pub mapped : (Tree → Tree) → Tree → Tree
@@ -46,8 +29,7 @@ abbrev pub flattened : (Tree → Tree) → Tree → Tree
 flattened f v = of_list (λ ts. list_of (flat_map flat_elements (map f ts))) v
 
 -- An element by position takes an array and gives one value, an attribute takes and gives one, a
--- filter takes and gives
--- an array: "Element access", "Attribute access", "Filter".
+-- filter takes and gives an array: "Element access", "Attribute access", "Filter".
 abbrev pub bracket_form : Bracketed → Form
 bracket_form (position n) = Element
 bracket_form (named w) = Single
@@ -82,8 +64,7 @@ kind no_steps = Empty
 kind (more_steps s ss) = kind_before (form s) (kind ss)
 
 -- Which of the five rules a step takes: the second where a projection stands before a rest that
--- takes an array, the third
--- to fifth where the step gives an array, and else the first.
+-- takes an array, the third to fifth where the step gives an array, and else the first.
 abbrev pub way : Form → Kind → Way
 way Pipe k = Ends
 way Listing k = After
@@ -91,9 +72,8 @@ way Projection (Taking Array gives) = Over
 way f k = Through
 
 -- How an array enters a rest: whole where the rest takes an array, which is the third rule, or is
--- empty; mapped where it
--- takes one value and gives one, which is the fourth; flat where it takes one and gives an array,
--- which is the fifth.
+-- empty; mapped where it takes one value and gives one, which is the fourth; flat where it takes
+-- one and gives an array, which is the fifth.
 abbrev pub entrance : Kind → Entrance
 entrance Empty = Whole
 entrance (Taking Array gives) = Whole

@@ -1,10 +1,10 @@
 -- What an evaluation looks up, as a list of keys in the order of evaluation: this project's
--- profile. It stands beside the
--- value of each form: a part that the value does not need is not looked at.
+-- profile. It stands beside the value of each form: a part that the value does not need is not
+-- looked at.
 use Rattle.std.specs.Prelude.{ℕ, Bool, true, false, ◌&&◌, List, [], ◌∷◌, ◌++◌, flat_map, Option, Some, None, if◌then◌else◌}
 use Rattle.std.specs.Option.{option_map_or}
 use Rattle.cs_value.specs.Tree.{Tree, null, Pairs}
-use Rattle.cs_value.specs.Words.{is_object}
+use Rattle.cs_value.specs.Words.{is_object, as_list, list_of}
 use Rattle.cs_func.specs.Lists.{is_null}
 use Rattle.cs_syntax.specs.Expression.{Expression, everything, round, call, array, object_literal, chain, prefix, run, within, between, Operands, no_operands, more_operands, Step, attr, deref, each, slice, bracket, project, pipe, Steps, no_steps, more_steps, Entry, keyed, bare, when, spread, Entries, no_entries, more_entries, Element, element, spread_element, Elements, no_elements, more_elements, Argument, argument, when_argument, Arguments, no_arguments, more_arguments, order_key, OrderKeys, no_keys, more_keys}
 use Rattle.cs_view.specs.Keys.{Sel}
@@ -17,7 +17,7 @@ use Rattle.cs_meaning.specs.declared.join.Way.{Way}
 use Rattle.cs_meaning.specs.declared.join.Way.TheVariants.{Through, Over, After, Ends}
 use Rattle.cs_meaning.specs.declared.join.Entrance.{Entrance}
 use Rattle.cs_meaning.specs.declared.join.Entrance.TheVariants.{Whole, Mapped, Flat}
-use Rattle.cs_meaning.specs.Joining.{as_list, list_of, mapped, form, kind, way, entrance, entered, base_entrance}
+use Rattle.cs_meaning.specs.Joining.{mapped, form, kind, way, entrance, entered, base_entrance}
 use Rattle.cs_meaning.specs.Operators.{is_true, operator_of, operated, decides, Callee, coalescing, selecting, referring, applying, callee, reference_of}
 use Rattle.cs_meaning.specs.Values.{is_pipe, value, argument_value, rest_value, step_value}
 
@@ -72,8 +72,7 @@ starts_with_filter (more_steps s ss) = is_filter s
 
 abbrev mutual
   -- A `*` with a filter as its first step is looked up by the key of the filter; every other `*` is
-  -- all documents. All
-  -- other forms look up what their parts do.
+  -- all documents. All other forms look up what their parts do.
   pub looked : List Tree → Pairs → Expression → List Tree → List Key
   looked docs params everything scope = All ∷ []
   looked docs params (round e) scope = looked docs params e scope
@@ -100,8 +99,7 @@ abbrev mutual
   looked docs params _ scope = []
 
   -- `*` and its filter: the key of the filter, then what the filter looks up for each document that
-  -- has the key, and then
-  -- what the rest looks up of the documents that make the filter true.
+  -- has the key, and then what the rest looks up of the documents that make the filter true.
   pub filter_looked : List Tree → Pairs → Steps → List Tree → List Key
   filter_looked docs params (more_steps (bracket e) ss) scope =
       key_in e scope params

@@ -6,7 +6,7 @@ use Rattle.std.specs.List.{list_any}
 use Rattle.std.specs.Str.{bytes_eq}
 use Rattle.cs_value.specs.Tree.{Tree, null, boolean, Pairs}
 use Rattle.cs_value.specs.Pairs.{find, put}
-use Rattle.cs_value.specs.Words.{as_text, as_object}
+use Rattle.cs_value.specs.Words.{as_text, as_object, as_list}
 use Rattle.cs_syntax.specs.declared.tree.BinSign.{BinSign}
 use Rattle.cs_syntax.specs.declared.tree.BinSign.TheVariants as sign
 use Rattle.cs_syntax.specs.declared.tree.PreSign.{PreSign}
@@ -27,7 +27,6 @@ use Rattle.cs_func.specs.Refers.{refers}
 use Rattle.cs_func.specs.Texts.{of_texts}
 use Rattle.cs_func.specs.declared.function.Function.{Function}
 use Rattle.cs_view.specs.Dataset.{At}
-use Rattle.cs_meaning.specs.Joining.{as_list}
 
 -- A value is `true`: "And operator".
 abbrev pub is_true : Tree → Bool
@@ -93,8 +92,7 @@ sole (v ∷ []) = v
 sole vs = null
 
 -- How a call finds its value: `coalesce` and `select` may leave arguments aside, `references` looks
--- at `@`, and every other
--- name may be that of a function of values.
+-- at `@`, and every other name may be that of a function of values.
 pub data Callee : Type 0 where
   coalescing : Callee
   selecting : Callee

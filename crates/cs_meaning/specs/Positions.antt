@@ -1,7 +1,7 @@
 -- Elements and slices of a list: GROQ-1.revision1, "Element access", "Slice".
 use Rattle.std.specs.Prelude.{ℕ, ℤ, pos, negsuc, ◌+ℤ◌, min, take, drop, length, List, Bool, Option, Some, None, unwrap_or, slice_get, nat_lt, if◌then◌else◌}
+use Rattle.cs_value.specs.Words.{list_of, of_list}
 use Rattle.cs_value.specs.Tree.{Tree, null}
-use Rattle.cs_meaning.specs.Joining.{list_of, of_list}
 
 -- A negative place has the length added: it counts from the end.
 abbrev pub counted : ℕ → ℤ → ℤ

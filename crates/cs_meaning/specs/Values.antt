@@ -1,20 +1,19 @@
 -- The value of an expression over a dataset, with parameters, in a scope: GROQ-1.revision1,
--- "Evaluation", as this project's
--- profile has it. Every tree has a value, also one that no text spells: a form that the profile
--- refuses is null.
+-- "Evaluation", as this project's profile has it. Every tree has a value, also one that no text
+-- spells: a form that the profile refuses is null.
 -- A dataset is the list of its documents, a scope the list of its values, the innermost first.
 use Rattle.std.specs.Prelude.{Bool, true, false, List, [], ◌∷◌, ◌++◌, filter, Option, Some, None, unwrap_or, if◌then◌else◌}
 use Rattle.std.specs.Option.{option_map_or}
 use Rattle.cs_value.specs.Tree.{Tree, null, boolean, text, object, Pairs, no_pairs}
 use Rattle.cs_value.specs.Pairs.{put}
-use Rattle.cs_value.specs.Words.{as_object}
+use Rattle.cs_value.specs.Words.{as_object, as_list, list_of, of_list}
 use Rattle.cs_syntax.specs.Brackets.{key_of}
 use Rattle.cs_syntax.specs.Faults.{is_path}
 use Rattle.cs_syntax.specs.Expression.{Expression, null_literal, bool_literal, number_literal, text_literal, param, word, this, everything, parent, round, call, array, object_literal, chain, prefix, run, within, between, Operands, no_operands, more_operands, Step, attr, deref, each, slice, bracket, project, pipe, Steps, no_steps, more_steps, Entry, keyed, bare, when, spread, Entries, no_entries, more_entries, Element, element, spread_element, Elements, no_elements, more_elements, Argument, argument, when_argument, Arguments, no_arguments, more_arguments, order_key, OrderKeys, no_keys, more_keys}
 use Rattle.cs_ops.specs.Operators as operators
 use Rattle.cs_plan.specs.Steps.{in_scope, field, position_of, Bracketed, position, named, condition, bracketed, is_order_name}
 use Rattle.cs_plan.specs.Constants.{literal}
-use Rattle.cs_meaning.specs.Joining.{as_list, list_of, of_list, form, kind, way, entrance, entered, onward, base_entrance}
+use Rattle.cs_meaning.specs.Joining.{form, kind, way, entrance, entered, onward, base_entrance}
 use Rattle.cs_meaning.specs.Operators.{is_true, operated, signed, in_list_or_path, sole, callee, called, or_else, parameter, spread_into, put_under, reference_of, sought}
 use Rattle.cs_meaning.specs.Ordered.{ordered, directions}
 use Rattle.cs_meaning.specs.Positions as positions
@@ -149,8 +148,7 @@ abbrev mutual
       (rest_value docs params ss scope) v
 
   -- What stands from the first piped call on makes of the value of what stands before it: each
-  -- piped call gives an array,
-  -- which enters the rest behind it: "Pipe functions".
+  -- piped call gives an array, which enters the rest behind it: "Pipe functions".
   pub pipes_value : List Tree → Pairs → Steps → List Tree → Tree → Tree
   pipes_value docs params no_steps scope v = v
   pipes_value docs params (more_steps s ss) scope v =
@@ -160,9 +158,8 @@ abbrev mutual
       (step_value docs params s scope v) else v)
 
   -- One step. A filter, a projection and an order put the element in front of the scope: "Attribute
-  -- access",
-  -- "Dereference", "Array postfix", "Slice", "Element access", "Filter", "Projection", "Order pipe
-  -- function".
+  -- access", "Dereference", "Array postfix", "Slice", "Element access", "Filter", "Projection",
+  -- "Order pipe function".
   pub step_value : List Tree → Pairs → Step → List Tree → Tree → Tree
   step_value docs params (attr w) scope v = field w v
   step_value docs params deref scope v = sought docs (reference_of v)

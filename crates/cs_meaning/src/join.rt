@@ -22,9 +22,10 @@ pub enum Form {
 }
 
 /// What a rest of a chain takes and gives.
-#[derive(Clone, Copy, Debug, Drop, PartialEq, Eq)]
+#[derive(Clone, Copy, Debug, Default, Drop, PartialEq, Eq)]
 pub enum Kind {
     /// No step is left before the end, or before a piped call.
+    #[default]
     Empty,
     /// What the rest takes, and what it gives.
     Taking(Shape, Shape),

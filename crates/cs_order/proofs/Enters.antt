@@ -3,6 +3,7 @@ use Rattle.std.proofs.Common.{◌≡◌, ℕ, zero, suc, ◌+◌, ◌≤◌, min
 use Rattle.std.specs.Prelude.{unwrap_or}
 use Rattle.std.specs.Option.{option_map_or}
 use Rattle.std.proofs.lemmas.List.{take_min, take-map, length-take}
+use Rattle.cs_value.specs.Words.{as_list, list_of, of_list}
 use Rattle.cs_value.specs.Tree.{Tree, null, boolean, integer, text, list, object, Pairs, members}
 use Rattle.cs_value.proofs.Views.{members-trees}
 use Rattle.cs_view.specs.declared.key.Key.{Key}
@@ -14,7 +15,7 @@ use Rattle.cs_meaning.specs.declared.join.Kind.{Kind}
 use Rattle.cs_meaning.specs.declared.join.Kind.TheVariants.{Empty, Taking}
 use Rattle.cs_meaning.specs.declared.join.Entrance.{Entrance}
 use Rattle.cs_meaning.specs.declared.join.Entrance.TheVariants.{Whole}
-use Rattle.cs_meaning.specs.Joining.{as_list, list_of, of_list, kind, kind_before, bracket_form, way, entrance, entered, onward}
+use Rattle.cs_meaning.specs.Joining.{kind, kind_before, bracket_form, way, entrance, entered, onward}
 use Rattle.cs_meaning.specs.Ordered.{Ranked, in_order, ordered, ranked, sorted}
 use Rattle.cs_meaning.specs.Positions.{sliced, element, element_at, elements_between, clamped, counted, behind}
 use Rattle.cs_meaning.specs.Values.{in_bracket, rest_value}

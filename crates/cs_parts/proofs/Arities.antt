@@ -1,6 +1,7 @@
 -- Functions by the number of their arguments, and of the parts of a list.
 use Rattle.std.proofs.Common.{◌≡◌, ℕ, List, map, length, refl, sym, ap, ◌∙◌, true, true≢false, pos, None}
 use Rattle.std.proofs.lemmas.List.{length-map}
+use Rattle.cs_value.specs.Words.{list_of}
 use Rattle.cs_value.specs.Tree.{Tree, null, integer}
 use Rattle.cs_value.proofs.Views.{members-trees}
 use Rattle.cs_func.specs.Functions.{has_two, value}
@@ -8,7 +9,6 @@ use Rattle.cs_func.specs.Lists.{count}
 use Rattle.cs_func.specs.Texts.{size}
 use Rattle.cs_func.specs.declared.function.Function.{Function}
 use Rattle.cs_func.specs.declared.function.Function.TheVariants.{Join, Split, StartsWith}
-use Rattle.cs_meaning.specs.Joining.{list_of}
 
 pub one_of_two : (f : Function) (x : Tree) → has_two f ≡ true → value f x None ≡ null
 one_of_two Join x h = refl

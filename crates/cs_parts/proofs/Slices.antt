@@ -2,13 +2,13 @@
 use Rattle.std.proofs.Common.{◌≡◌, ℕ, zero, suc, ◌<◌, ◌≤◌, min, List, [], ◌∷◌, map, length, get_or, drop, take, refl, sym, ap, ◌∙◌, Bool, false, ℤ, arith, Some, None, slice_range, Vec, Global, Result, Ok, Err, IfOk}
 use Rattle.std.proofs.lemmas.List.{drop-map, length-map}
 use Rattle.std.specs.List.{take-map}
+use Rattle.cs_value.specs.Words.{list_of}
 use Rattle.cs_value.specs.Tree.{Tree, null}
 use Rattle.cs_value.specs.View.{tree}
 use Rattle.cs_value.specs.declared.val.Val.{Val}
 use Rattle.cs_value.specs.declared.val.Val as val
 use Rattle.cs_value.specs.declared.val.Fields.{Fields}
 use Rattle.cs_value.proofs.Views.{tree-List, tree-Obj, members-trees}
-use Rattle.cs_meaning.specs.Joining.{list_of}
 use Rattle.cs_meaning.specs.Positions.{clamped, counted, behind, elements_between, place_in, element, element_at, sliced}
 use Rattle.cs_parts.proofs.ListPlaces.{element_there, element_gone, placed_inside, between_places, range_of, clamped_inside}
 

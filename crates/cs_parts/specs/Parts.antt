@@ -1,8 +1,8 @@
 -- The value that an answer stands for, and that of an element.
 use Rattle.std.specs.Prelude.{map, Bool, true, false}
+use Rattle.cs_value.specs.Words.{list_of}
 use Rattle.cs_value.specs.Tree.{Tree}
 use Rattle.cs_value.specs.View.{tree}
-use Rattle.cs_meaning.specs.Joining.{list_of}
 use Rattle.cs_parts.specs.declared.answer.Got.{Got}
 use Rattle.cs_parts.specs.declared.answer.Got.TheVariants.{Part, Parts, Whole}
 use Rattle.cs_parts.specs.declared.item.Item.{Item}

@@ -1,12 +1,12 @@
 //! Calls, where the values of their arguments are known.
 ghost use Rattle.std.specs.Prelude.{◌≡◌, ◌∷◌, [], IfOk, IfSome, Some, None, length, map, option_map, pos};
+ghost use Rattle.cs_value.specs.Words.{list_of};
 ghost use Rattle.cs_value.specs.Tree.{integer};
 ghost use Rattle.cs_value.specs.View.{tree};
 ghost use Rattle.cs_func.specs.Functions.{has_two, value as value_of};
 ghost use Rattle.cs_syntax.specs.Expression.{arguments_of};
 ghost use Rattle.cs_syntax.specs.View.{arg as argument_of, expression};
 ghost use Rattle.cs_parts.specs.Callees.{meant, path_arguments};
-ghost use Rattle.cs_meaning.specs.Joining.{list_of};
 ghost use Rattle.cs_meaning.specs.Operators.{applied, callee, sole};
 ghost use Rattle.cs_parts.specs.Parts.{got};
 

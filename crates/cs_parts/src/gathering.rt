@@ -1,7 +1,8 @@
 //! Answers and their elements.
 ghost use Rattle.std.specs.Prelude.{◌≡◌, IfOk, map, option_map, IsTrue, OnOk, ◌++◌, ◌∷◌, []};
 ghost use Rattle.std.specs.List.{list_all};
-ghost use Rattle.cs_meaning.specs.Joining.{as_list, list_of, flat_elements};
+ghost use Rattle.cs_meaning.specs.Joining.{flat_elements};
+ghost use Rattle.cs_value.specs.Words.{as_list, list_of};
 ghost use Rattle.cs_value.specs.View.{tree};
 ghost use Rattle.cs_parts.specs.Parts.{got, item, is_lent};
 

@@ -5,9 +5,10 @@ ghost use Rattle.cs_meaning.specs.Joining.{form, kind_before, kind, way, entranc
 ghost use Rattle.cs_parts.specs.Kinds.{kinds_of, first_kind};
 
 use crate::brackets::{Bracket, bracket_of};
-use crate::{Entrance, Form, Kind, Shape, Way, push};
+use crate::{Entrance, Form, Kind, Shape, Way};
 use cs_syntax::{Expr, Step};
 use cs_value::NoMemory;
+use smallvec::SmallVec;
 use std::alloc::Global;
 
 /// What a step is to joining.
@@ -89,20 +90,25 @@ pub fn gives_array(base: &Expr) -> bool
     }
 }
 
+/// So many kinds of rests need no memory of their own.
+pub const SHORT: usize = 8;
+
 /// The kinds of all rests of a chain, the longest first: found once, from the right end.
 #[tactic(auto)]
-pub fn kinds(alloc: Global, steps: &[Step]) -> Result<Vec<Kind>, NoMemory>
+pub fn kinds(alloc: Global, steps: &[Step]) -> Result<SmallVec<Kind, SHORT>, NoMemory>
     ensures { IfOk result (λ ks. ks.items ≡ kinds_of (map step_of steps.now)) }
 {
-    let mut found = Vec::new(alloc);
+    let mut found = SmallVec::new(alloc);
     let mut kind = Kind::Empty;
     let mut at = steps.len();
     while at > 0 {
         at -= 1;
         kind = kind_before(form_of(&steps[at]), kind);
-        push(&mut found, kind)?;
+        if found.push(kind).is_err() {
+            return Err(NoMemory);
+        }
     }
-    found.reverse();
+    found.as_mut_slice().reverse();
     Ok(found)
 }
 

@@ -46,7 +46,7 @@ fn put_each(alloc: Global, pairs: &mut Fields, more: &Fields) -> Result<(), NoMe
     ensures { OnOk result (fields pairs.new ≡ merged (fields pairs.old) (fields more.now)) }
 {
     for (key, member) in more.pairs.iter() {
-        let name = Txt::copy_of(alloc, key.as_str())?;
+        let name = Txt::copy_of(alloc, key)?;
         drop(pairs.put(name, member.copy(alloc)?)?);
     }
     Ok(())

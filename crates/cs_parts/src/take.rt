@@ -1,10 +1,9 @@
 //! Readings of an answer, and the steps that take a part of it.
 ghost use Rattle.std.specs.Prelude.{◌≡◌, option_map};
-ghost use Rattle.cs_meaning.specs.Joining.{list_of, of_list};
 ghost use Rattle.cs_meaning.specs.Operators.{is_true, is_false, reference_of as reference_in_tree};
 ghost use Rattle.cs_func.specs.Lists.{is_null};
 ghost use Rattle.cs_plan.specs.Steps.{field as field_of};
-ghost use Rattle.cs_value.specs.Words.{is_object};
+ghost use Rattle.cs_value.specs.Words.{is_object, list_of, of_list};
 ghost use Rattle.cs_value.specs.View.{tree};
 ghost use Rattle.cs_parts.specs.Parts.{got};
 

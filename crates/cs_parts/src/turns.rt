@@ -1,7 +1,7 @@
 //! Small questions and makings of an evaluation.
 ghost use Rattle.std.specs.Prelude.{◌≡◌, ◌∷◌, [], IfOk, map, unwrap_or};
+ghost use Rattle.cs_value.specs.Words.{as_list};
 ghost use Rattle.cs_syntax.specs.View.{expression, step as step_of};
-ghost use Rattle.cs_meaning.specs.Joining.{as_list};
 ghost use Rattle.cs_meaning.specs.Looked.{is_everything};
 ghost use Rattle.cs_meaning.specs.Operators.{signed};
 ghost use Rattle.cs_parts.specs.Turns.{turn, is_end, is_over_way};

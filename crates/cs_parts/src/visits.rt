@@ -1,7 +1,7 @@
 //! Documents that an expression looks up.
 ghost use Rattle.std.specs.Prelude.{◌≡◌, ◌++◌, ◌∷◌, [], IfOk, OnOk, option_map};
+ghost use Rattle.cs_value.specs.Words.{list_of};
 ghost use Rattle.cs_view.specs.declared.key.Key.TheVariants.{All};
-ghost use Rattle.cs_meaning.specs.Joining.{list_of};
 ghost use Rattle.cs_meaning.specs.Looked.{id_looked};
 ghost use Rattle.cs_meaning.specs.Operators.{reference_of as reference_in_tree, sought};
 ghost use Rattle.cs_parts.specs.Parts.{got};

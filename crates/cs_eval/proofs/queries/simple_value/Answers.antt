@@ -7,7 +7,8 @@ use Rattle.cs_syntax.specs.View.{expression, step}
 use Rattle.cs_view.specs.Scopes.{scope}
 use Rattle.cs_view.specs.declared.key.Key.{Key}
 use Rattle.cs_parts.specs.Parts.{got}
-use Rattle.cs_eval.proofs.Simples.{simple_answer, simple_keys, simple_visits, on_ok}
+use Rattle.cs_eval.proofs.Simples.{simple_answer, simple_keys, simple_visits}
+use Rattle.cs_expr.proofs.Answered.{on_ok}
 use Rattle.cs_eval.proofs.queries.simple_value.Goals as goal
 
 pub returns-clause-value : goal.returns-clause-value

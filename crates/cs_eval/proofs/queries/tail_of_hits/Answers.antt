@@ -1,13 +1,13 @@
 use Rattle.std.proofs.Common.{◌≡◌, [], ap, subst, IfOk, map}
+use Rattle.cs_value.specs.Words.{list_of}
 use Rattle.cs_value.specs.Tree.{Tree}
 use Rattle.cs_value.specs.View.{fields}
 use Rattle.cs_syntax.specs.Expression.{steps_of}
 use Rattle.cs_syntax.specs.View.{step}
 use Rattle.cs_view.specs.Scopes.{scope}
-use Rattle.cs_meaning.specs.Joining.{list_of}
 use Rattle.cs_meaning.specs.Values.{pipes_value}
 use Rattle.cs_parts.specs.Parts.{got}
-use Rattle.cs_eval.specs.Starts.{enter_value}
+use Rattle.cs_expr.specs.Starts.{enter_value}
 use Rattle.cs_eval.proofs.queries.tail_of_hits.Goals as goal
 
 pub returns : goal.returns

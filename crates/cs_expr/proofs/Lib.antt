@@ -1,0 +1,9 @@
+pub mod Answered
+pub mod Calling
+pub mod Climbing
+pub mod Deciding
+pub mod Firsts
+pub mod Joins
+pub mod Nodes
+pub mod Sets
+pub mod Sorting

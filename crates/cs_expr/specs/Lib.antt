@@ -1,0 +1,5 @@
+pub mod Choosing
+pub mod Fits
+pub mod Starts
+pub mod Stops
+pub mod Weight

@@ -1,0 +1,11 @@
+//! The value of an expression over the documents of a source, and what finding it looks up.
+#![tactic(auto)]
+
+mod calls;
+mod chains;
+mod expressions;
+mod steps;
+
+pub use chains::{enter, pipes};
+pub use expressions::eval;
+pub use steps::{holds, keep_lent};

@@ -1,0 +1,415 @@
+//! One step of a chain: filters, projections and orders put an element in front of the scope.
+ghost use Rattle.std.specs.Prelude.{◌≡◌, ◌∷◌, ◌++◌, [], IfOk, OnOk, map, filter, flat_map, if◌then◌else◌};
+ghost use Rattle.cs_value.specs.Tree.{no_pairs};
+ghost use Rattle.cs_value.specs.Words.{is_object as is_object_tree};
+ghost use Rattle.cs_value.specs.View.{tree, fields};
+ghost use Rattle.cs_syntax.specs.Expression.{entries_of, keys_of, pipe};
+ghost use Rattle.cs_syntax.specs.View.{expression, step as step_of, entry as entry_of, key as order_key_of};
+ghost use Rattle.cs_view.specs.Scopes.{scope};
+ghost use Rattle.cs_plan.specs.Steps.{bracketed};
+ghost use Rattle.cs_meaning.specs.Operators.{is_true as is_true_tree};
+ghost use Rattle.cs_meaning.specs.Values.{value as value_of, entries_pairs, step_value, keys_values, projected, filtered, in_bracket};
+ghost use Rattle.cs_meaning.specs.Looked.{looked, entries_looked, step_looked, each_looked, bracket_looked, keys_looked};
+ghost use Rattle.cs_meaning.specs.Ordered.{ordered, ranked, directions};
+ghost use Rattle.cs_order.specs.First.{first_elements, all_kept};
+ghost use Rattle.cs_order.specs.Ranked.{ranked as ranked_of};
+ghost use Rattle.cs_parts.specs.Parts.{got, item};
+
+use crate::expressions::{is_met, object, settled};
+use cs_levels::list_in_order;
+use cs_order::{Ranked, admit, owned};
+use cs_parts::{
+    Bracket, Got, Item, Source, bracket_of, deref, directions, each, element, elements, field,
+    gather, is_object, push, settle, sliced,
+};
+use cs_syntax::{Entry, Expr, OrderKey, Step};
+use cs_value::{Fields, NoMemory, Txt, Val};
+use cs_view::{Record, Scope};
+use std::alloc::Global;
+
+// One step.
+#[cycle(eval)]
+#[tactic(auto, using(crate::proofs::Sets::step), unfolding(cs_syntax::specs::View::step, cs_syntax::specs::View::expression))]
+pub(crate) fn one_step<'s, S: Source<C>, C>(
+    alloc: Global,
+    step: &'s Step,
+    frame: &Scope<'s>,
+    params: &'s Fields,
+    source: &'s S,
+    value: Got<'s>,
+    keys: &mut Record,
+    count: &mut C,
+) -> Result<Got<'s>, NoMemory>
+    ensures value { IfOk result (λ g. got g ≡ step_value (S.docs source.now) (fields params.now)
+        (step_of step.now) (scope frame.now) (got value.entry)) }
+    ensures keys { OnOk result (keys.new ≡ keys.old ++ step_looked (S.docs source.now) (fields
+        params.now) (step_of step.now) (scope frame.now) (got value.entry)) }
+{
+    match step {
+        Step::Attr(name) => Ok(field(value, name.as_str())),
+        Step::Deref => deref(alloc, value, source, keys, count),
+        Step::Each => Ok(each(value)),
+        Step::Slice { from, to, closed } => sliced(alloc, value, from, to, *closed),
+        Step::Bracket(inner) => bracketed(alloc, inner, frame, params, source, value, keys, count),
+        Step::Project(list) => project(alloc, list, frame, params, source, value, keys, count),
+        Step::Pipe { name, keys: order } => ordered(
+            alloc, name, order, None, frame, params, source, value, keys, count,
+        ),
+    }
+}
+
+// An element, an attribute, or what a condition leaves.
+#[cycle(eval)]
+fn bracketed<'s, S: Source<C>, C>(
+    alloc: Global,
+    inner: &'s Expr,
+    frame: &Scope<'s>,
+    params: &'s Fields,
+    source: &'s S,
+    value: Got<'s>,
+    keys: &mut Record,
+    count: &mut C,
+) -> Result<Got<'s>, NoMemory>
+    ensures value { IfOk result (λ g. got g ≡ in_bracket (bracketed (expression inner.now)) (λ x.
+        is_true_tree (value_of (S.docs source.now) (fields params.now) (expression inner.now) (x ∷
+        (scope frame.now)))) (got value.entry)) }
+    ensures keys { OnOk result (keys.new ≡ keys.old ++ bracket_looked (bracketed (expression
+        inner.now)) (λ x. looked (S.docs source.now) (fields params.now) (expression inner.now) (x
+        ∷ (scope frame.now))) (got value.entry)) }
+{
+    match bracket_of(inner) {
+        Bracket::Position(place) => Ok(element(value, place)),
+        Bracket::Named(name) => Ok(field(value, name)),
+        Bracket::Condition => filter_list(alloc, inner, frame, params, source, value, keys, count),
+    }
+}
+
+// The elements that meet the condition, null of anything but a list.
+#[cycle(eval)]
+#[tactic(auto, using(cs_parts::proofs::Trees::tree_of_null))]
+fn filter_list<'s, S: Source<C>, C>(
+    alloc: Global,
+    inner: &'s Expr,
+    frame: &Scope<'s>,
+    params: &'s Fields,
+    source: &'s S,
+    value: Got<'s>,
+    keys: &mut Record,
+    count: &mut C,
+) -> Result<Got<'s>, NoMemory>
+    ensures value { IfOk result (λ g. got g ≡ filtered (λ x. is_true_tree (value_of (S.docs
+        source.now) (fields params.now) (expression inner.now) (x ∷ (scope frame.now)))) (got
+        value.entry)) }
+    ensures keys { OnOk result (keys.new ≡ keys.old ++ each_looked (λ x. looked (S.docs
+        source.now) (fields params.now) (expression inner.now) (x ∷ (scope frame.now))) (got
+        value.entry)) }
+{
+    let Some(items) = elements(alloc, value)? else {
+        return Ok(Got::Whole(Val::Null));
+    };
+    let kept = keep(alloc, inner, frame, params, source, items, keys, count)?;
+    gather(alloc, kept)
+}
+
+// The elements of which the condition is true.
+#[cycle(eval)]
+pub(crate) fn keep<'s, S: Source<C>, C>(
+    alloc: Global,
+    inner: &'s Expr,
+    frame: &Scope<'s>,
+    params: &'s Fields,
+    source: &'s S,
+    items: Vec<Item<'s>>,
+    keys: &mut Record,
+    count: &mut C,
+) -> Result<Vec<Item<'s>>, NoMemory>
+    ensures value { IfOk result (λ v. map item v.items ≡ filter (λ x. is_true_tree (value_of
+        (S.docs source.now) (fields params.now) (expression inner.now) (x ∷ (scope frame.now))))
+        (map item items.entry.items)) }
+    ensures keys { OnOk result (keys.new ≡ keys.old ++ flat_map (λ x. looked (S.docs source.now)
+        (fields params.now) (expression inner.now) (x ∷ (scope frame.now))) (map item
+        items.entry.items)) }
+{
+    let mut out = Vec::new(alloc);
+    for i in items {
+        if holds(alloc, inner, frame, params, source, i.val(), keys, count)? {
+            push(&mut out, i)?;
+        } else {
+            drop(i);
+        }
+    }
+    Ok(out)
+}
+
+/// The borrowed values of which the condition is true.
+#[cycle(eval)]
+pub fn keep_lent<'s, S: Source<C>, C>(
+    alloc: Global,
+    inner: &'s Expr,
+    frame: &Scope<'s>,
+    params: &'s Fields,
+    source: &'s S,
+    parts: Vec<&'s Val>,
+    keys: &mut Record,
+    count: &mut C,
+) -> Result<Vec<&'s Val>, NoMemory>
+    ensures value { IfOk result (λ v. map (λ r. tree r.now) v.items ≡ filter (λ x. is_true_tree
+        (value_of (S.docs source.now) (fields params.now) (expression inner.now)
+        (x ∷ (scope frame.now)))) (map (λ r. tree r.now) parts.entry.items)) }
+    ensures keys { OnOk result (keys.new ≡ keys.old ++ flat_map (λ x. looked (S.docs source.now)
+        (fields params.now) (expression inner.now) (x ∷ (scope frame.now)))
+        (map (λ r. tree r.now) parts.entry.items)) }
+{
+    let mut out = Vec::new(alloc);
+    for part in parts {
+        if holds(alloc, inner, frame, params, source, part, keys, count)? {
+            push(&mut out, part)?;
+        }
+    }
+    Ok(out)
+}
+
+/// Whether the condition is true in the scope of the value in front.
+#[cycle(eval)]
+pub fn holds<S: Source<C>, C>(
+    alloc: Global,
+    inner: &Expr,
+    frame: &Scope<'_>,
+    params: &Fields,
+    source: &S,
+    this: &Val,
+    keys: &mut Record,
+    count: &mut C,
+) -> Result<bool, NoMemory>
+    ensures value { IfOk result (λ b. b ≡ is_true_tree (value_of (S.docs source.now) (fields
+        params.now) (expression inner.now) (tree this.now ∷ (scope frame.now)))) }
+    ensures keys { OnOk result (keys.new ≡ keys.old ++ looked (S.docs source.now) (fields
+        params.now) (expression inner.now) (tree this.now ∷ (scope frame.now))) }
+{
+    let near = Scope {
+        this,
+        parent: Some(frame),
+    };
+    is_met(alloc, inner, &near, params, source, keys, count)
+}
+
+// The object of these entries in the scope of the object in front.
+#[cycle(eval)]
+#[tactic(auto, using(crate::proofs::Sets::projection))]
+fn project<'s, S: Source<C>, C>(
+    alloc: Global,
+    list: &[Entry],
+    frame: &Scope<'_>,
+    params: &Fields,
+    source: &S,
+    value: Got<'_>,
+    keys: &mut Record,
+    count: &mut C,
+) -> Result<Got<'s>, NoMemory>
+    ensures value { IfOk result (λ g. got g ≡ projected (entries_pairs (S.docs source.now) (fields
+        params.now) (entries_of (map entry_of list.now)) ((got value.entry) ∷ (scope frame.now))
+        no_pairs) (got value.entry)) }
+    ensures keys { OnOk result (keys.new ≡ keys.old ++ (if is_object_tree (got value.entry) then
+        entries_looked (S.docs source.now) (fields params.now) (entries_of (map entry_of
+        list.now)) ((got value.entry) ∷ (scope frame.now)) else [])) }
+{
+    let only = settle(alloc, value)?;
+    let this = only.val();
+    if !is_object(this) {
+        return Ok(Got::Whole(Val::Null));
+    }
+    let near = Scope {
+        this,
+        parent: Some(frame),
+    };
+    object(alloc, list, &near, params, source, keys, count)
+}
+
+// A piped call, whose first elements are enough where there is a limit.
+#[cycle(eval)]
+#[tactic(auto, using(crate::proofs::Sets::order))]
+pub(crate) fn ordered<'s, S: Source<C>, C>(
+    alloc: Global,
+    name: &Txt,
+    order: &'s [OrderKey],
+    limit: Option<usize>,
+    frame: &Scope<'s>,
+    params: &'s Fields,
+    source: &'s S,
+    value: Got<'s>,
+    keys: &mut Record,
+    count: &mut C,
+) -> Result<Got<'s>, NoMemory>
+    ensures value { IfOk result (λ g. got g ≡ first_elements limit (step_value
+        (S.docs source.now) (fields params.now) (pipe name.now (keys_of (map order_key_of
+        order.now))) (scope frame.now) (got value.entry))) }
+    ensures keys { OnOk result (keys.new ≡ keys.old ++ step_looked (S.docs source.now) (fields
+        params.now) (pipe name.now (keys_of (map order_key_of order.now))) (scope frame.now) (got
+        value.entry)) }
+{
+    if name.as_str() == "order" {
+        sorted_list(
+            alloc, order, limit, frame, params, source, value, keys, count,
+        )
+    } else {
+        drop(value);
+        Ok(Got::Whole(Val::Null))
+    }
+}
+
+// A list in the order of its elements' keys, which are found once each.
+#[cycle(eval)]
+#[tactic(auto, using(cs_parts::proofs::Trees::tree_of_null, cs_order::proofs::Enters::first_null))]
+fn sorted_list<'s, S: Source<C>, C>(
+    alloc: Global,
+    order: &'s [OrderKey],
+    limit: Option<usize>,
+    frame: &Scope<'s>,
+    params: &'s Fields,
+    source: &'s S,
+    value: Got<'s>,
+    keys: &mut Record,
+    count: &mut C,
+) -> Result<Got<'s>, NoMemory>
+    ensures value { IfOk result (λ g. got g ≡ first_elements limit (ordered (directions (keys_of
+        (map order_key_of order.now))) (λ x. keys_values (S.docs source.now) (fields params.now)
+        (keys_of (map order_key_of order.now)) (x ∷ (scope frame.now))) (got value.entry))) }
+    ensures keys { OnOk result (keys.new ≡ keys.old ++ each_looked (λ x. keys_looked (S.docs
+        source.now) (fields params.now) (keys_of (map order_key_of order.now)) (x ∷ (scope
+        frame.now))) (got value.entry)) }
+{
+    let Some(unsorted) = elements(alloc, value)? else {
+        return Ok(Got::Whole(Val::Null));
+    };
+    let directions = directions(alloc, order)?;
+    let ranked = rank_each(
+        alloc,
+        &*order,
+        &directions,
+        limit,
+        &*frame,
+        &*params,
+        &*source,
+        unsorted,
+        keys,
+        count,
+    )?;
+    list_in_order(alloc, ranked, &directions, limit)
+}
+
+// Each element beside the values of its keys, or those alone that are among the first.
+#[cycle(eval)]
+#[tactic(auto, using(cs_order::proofs::Kept::can_keep_none))]
+fn rank_each<'k, 's: 'k, S: Source<C>, C>(
+    alloc: Global,
+    order: &'k [OrderKey],
+    directions: &[bool],
+    limit: Option<usize>,
+    frame: &'k Scope<'k>,
+    params: &'k Fields,
+    source: &'k S,
+    items: Vec<Item<'s>>,
+    keys: &mut Record,
+    count: &mut C,
+) -> Result<Vec<Ranked<'k, 's>>, NoMemory>
+    ensures value { IfOk result (λ v. map ranked_of v.items ≡ all_kept directions.now limit []
+        (map (ranked (λ x. keys_values (S.docs source.now) (fields params.now) (keys_of (map
+        order_key_of order.now)) (x ∷ (scope frame.now)))) (map item items.entry.items))) }
+    ensures keys { OnOk result (keys.new ≡ keys.old ++ flat_map (λ x. keys_looked (S.docs
+        source.now) (fields params.now) (keys_of (map order_key_of order.now)) (x ∷ (scope
+        frame.now))) (map item items.entry.items)) }
+{
+    let mut kept = Vec::new(alloc);
+    for i in items {
+        let one = rank_one(alloc, order, frame, params, source, i, keys, count)?;
+        admit(&mut kept, one, directions, limit)?;
+    }
+    Ok(kept)
+}
+
+// An element beside the values of its keys. Those of an element that was made are copied, since
+// the element is moved.
+#[cycle(eval)]
+fn rank_one<'k, 's: 'k, S: Source<C>, C>(
+    alloc: Global,
+    order: &'k [OrderKey],
+    frame: &'k Scope<'k>,
+    params: &'k Fields,
+    source: &'k S,
+    one: Item<'s>,
+    keys: &mut Record,
+    count: &mut C,
+) -> Result<Ranked<'k, 's>, NoMemory>
+    ensures value { IfOk result (λ r. ranked_of r ≡ ranked (λ x. keys_values (S.docs source.now)
+        (fields params.now) (keys_of (map order_key_of order.now)) (x ∷ (scope frame.now)))
+        (item one.entry)) }
+    ensures keys { OnOk result (keys.new ≡ keys.old ++ keys_looked (S.docs source.now) (fields
+        params.now) (keys_of (map order_key_of order.now)) (item one.entry ∷ (scope frame.now))) }
+{
+    match one {
+        Item::Lent(val) => Ok(Ranked {
+            by: rank_keys(alloc, order, frame, params, source, val, keys, count)?,
+            item: Item::Lent(val),
+        }),
+        Item::Made(val) => {
+            let by = rank_keys(
+                alloc, &*order, &*frame, &*params, &*source, &val, keys, count,
+            )?;
+            Ok(Ranked {
+                by: owned(alloc, by)?,
+                item: Item::Made(val),
+            })
+        }
+    }
+}
+
+// The values of the keys in the scope of the element in front.
+#[cycle(eval)]
+fn rank_keys<'k, S: Source<C>, C>(
+    alloc: Global,
+    order: &'k [OrderKey],
+    frame: &'k Scope<'k>,
+    params: &'k Fields,
+    source: &'k S,
+    this: &'k Val,
+    keys: &mut Record,
+    count: &mut C,
+) -> Result<Vec<Item<'k>>, NoMemory>
+    ensures value { IfOk result (λ v. map item v.items ≡ keys_values (S.docs source.now) (fields
+        params.now) (keys_of (map order_key_of order.now)) (tree this.now ∷ (scope frame.now))) }
+    ensures keys { OnOk result (keys.new ≡ keys.old ++ keys_looked (S.docs source.now) (fields
+        params.now) (keys_of (map order_key_of order.now)) (tree this.now ∷ (scope frame.now))) }
+{
+    let near = Scope {
+        this,
+        parent: Some(frame),
+    };
+    order_keys(alloc, order, &near, params, source, keys, count)
+}
+
+// The values of an order's keys.
+#[cycle(eval)]
+#[tactic(auto, using(cs_syntax::proofs::Views::key_seen))]
+fn order_keys<'k, S: Source<C>, C>(
+    alloc: Global,
+    order: &'k [OrderKey],
+    frame: &Scope<'k>,
+    params: &'k Fields,
+    source: &'k S,
+    keys: &mut Record,
+    count: &mut C,
+) -> Result<Vec<Item<'k>>, NoMemory>
+    ensures value { IfOk result (λ v. map item v.items ≡ keys_values (S.docs source.now) (fields
+        params.now) (keys_of (map order_key_of order.now)) (scope frame.now)) }
+    ensures keys { OnOk result (keys.new ≡ keys.old ++ keys_looked (S.docs source.now) (fields
+        params.now) (keys_of (map order_key_of order.now)) (scope frame.now)) }
+{
+    let mut out = Vec::new(alloc);
+    let mut behind = order;
+    while let Some((first, later)) = behind.split_first() {
+        let key = settled(alloc, &first.key, frame, params, source, keys, count)?;
+        push(&mut out, key)?;
+        behind = later;
+    }
+    Ok(out)
+}
