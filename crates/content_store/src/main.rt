@@ -3,6 +3,17 @@
 
 ghost use Rattle.std.specs.Prelude.{◌≡◌, ◌<◌};
 
+#[cfg(test)]
+mod load_tests;
+#[cfg(test)]
+mod query_tests;
+#[cfg(test)]
+mod record_tests;
+#[cfg(test)]
+mod tests;
+#[cfg(test)]
+mod words_tests;
+
 use cs_io::{FileLibrary, OutSink};
 use cs_run::{Status, run};
 use cs_value::{NoMemory, Steps, Txt};
@@ -34,8 +45,7 @@ fn counted<L: Ledger, R: Files + Input + Print>(
 }
 
 // The status where the words can't be had: the machine doesn't hand them over, or there is no
-// memory
-// to copy them.
+// memory to copy them.
 fn status_without_words(error: &io::Error) -> u8 {
     match error.kind() {
         io::ErrorKind::OutOfMemory => Status::NoMemory as u8,

@@ -1,5 +1,5 @@
 -- The transaction of one create of an object that refers to nothing, as far as it is built.
-use Rattle.std.proofs.Common.{◌≡◌, ◌∙◌, ap, sym, refl, subst, ℕ, List, [], ◌∷◌, length, is_some, Bool, true, false, ◌&&◌, not, cond, ◌==◌, Option, None, Some, Ok, Err, option_and_then, bytes_eq, codes}
+use Rattle.std.proofs.Common.{◌≡◌, ◌∙◌, ap, sym, refl, subst, ℕ, List, [], ◌∷◌, length, is_some, Bool, true, false, ◌&&◌, not, cond, ◌==◌, Option, None, Some, Ok, Err, option_map, option_and_then, bytes_eq, codes}
 use Rattle.std.proofs.lemmas.Slice.Eq.{bytes_eq-Decides}
 use Rattle.cs_value.specs.Tree.{Tree, null, boolean, integer, text, list, object, no_trees, more_trees, Pairs, no_pairs, more_pairs}
 use Rattle.cs_value.specs.Pairs.{attribute}
@@ -7,10 +7,9 @@ use Rattle.cs_value.specs.Words.{as_text}
 use Rattle.cs_view.specs.Document.{is_body, is_shallow, id_of, passes, has_type}
 use Rattle.cs_value.specs.Id.{is_id}
 use Rattle.cs_view.specs.Changes.{changes_between}
-use Rattle.cs_view.specs.Dataset.{stands, with_doc}
+use Rattle.cs_view.specs.Dataset.{At, stands, with_doc}
 use Rattle.cs_view.proofs.Booleans.{and-left, and-right}
 use Rattle.cs_docs.specs.Limits.{most_documents}
-use Rattle.cs_docs.specs.Places.{HasId, IsGapFor}
 use Rattle.cs_docs.specs.Verdict.{fits, verdict}
 use Rattle.cs_reply.specs.Reply.{committed, create as created}
 use Rattle.cs_reply.specs.Refusal.{not_built, tx_used, exists}
@@ -27,7 +26,6 @@ use Rattle.cs_run.specs.Built.{can_create, built_row}
 use Rattle.cs_run.specs.Command.{names_ref, is_creatable, sole_attribute, sole_pair, sole_member, created_by}
 use Rattle.cs_run.specs.Core.{seen}
 use Rattle.cs_run.specs.Does.{AreAlike, one_create, creating}
-use Rattle.cs_run.proofs.Placing.{gap_absent}
 use Rattle.cs_run.proofs.Replying.{alike}
 
 -- ---- what is created
@@ -79,33 +77,37 @@ holds : (n : ℕ) (moment : List ℕ) (docs : List Tree) (t : Tree)
 holds n moment docs t c free fit = rw (has_id t c.body, c.body, c.shallow, free, fit) refl
 
 -- ---- its row
-stands_there : (id : List ℕ) (docs : List Tree) (place : ℕ)
-    → HasId id docs place
-    → stands id docs ≡ true
-stands_there id docs place h = ap is_some h.1
+-- what was looked up stands where something was found
+pub found_stands : {A : Type 0} (f : A → Tree) (o : Option A) (id : List ℕ) (docs : List Tree) → option_map f o ≡ At id docs → stands id docs ≡ is_some o
+found_stands {A = A} f o id docs h = ap is_some (sym h) ∙ by_option o where
+  by_option : (r : Option A) → is_some (option_map f r) ≡ is_some r
+  by_option None = refl
+  by_option (Some x) = refl
 
-stands_not : (id : List ℕ) (docs : List Tree) (place : ℕ)
-    → IsGapFor id docs place
-    → stands id docs ≡ false
-stands_not id docs place h = ap is_some (gap_absent id docs place h)
+-- nothing stands where none does
+pub none_there : (id : List ℕ) (docs : List Tree) → stands id docs ≡ false → At id docs ≡ None
+none_there id docs h = by_option (At id docs) h where
+  by_option : (o : Option Tree) → is_some o ≡ false → o ≡ None
+  by_option None e = refl
+  by_option (Some d) e = cc
 
-module _ (ds : List Tree) (is_used : List ℕ → Bool) (n : ℕ) (t : Tree) (id tx : List ℕ) (place : ℕ)
+module _ (ds : List Tree) (is_used : List ℕ → Bool) (n : ℕ) (t : Tree) (id tx : List ℕ)
     (c : Creatable t) (is_tx : tx ≡ tx_of_line n) (e : id ≡ id_of t) where
   abbrev s : State
   s = seen ds is_used
 
   -- a document of the id stands already
-  there : HasId id ds place → stands (id_of t) ds ≡ true
-  there h = subst (λ i. stands i ds ≡ true) e (stands_there id ds place h)
+  there : stands id ds ≡ true → stands (id_of t) ds ≡ true
+  there h = subst (λ i. stands i ds ≡ true) e h
 
-  pub taken_used : HasId id ds place
+  pub taken_used : stands id ds ≡ true
       → is_used tx ≡ true
       → AreAlike n (creating s n t) (refuse s (tx_used tx))
   taken_used h used =
       let is : is_used (tx_of_line n) ≡ true = subst (λ x. is_used x ≡ true) is_tx used in
       alike n (creating s n t) (refuse s (tx_used tx)) (rw (there h, is, is_tx) refl)
 
-  pub taken_exists : HasId id ds place
+  pub taken_exists : stands id ds ≡ true
       → is_used tx ≡ false
       → AreAlike n (creating s n t) (refuse s (exists 0 id))
   taken_exists h used =
@@ -113,16 +115,16 @@ module _ (ds : List Tree) (is_used : List ℕ → Bool) (n : ℕ) (t : Tree) (id
       rw (there h, is, fails n first_moment ds t c (there h), e)
       (record { same_state = refl; same_text = refl })
 
-  -- none does, and it would stand at the place
-  free : IsGapFor id ds place → stands (id_of t) ds ≡ false
-  free h = subst (λ i. stands i ds ≡ false) e (stands_not id ds place h)
+  -- none does
+  free : stands id ds ≡ false → stands (id_of t) ds ≡ false
+  free h = subst (λ i. stands i ds ≡ false) e h
 
-  pub free_full : IsGapFor id ds place
+  pub free_full : stands id ds ≡ false
       → (length ds == most_documents) ≡ true
       → AreAlike n (creating s n t) (refuse s not_built)
   free_full h full = alike n (creating s n t) (refuse s not_built) (rw (free h, full) refl)
 
-  pub free_used : IsGapFor id ds place
+  pub free_used : stands id ds ≡ false
       → (length ds == most_documents) ≡ false
       → is_used tx ≡ true
       → AreAlike n (creating s n t) (refuse s (tx_used tx))
@@ -130,7 +132,7 @@ module _ (ds : List Tree) (is_used : List ℕ → Bool) (n : ℕ) (t : Tree) (id
       let is : is_used (tx_of_line n) ≡ true = subst (λ x. is_used x ≡ true) is_tx used in
       alike n (creating s n t) (refuse s (tx_used tx)) (rw (free h, room, is, is_tx) refl)
 
-  pub free_installed : IsGapFor id ds place
+  pub free_installed : stands id ds ≡ false
       → (length ds == most_documents) ≡ false
       → is_used tx ≡ false
       → verdict (with_doc (entered (tx_of_line n) first_moment t) ds) ≡ fits

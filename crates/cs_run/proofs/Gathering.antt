@@ -1,8 +1,7 @@
 -- A map of documents by their ids beside the dataset that it is.
-use Rattle.std.proofs.Common.{◌≡◌, ◌∙◌, ap, sym, refl, subst, ℕ, suc, zero, ◌+◌, ◌-◌, ◌<◌, ◌≤◌, List, [], ◌∷◌, ◌++◌, length, map, Bool, true, false, ◌&&◌, Ordering, cond, Some, is_some, Result, Ok, Err, Less, Equal, Greater, String, Global, string_bytes, string_cmp, nat_cmp, is_eq, arith}
+use Rattle.std.proofs.Common.{◌≡◌, ◌∙◌, ap, sym, refl, subst, ℕ, suc, zero, ◌+◌, ◌-◌, ◌<◌, ◌≤◌, List, [], ◌∷◌, ◌++◌, length, map, Bool, true, false, ◌&&◌, Ordering, cond, Some, is_some, Result, Ok, Err, Less, Equal, Greater, is_eq, arith}
 use Rattle.std.proofs.lemmas.Cmp.{nat_list_cmp_total}
 use Rattle.std.proofs.lemmas.List.{map-append}
-use Rattle.std.specs.Cmp.Lexicographic.{slice_cmp}
 use Rattle.std.specs.FinMap.Entries.{below_all}
 use Rattle.std.specs.List.{slice_get}
 use Rattle.std.specs.Map.{lookup, values_of}
@@ -15,48 +14,47 @@ use Rattle.cs_view.specs.Dataset.{id_cmp, keyed, At, stands, with_doc, ascending
 use Rattle.cs_view.specs.View.{doc}
 use Rattle.cs_view.specs.declared.doc.Doc.{Doc}
 use Rattle.cs_docs.specs.Limits.{most_documents}
-use Rattle.cs_docs.specs.Places.{IsGapFor}
-use Rattle.cs_run.specs.Gathered.{gathered, AreById}
+use Rattle.cs_run.specs.Gathered.{gathered, AreById, IsGapFor}
 use Rattle.cs_run.proofs.Placing.{same, ascending-with_doc}
 
 abbrev pub Entry : Type 0
-Entry = String Global × Doc
+Entry = List ℕ × Doc
 
-first_by_id : (e : Entry) (es : List Entry) → AreById (e ∷ es) → string_bytes e.0 ≡ id_of (doc e.1)
+first_by_id : (e : Entry) (es : List Entry) → AreById (e ∷ es) → e.0 ≡ id_of (doc e.1)
 first_by_id e es h = cc
 
 later_by_id : (e : Entry) (es : List Entry) → AreById (e ∷ es) → AreById es
 later_by_id e es h = cc
 
-by_id : (k : String Global) (d : Doc) (es : List Entry) → string_bytes k ≡ id_of (doc d) → AreById es → AreById ((k, d) ∷ es)
+by_id : (k : List ℕ) (d : Doc) (es : List Entry) → k ≡ id_of (doc d) → AreById es → AreById ((k, d) ∷ es)
 by_id k d es is h = cc
 
 -- what the map's look-up by an id finds
-pub found_id : (id : List ℕ) (es : List Entry) → AreById es → is_some (lookup (is_at (λ k. slice_cmp nat_cmp id (string_bytes k))) es) ≡ stands id (gathered es)
+pub found_id : (id : List ℕ) (es : List Entry) → AreById es → is_some (lookup (is_at (id_cmp id)) es) ≡ stands id (gathered es)
 found_id id [] h = refl
 found_id id (e ∷ es) h =
-    elim (is_eq (id_cmp id (string_bytes e.0))) as (λ b. is_some (cond b (Some e.1) (lookup (is_at (λ k. slice_cmp nat_cmp id (string_bytes k))) es)) ≡ is_some (cond b (Some (doc e.1)) (At id (gathered es)))) [
+    elim (is_eq (id_cmp id e.0)) as (λ b. is_some (cond b (Some e.1) (lookup (is_at (id_cmp id)) es)) ≡ is_some (cond b (Some (doc e.1)) (At id (gathered es)))) [
       | true ↦ refl
       | false ↦ found_id id es (later_by_id e es h)
     ] ∙ ap (λ k. is_some (cond (is_eq (id_cmp id k)) (Some (doc e.1)) (At id (gathered es)))) (first_by_id e es h)
 
-pub gathered-insert : (es : List Entry) (k : String Global) (d : Doc) → string_bytes k ≡ id_of (doc d) → AreById es → gathered (insert_entry string_cmp es k d) ≡ with_doc (doc d) (gathered es)
+pub gathered-insert : (es : List Entry) (k : List ℕ) (d : Doc) → k ≡ id_of (doc d) → AreById es → gathered (insert_entry id_cmp es k d) ≡ with_doc (doc d) (gathered es)
 gathered-insert [] k d is h = refl
 gathered-insert (e ∷ es) k d is h =
-    let order : string_cmp k e.0 ≡ id_cmp (id_of (doc d)) (id_of (doc e.1)) = ap (λ a. id_cmp a (string_bytes e.0)) is ∙ ap (id_cmp (id_of (doc d))) (first_by_id e es h) in
-    rw order (elim (id_cmp (id_of (doc d)) (id_of (doc e.1))) as (λ o. gathered (match_ordering o ((k, d) ∷ e ∷ es) ((e.0, d) ∷ es) (e ∷ insert_entry string_cmp es k d)) ≡ match_ordering o (doc d ∷ gathered (e ∷ es)) (doc d ∷ gathered es) (doc e.1 ∷ with_doc (doc d) (gathered es))) [
+    let order : id_cmp k e.0 ≡ id_cmp (id_of (doc d)) (id_of (doc e.1)) = ap (λ a. id_cmp a e.0) is ∙ ap (id_cmp (id_of (doc d))) (first_by_id e es h) in
+    rw order (elim (id_cmp (id_of (doc d)) (id_of (doc e.1))) as (λ o. gathered (match_ordering o ((k, d) ∷ e ∷ es) ((e.0, d) ∷ es) (e ∷ insert_entry id_cmp es k d)) ≡ match_ordering o (doc d ∷ gathered (e ∷ es)) (doc d ∷ gathered es) (doc e.1 ∷ with_doc (doc d) (gathered es))) [
       | Less ↦ refl
       | Equal ↦ refl
       | Greater ↦ ap (λ r. doc e.1 ∷ r) (gathered-insert es k d is (later_by_id e es h))
     ])
 
-pub by_id-insert : (es : List Entry) (k : String Global) (d : Doc) → string_bytes k ≡ id_of (doc d) → AreById es → AreById (insert_entry string_cmp es k d)
+pub by_id-insert : (es : List Entry) (k : List ℕ) (d : Doc) → k ≡ id_of (doc d) → AreById es → AreById (insert_entry id_cmp es k d)
 by_id-insert [] k d is h = by_id k d [] is refl
 by_id-insert (e ∷ es) k d is h =
-    elim (string_cmp k e.0) as (λ o. string_cmp k e.0 ≡ o → AreById (match_ordering o ((k, d) ∷ e ∷ es) ((e.0, d) ∷ es) (e ∷ insert_entry string_cmp es k d))) [
+    elim (id_cmp k e.0) as (λ o. id_cmp k e.0 ≡ o → AreById (match_ordering o ((k, d) ∷ e ∷ es) ((e.0, d) ∷ es) (e ∷ insert_entry id_cmp es k d))) [
       | Less ↦ λ o. by_id k d (e ∷ es) is h
-      | Equal ↦ λ o. by_id e.0 d es (sym (same (string_bytes k) (string_bytes e.0) o) ∙ is) (later_by_id e es h)
-      | Greater ↦ λ o. by_id e.0 e.1 (insert_entry string_cmp es k d) (first_by_id e es h) (by_id-insert es k d is (later_by_id e es h))
+      | Equal ↦ λ o. by_id e.0 d es (sym (same k e.0 o) ∙ is) (later_by_id e es h)
+      | Greater ↦ λ o. by_id e.0 e.1 (insert_entry id_cmp es k d) (first_by_id e es h) (by_id-insert es k d is (later_by_id e es h))
     ] refl
 
 pub gathered_length : (es : List Entry) → length (gathered es) ≡ length es

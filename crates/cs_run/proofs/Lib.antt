@@ -13,4 +13,5 @@ pub mod Replying
 pub mod Saying
 pub mod Soles
 pub mod Stamping
+pub mod Verdicts
 pub mod Wording

@@ -6,7 +6,7 @@ use Rattle.std.specs.FinMap.Entries.{by_order, put, is_sorted, is_sorted-put}
 use Rattle.cs_value.specs.Tree.{Tree}
 use Rattle.cs_view.specs.Document.{id_of}
 use Rattle.cs_view.specs.Dataset.{id_cmp, keyed, At, ascending, with_doc}
-use Rattle.cs_docs.specs.Places.{IsGapFor}
+use Rattle.cs_run.specs.Gathered.{IsGapFor}
 
 pub same : (a b : List ℕ) → id_cmp a b ≡ Equal → a ≡ b
 same a b h = slice_cmp-IsAntisymmetric nat_cmp-IsAntisymmetric a b h

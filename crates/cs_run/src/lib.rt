@@ -7,26 +7,16 @@ mod command;
 mod data_file;
 mod fault;
 mod import;
-#[cfg(test)]
-mod load_tests;
 mod loading;
 mod machine;
 mod mutate;
 mod query;
-#[cfg(test)]
-mod query_tests;
-#[cfg(test)]
-mod record_tests;
 mod refs;
 mod refusal;
 mod stamp;
 mod status;
-#[cfg(test)]
-mod tests;
 mod top;
 mod words;
-#[cfg(test)]
-mod words_tests;
 
 pub use cs_docs::Docs;
 pub use data_file::load;

@@ -1,13 +1,14 @@
 // The documents of a data file, line by line.
-ghost use Rattle.std.specs.Prelude.{◌≡◌, ◌<◌, List, [], true, length, cond, Some, None, option_map, MatchResult, OnOk, IfOk, IfErr};
+ghost use Rattle.std.specs.Prelude.{◌≡◌, ◌<◌, ◌≤◌, List, [], true, length, map, cond, Some, None, option_map, MatchResult, OnOk, IfOk, IfErr};
 ghost use Rattle.cs_value.specs.Tree.{Tree};
 ghost use Rattle.cs_value.specs.View.{tree};
 ghost use Rattle.cs_json.specs.Reading.{outcome, value};
+ghost use Rattle.cs_view.specs.Dataset.{ascending};
 ghost use Rattle.cs_view.specs.Document.{is_body, is_shallow, id_of, deepest_document};
+ghost use Rattle.cs_view.specs.View.{doc};
 ghost use Rattle.cs_machine.specs.DataFile.{a_document, imported, of_body, of_outcome, said};
 ghost use Rattle.cs_run.specs.Gathered.{held, HasWay, IsKept};
 ghost use Rattle.cs_run.specs.Refusals.{IsRefused};
-ghost use Rattle.cs_docs.specs.Shelves.{documents};
 ghost use Rattle.cs_docs.specs.Limits.{most_documents};
 
 mod collected;
@@ -17,7 +18,7 @@ use crate::fault::DataCause;
 use crate::import::imported;
 use crate::refusal::{LineRefusal, json_refusal};
 use collected::Collected;
-use cs_docs::{MOST_DOCUMENTS, Shelf};
+use cs_docs::MOST_DOCUMENTS;
 use cs_json::ValueReader;
 use cs_value::{NoMemory, Txt, Val};
 use cs_view::{DEEPEST_DOCUMENT, Doc, is_body};
@@ -131,14 +132,18 @@ impl Loading {
     }
 
     /// The documents, moved and not copied.
-    pub(crate) fn into_shelf(self) -> Result<Shelf, NoMemory>
-        ensures { IfOk result (λ shelf. documents shelf ≡ so_far self) }
+    pub(crate) fn into_docs(self) -> Result<Vec<Doc>, NoMemory>
+        ensures these { IfOk result (λ documents. map doc documents.items ≡ so_far self) }
+        ensures ascends { IfOk result
+            (λ documents. ascending (map doc documents.items) ≡ true) }
+        ensures within { IfOk result
+            (λ documents. length (map doc documents.items) ≤ most_documents) }
     {
         let Loading {
             alloc,
             documents,
             ..
         } = self;
-        documents.into_shelf(alloc)
+        documents.into_docs(alloc)
     }
 }

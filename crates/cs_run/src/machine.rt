@@ -99,12 +99,9 @@ impl Core {
     }
 
     /// One step of the machine: the replies to the line, as the plain machine gives them, and its
-    /// state
-    /// afterwards. A blank line has no replies and takes no memory. After [`CoreFault::NoMemory`]
-    /// the
-    /// machine is as before. The line is one that [`cs_io::Lines`] gives, so it has at most
-    /// 16,777,216
-    /// bytes.
+    /// state afterwards. A blank line has no replies and takes no memory. After
+    /// [`CoreFault::NoMemory`] the machine is as before. The line is one that [`cs_io::Lines`]
+    /// gives, so it has at most 16,777,216 bytes.
     pub fn step<L: Ledger>(
         &mut self,
         line: &Line,

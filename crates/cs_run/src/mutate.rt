@@ -5,10 +5,9 @@ ghost use Rattle.std.specs.BTreeSet.{contains_text};
 ghost use Rattle.cs_value.specs.Tree.{Tree};
 ghost use Rattle.cs_value.specs.View.{tree};
 ghost use Rattle.cs_view.specs.Document.{id_of};
-ghost use Rattle.cs_view.specs.Dataset.{with_doc};
+ghost use Rattle.cs_view.specs.Dataset.{stands, with_doc};
 ghost use Rattle.cs_view.specs.View.{doc};
 ghost use Rattle.cs_wire.specs.Commands.{mutate};
-ghost use Rattle.cs_docs.specs.Places.{IsGapFor};
 ghost use Rattle.cs_docs.specs.Store.{docs as docs_of};
 ghost use Rattle.cs_docs.specs.Limits.{most_documents};
 ghost use Rattle.cs_docs.specs.References.{clean};
@@ -25,6 +24,7 @@ ghost use Rattle.cs_machine.specs.State.{with_docs, with_used};
 use crate::command::created_by;
 use crate::machine::Core;
 use crate::stamp::{FIRST_MOMENT, entered, tx_of_line};
+use cs_docs::MOST_DOCUMENTS;
 use cs_docs::laws::{fits_within_and_clean, without_references_it_stays_clean};
 use cs_reply::{Operation, Outcome, Refusal, Reply};
 use cs_value::{NoMemory, Val};
@@ -57,18 +57,18 @@ impl Core {
         let tx = tx_of_line(self.alloc, line)?;
         let document = entered(self.alloc, body, tx.as_str(), FIRST_MOMENT)?;
         match self.prepare(&document, tx.as_str()) {
-            Ok(place) => {
+            Ok(()) => {
                 self.write_created(&document, tx.as_str(), line, out)?;
-                self.commit(place, document, tx.as_str())
+                self.commit(document, tx.as_str())
             }
             Err(refusal) => self.refuse(refusal, line, out),
         }
     }
 
-    // The place of the document that a transaction creates, or why it is refused.
-    fn prepare<'d>(&self, document: &'d Doc, tx: &'d str) -> Result<usize, Refusal<'d>>
+    // Why the transaction that creates the document is refused. `Ok` exactly where it is not.
+    fn prepare<'d>(&self, document: &'d Doc, tx: &'d str) -> Result<(), Refusal<'d>>
         ensures { MatchResult result
-            (λ place. IsGapFor (id_of (doc document.entry.now)) (docs_of self.now.docs) place
+            (λ _. (stands (id_of (doc document.entry.now)) (docs_of self.now.docs) ≡ false)
             × (length (docs_of self.now.docs) < most_documents)
             × (contains_text self.now.used tx.entry.now ≡ false))
             (λ r. (n : ℕ) (t : Tree) → tx.entry.now ≡ tx_of_line n
@@ -76,25 +76,21 @@ impl Core {
             → is_creatable t ≡ true
             → AreAlike n (creating (state self.now) n t) (refuse (state self.now) (refusal r))) }
     {
-        let id = document.id().as_str();
         let is_used = self.used.contains(tx);
-        match self.docs.shelf().search(id) {
-            Ok(_) => {
-                if is_used {
-                    return Err(Refusal::TxUsed { id: tx });
-                }
-                Err(Refusal::Exists { mutation: 0, id })
+        if self.docs.get(document.id()).is_some() {
+            if is_used {
+                return Err(Refusal::TxUsed { id: tx });
             }
-            Err(place) => {
-                if self.docs.shelf().is_full() {
-                    return Err(Refusal::NotBuilt);
-                }
-                if is_used {
-                    return Err(Refusal::TxUsed { id: tx });
-                }
-                Ok(place)
-            }
+            let id = document.id().as_str();
+            return Err(Refusal::Exists { mutation: 0, id });
         }
+        if self.docs.len() as usize == MOST_DOCUMENTS {
+            return Err(Refusal::NotBuilt);
+        }
+        if is_used {
+            return Err(Refusal::TxUsed { id: tx });
+        }
+        Ok(())
     }
 
     // The reply to the transaction.
@@ -119,9 +115,9 @@ impl Core {
         .write(self.alloc, line, out)
     }
 
-    // Installs the document at its place, and notes the transaction's id: both, or neither.
-    fn commit(&mut self, place: usize, document: Doc, tx: &str) -> Result<(), NoMemory>
-        requires gap { IsGapFor (id_of (doc document)) (docs_of self.old.docs) place }
+    // Installs the document, and notes the transaction's id: both, or neither.
+    fn commit(&mut self, document: Doc, tx: &str) -> Result<(), NoMemory>
+        requires fresh { stands (id_of (doc document)) (docs_of self.old.docs) ≡ false }
         requires room { length (docs_of self.old.docs) < most_documents }
         requires clean { clean (with_doc (doc document) (docs_of self.old.docs)) ≡ true }
         requires unused { contains_text self.old.used tx.now ≡ false }
@@ -131,7 +127,7 @@ impl Core {
     {
         let id = String::from_str(self.alloc, tx)?;
         self.used.insert(id)?;
-        let installed = self.docs.insert(place, document);
+        let installed = self.docs.add(document);
         if installed.is_err() {
             self.used.remove(tx);
         }

@@ -26,6 +26,7 @@ use cs_io::{Library, Line, LineFault, Lines, Sink, write_whole};
 use cs_reply::{Cause, Source, Stop};
 use cs_value::{Steps, Txt};
 use std::alloc::Global;
+use std::mem;
 use std::sync::ledger::Ledger;
 
 /// What is written where the words are refused.
@@ -204,7 +205,12 @@ fn run_script<Lb: Library, K: Sink, L: Ledger>(
                     return status;
                 }
             }
-            Ok(None) => return Status::Done,
+            Ok(None) => {
+                // A run is the last thing that the process does, so the documents are not taken
+                // apart one by one.
+                mem::forget(core);
+                return Status::Done;
+            }
             Err(LineFault::Read) => return Status::ReadFault,
             Err(LineFault::TooLong { line }) => {
                 let source = Source::Script;
@@ -220,16 +226,13 @@ fn run_script<Lb: Library, K: Sink, L: Ledger>(
 }
 
 /// Runs the program: the words of its command line, of which the first is the program's name, over
-/// the
-/// library's files, with what is due written to the sink. `steps` counts the visits of documents.
+/// the library's files, with what is due written to the sink. `steps` counts the visits of
+/// documents.
 ///
 /// The words are `--data NAME` and `--script NAME`, each at most once; the script's name is `-`
-/// where
-/// none is given. The data file is loaded before the script is opened, and each line of the script
-/// is
-/// read, run and answered before the next one is asked for. [`Status`] says how the run ended and
-/// what
-/// was written.
+/// where none is given. The data file is loaded before the script is opened, and each line of the
+/// script is read, run and answered before the next one is asked for. [`Status`] says how the run
+/// ended and what was written.
 pub fn run<Lb: Library, K: Sink, L: Ledger>(
     alloc: Global,
     words: &[Txt],
@@ -258,7 +261,11 @@ pub fn run<Lb: Library, K: Sink, L: Ledger>(
     };
     let docs = match load_named(alloc, library, read.data) {
         Ok(docs) => docs,
-        Err(fault) => return refuse_data(alloc, sink, &fault),
+        Err(fault) => {
+            let status = refuse_data(alloc, sink, &fault);
+            drop(fault);
+            return status;
+        }
     };
     match library.open(read.script) {
         Ok(number) => run_script(alloc, number, docs, library, sink, steps),

@@ -1,13 +1,11 @@
 // The documents of a data file so far, in the order of their ids.
-ghost use Rattle.std.specs.Prelude.{◌≡◌, ◌<◌, [], true, length, map, IfOk, IsTrue, OnErr, OnOk};
+ghost use Rattle.std.specs.Prelude.{◌≡◌, ◌<◌, ◌≤◌, [], true, length, map, IfOk, IsTrue, OnErr, OnOk};
 ghost use Rattle.cs_docs.specs.Limits.{most_documents};
-ghost use Rattle.cs_docs.specs.Places.{IsGapFor};
 ghost use Rattle.cs_view.specs.Dataset.{ascending, stands, with_doc};
 ghost use Rattle.cs_view.specs.Document.{id_of};
 ghost use Rattle.cs_view.specs.View.{doc};
-ghost use Rattle.cs_run.specs.Gathered.{gathered, AreById};
+ghost use Rattle.cs_run.specs.Gathered.{gathered, AreById, IsGapFor};
 
-use cs_docs::Shelf;
 use cs_value::{NoMemory, Txt};
 use cs_view::Doc;
 use std::alloc::Global;
@@ -21,7 +19,7 @@ pub(super) enum Collected {
     /// They came in this order.
     InOrder(Vec<Doc>),
     /// They did not: each stands at its id.
-    ById(BTreeMap<String, Doc>),
+    ById(BTreeMap<Txt, Doc>),
 }
 
 // Whether the id is above those of the documents, of which the last has the greatest.
@@ -38,7 +36,7 @@ fn is_above(id: &str, documents: &[Doc]) -> bool
 // Puts the document in the place of its id.
 fn put_by_id(
     alloc: Global,
-    documents: &mut BTreeMap<String, Doc>,
+    documents: &mut BTreeMap<Txt, Doc>,
     document: Doc,
 ) -> Result<(), NoMemory>
     requires by_id { AreById documents.old.entries }
@@ -48,12 +46,12 @@ fn put_by_id(
     ensures kept { OnErr result (documents.new.entries ≡ documents.old.entries) }
 {
     let id = Txt::copy_of(alloc, document.id().as_str())?;
-    drop(documents.insert(id.into_string(), document)?);
+    drop(documents.insert(id, document)?);
     Ok(())
 }
 
 // The same documents, each at its id.
-fn by_id(alloc: Global, documents: Vec<Doc>) -> Result<BTreeMap<String, Doc>, NoMemory>
+fn by_id(alloc: Global, documents: Vec<Doc>) -> Result<BTreeMap<Txt, Doc>, NoMemory>
     requires { ascending (map doc documents.items) ≡ true }
     ensures by_id { IfOk result (λ m. AreById m.entries) }
     ensures same { IfOk result (λ m. gathered m.entries ≡ map doc documents.items) }
@@ -66,7 +64,7 @@ fn by_id(alloc: Global, documents: Vec<Doc>) -> Result<BTreeMap<String, Doc>, No
 }
 
 // The documents of a map, in its order.
-fn in_order(alloc: Global, documents: BTreeMap<String, Doc>) -> Result<Vec<Doc>, NoMemory>
+fn in_order(alloc: Global, documents: BTreeMap<Txt, Doc>) -> Result<Vec<Doc>, NoMemory>
     ensures { IfOk result (λ v. map doc v.items ≡ gathered documents.entries) }
 {
     let mut docs = Vec::with_capacity(alloc, documents.len())?;
@@ -77,7 +75,6 @@ fn in_order(alloc: Global, documents: BTreeMap<String, Doc>) -> Result<Vec<Doc>,
 }
 
 impl Collected {
-    ghost use Rattle.cs_docs.specs.Shelves.{documents};
     ghost use Rattle.cs_run.specs.Gathered.{held, IsKept, HasWay};
 
     /// No documents.
@@ -125,7 +122,7 @@ impl Collected {
     {
         match self {
             Collected::InOrder(_) => false,
-            Collected::ById(documents) => documents.contains_key(id.as_str()),
+            Collected::ById(documents) => documents.contains_key(id),
         }
     }
 
@@ -144,13 +141,17 @@ impl Collected {
     }
 
     /// The documents, moved and not copied.
-    pub(super) fn into_shelf(self, alloc: Global) -> Result<Shelf, NoMemory>
+    pub(super) fn into_docs(self, alloc: Global) -> Result<Vec<Doc>, NoMemory>
         requires { IsKept self }
-        ensures { IfOk result (λ shelf. documents shelf ≡ held self) }
+        ensures these { IfOk result (λ documents. map doc documents.items ≡ held self) }
+        ensures ascends { IfOk result
+            (λ documents. ascending (map doc documents.items) ≡ true) }
+        ensures within { IfOk result
+            (λ documents. length (map doc documents.items) ≤ most_documents) }
     {
         match self {
-            Collected::InOrder(documents) => Ok(Shelf::of(documents)),
-            Collected::ById(documents) => Ok(Shelf::of(in_order(alloc, documents)?)),
+            Collected::InOrder(documents) => Ok(documents),
+            Collected::ById(documents) => in_order(alloc, documents),
         }
     }
 }

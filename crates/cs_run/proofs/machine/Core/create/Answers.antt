@@ -2,6 +2,7 @@ use Rattle.std.proofs.Common.{◌≡◌, ◌==◌, ◌∙◌, ◌≤◌, ap, sym
 use Rattle.std.proofs.lemmas.Bool.Decides.{nat_tests}
 use Rattle.std.proofs.lemmas.Result.{on_ok_weaker}
 use Rattle.std.specs.BTreeSet.{contains_text}
+use Rattle.cs_docs.specs.Kept.{is_dataset_of}
 use Rattle.cs_docs.specs.Limits.{most_documents}
 use Rattle.cs_docs.specs.References.{clean, strong}
 use Rattle.cs_docs.specs.Store.{docs}
@@ -13,14 +14,15 @@ use Rattle.cs_view.specs.Changes.{changes_between}
 use Rattle.cs_view.specs.Dataset.{At, with_doc}
 use Rattle.cs_view.specs.Document.{id_of}
 use Rattle.cs_view.specs.View.{doc}
+use Rattle.cs_view.proofs.Booleans.{and-left}
 use Rattle.cs_txn.specs.Body.{tx_of_line}
 use Rattle.cs_txn.specs.Install.{entered}
 use Rattle.cs_machine.specs.State.{first_moment, with_docs, with_used}
 use Rattle.cs_run.specs.Core.{state}
 use Rattle.cs_run.proofs.Changing.{one-change, length-with_doc}
-use Rattle.cs_run.proofs.Creating.{creatable, free_installed}
+use Rattle.cs_run.proofs.Creating.{creatable, none_there, free_installed}
 use Rattle.cs_run.proofs.Freed.{none-strong, free-entered}
-use Rattle.cs_run.proofs.Placing.{ascending-with_doc, gap_absent}
+use Rattle.cs_run.proofs.Placing.{ascending-with_doc}
 use Rattle.cs_run.proofs.Replying.{says, does_as, does_alike}
 use Rattle.cs_run.proofs.Stamping.{entered_body_id}
 use Rattle.cs_run.proofs.machine.Core.create.Goals as goal
@@ -39,7 +41,7 @@ commit-requires c =
     ∙ none-strong (entered c.as_str.result.now first_moment (tree c.args.body))
     (free-entered c.as_str.result.now first_moment (tree c.args.body) t.body t.free) in
     record {
-      gap = c.in-Ok.ensures.0;
+      fresh = c.in-Ok.ensures.0;
       room = c.in-Ok.ensures.1;
       clean = c.without_references_it_stays_clean.ensures now d c.args.self.now.docs.clean free;
       unused = subst (λ x. contains_text c.args.self.now.used x ≡ false)
@@ -60,7 +62,7 @@ returns-in-Ok-clause-does c =
     ∙ ap (λ x. entered x first_moment t) is_tx in
     let id : id_of d ≡ id_of t = ap id_of made ∙ entered_body_id tx first_moment t can.body in
     let place = c.in-Ok.ensures in
-    let gap = place.0 in
+    let fresh = place.0 in
     let unused : contains_text c.args.self.now.used tx ≡ false =
     subst (λ x. contains_text c.args.self.now.used x ≡ false) (c.as_str-2.ensures ∙ c.in_ok-tx.ensures) place.2 in
     let space = place.1 in
@@ -73,8 +75,8 @@ returns-in-Ok-clause-does c =
     let fit : verdict (with_doc (entered tx first_moment t) now) ≡ fits =
     subst (λ x. verdict (with_doc x now) ≡ fits) made
     ((c.fits_within_and_clean.ensures (with_doc d now)).1 (count, whole)) in
-    let absent : At (id_of d) now ≡ None = gap_absent (id_of d) now c.in-Ok.place gap in
-    let ordered = c.args.self.now.docs.shelf.ascends in
+    let absent : At (id_of d) now ≡ None = none_there (id_of d) now fresh in
+    let ordered = and-left _ _ (is_dataset_of c.args.self.now.docs) in
     let are = c.changes_are_computed.ensures now (with_doc d now) ordered (ascending-with_doc d now ordered) in
     let single : changes_between now (with_doc d now) ≡ (id_of d, (None, Some d)) ∷ [] =
     one-change now d absent are c.changes_are_one_list.ensures in
@@ -84,8 +86,8 @@ returns-in-Ok-clause-does c =
     let written = subst (λ x. Appended c.args.out.now.items c.write_created.new.out.items
     (reply_tree n (committed x ((id_of d, create) ∷ []))))
     (c.as_str-in-Ok.ensures ∙ c.in_ok-tx.ensures) c.in_ok-write_created-in-Ok.ensures in
-    let step = free_installed now (contains_text c.args.self.now.used) n t (id_of d) tx c.in-Ok.place
-    can refl id gap room unused fit one in
+    let step = free_installed now (contains_text c.args.self.now.used) n t (id_of d) tx
+    can refl id fresh room unused fit one in
     on_ok_weaker c.commit.result (λ e.
     let is : state c.commit.new.self
     ≡ with_used tx (with_docs (with_doc (entered tx first_moment t) now) s) = e

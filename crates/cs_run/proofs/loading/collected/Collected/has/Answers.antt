@@ -1,7 +1,4 @@
-use Rattle.std.proofs.Common.{◌∙◌, ap, sym, subst, map, length, is_some, string_bytes, nat_cmp}
-use Rattle.std.specs.Cmp.Lexicographic.{slice_cmp}
-use Rattle.std.specs.Map.{lookup}
-use Rattle.std.specs.BTreeMap.{is_at}
+use Rattle.std.proofs.Common.{◌∙◌, ap, sym, subst, map, length, is_some}
 use Rattle.cs_view.specs.Dataset.{stands}
 use Rattle.cs_view.specs.View.{doc}
 use Rattle.cs_run.specs.Gathered.{held, IsKept, HasWay}
@@ -19,5 +16,5 @@ pub returns-in-ById : goal.returns-in-ById
 returns-in-ById c =
     let es = c.in-ById.documents.entries in
     let kept = subst IsKept c.in-ById.is c.requires.kept in
-    c.contains_key.ensures ∙ ap (λ i. is_some (lookup (is_at (λ k. slice_cmp nat_cmp i (string_bytes k))) es)) c.as_str.ensures ∙ found_id c.args.id.now es kept.0
+    c.contains_key.ensures ∙ found_id c.args.id.now es kept.0
     ∙ ap (λ s. stands c.args.id.now (held s)) (sym c.in-ById.is)

@@ -1,6 +1,6 @@
 //! Queries through the top call: each with its data file, and what is written.
-use crate::Status;
 use crate::tests::{Outside, PLAIN, ends};
+use cs_run::Status;
 use std::test::Fail;
 
 const QUERIES: [(&str, &str, &str); 21] = [
@@ -111,7 +111,7 @@ const QUERIES: [(&str, &str, &str); 21] = [
 fn answers_queries(rt: HostRuntime) -> Result<(), Fail> {
     for (data, script, wanted) in &QUERIES {
         let outside = Outside {
-            words: &["--data", "data"],
+            words: "content_store --data data",
             data: data.as_bytes(),
             script: script.as_bytes(),
             ..PLAIN

@@ -1,0 +1,108 @@
+//! Command lines, and what each asks for.
+use crate::tests::{Outside, PLAIN, played};
+use cs_run::Status;
+use std::alloc::Global;
+use std::test::Fail;
+
+// Lines that ask for the files that there are, or for none.
+const RUN: [&str; 8] = [
+    "content_store",
+    "content_store --script=-",
+    "content_store --script -",
+    "content_store --",
+    "content_store --data data",
+    "content_store --data=data --",
+    "content_store --data=data --script=-",
+    "content_store --script data",
+];
+
+// Lines that ask for a file that there is not.
+const ASK_FOR_MORE: [&str; 15] = [
+    "content_store --data x",
+    "content_store --data=x",
+    "content_store --script s",
+    "content_store --data x --script y",
+    "content_store --script y --data=x",
+    "content_store --data=a=b",
+    "content_store --data=--script",
+    "content_store --data=-x",
+    "content_store --data -",
+    "content_store --data=",
+    "content_store --data ",
+    "content_store --script=",
+    "content_store --script  --data x",
+    "content_store --data x --",
+    "content_store --data help",
+];
+
+const REFUSED: [&str; 35] = [
+    "content_store --data= ",
+    "content_store --data x --data y",
+    "content_store --data=x --data=x",
+    "content_store --script a --script=b",
+    "content_store --script - --script -",
+    "content_store --data",
+    "content_store --data x --script",
+    "content_store --data --script",
+    "content_store --data --script x",
+    "content_store --data -x",
+    "content_store --data -- x",
+    "content_store --gen 5",
+    "content_store --gen=5",
+    "content_store --data x --gen 5",
+    "content_store --other",
+    "content_store --other=x",
+    "content_store x",
+    "content_store -",
+    "content_store ",
+    "content_store --data x y",
+    "content_store -- x",
+    "content_store -- --data x",
+    "content_store -d",
+    "content_store -d x",
+    "content_store -dx",
+    "content_store --dat x",
+    "content_store --dat=x",
+    "content_store --Data x",
+    "content_store ---data x",
+    "content_store --=x",
+    "content_store --help",
+    "content_store -h",
+    "content_store --version",
+    "content_store -V",
+    "content_store help",
+];
+
+// How the run of a line ends, where there are a data file `data` and a script `-`.
+fn ended(alloc: Global, line: &str) -> Result<Status, Fail> {
+    let outside = Outside {
+        words: line,
+        ..PLAIN
+    };
+    let (status, _) = played(alloc, outside)?;
+    Ok(status)
+}
+
+#[test]
+fn runs_what_there_is(rt: HostRuntime) -> Result<(), Fail> {
+    for line in &RUN {
+        assert_eq!(rt; ended(rt.alloc(), line)?, Status::Done, "of {line}");
+    }
+    Ok(())
+}
+
+#[test]
+fn asks_for_what_is_not_there(rt: HostRuntime) -> Result<(), Fail> {
+    for line in &ASK_FOR_MORE {
+        assert_eq!(rt; ended(rt.alloc(), line)?, Status::OpenFault, "of {line}");
+    }
+    Ok(())
+}
+
+#[test]
+fn refuses_other_words(rt: HostRuntime) -> Result<(), Fail> {
+    for line in &REFUSED {
+        assert_eq!(rt; ended(rt.alloc(), line)?, Status::Usage, "of {line}");
+    }
+    Ok(())
+}
