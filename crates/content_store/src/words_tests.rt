@@ -5,7 +5,7 @@ use std::alloc::Global;
 use std::test::Fail;
 
 // Lines that ask for the files that there are, or for none.
-const RUN: [&str; 8] = [
+const RUN: [&str; 9] = [
     "content_store",
     "content_store --script=-",
     "content_store --script -",
@@ -14,10 +14,11 @@ const RUN: [&str; 8] = [
     "content_store --data=data --",
     "content_store --data=data --script=-",
     "content_store --script data",
+    "content_store --data -",
 ];
 
 // Lines that ask for a file that there is not.
-const ASK_FOR_MORE: [&str; 15] = [
+const ASK_FOR_MORE: [&str; 14] = [
     "content_store --data x",
     "content_store --data=x",
     "content_store --script s",
@@ -26,7 +27,6 @@ const ASK_FOR_MORE: [&str; 15] = [
     "content_store --data=a=b",
     "content_store --data=--script",
     "content_store --data=-x",
-    "content_store --data -",
     "content_store --data=",
     "content_store --data ",
     "content_store --script=",
