@@ -1,7 +1,7 @@
 -- What a patch leaves, operation by operation, and the document that it comes to.
 use Rattle.std.proofs.Common.{◌≡◌, ℕ, ℤ, ◌+ℤ◌, ◌-ℤ◌, List, [], ◌∷◌, map, reverse, Bool, true, false, cond, Option, Some, None, refl, subst}
 use Rattle.std.specs.List.{list_all}
-use Rattle.cs_value.specs.Tree.{Tree, text}
+use Rattle.cs_value.specs.Tree.{Tree}
 use Rattle.cs_view.specs.Document.{is_shallow}
 use Rattle.cs_view.proofs.Booleans.{and-left, and-right}
 use Rattle.cs_jsonmatch.specs.Path.{Step, Path}

@@ -3,4 +3,5 @@ pub mod Laws
 pub mod Operations
 pub mod Patched
 pub mod Targets
+pub mod View
 pub mod Within

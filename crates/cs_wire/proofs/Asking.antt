@@ -26,12 +26,12 @@ keep Equal k l m t ps rest e ne same = other (slice_cmp nat_cmp k m) refl
         let one : k ≡ l = equal_texts k m h ∙ sym (equal_texts l m e) in
         absurd (true≢false (sym ((bytes_eq-Decides k l).1 one) ∙ ne))
 
-find-without : (k l : List ℕ) (ps : Pairs) → bytes_eq k l ≡ false → find k (without l ps) ≡ find k ps
+pub find-without : (k l : List ℕ) (ps : Pairs) → bytes_eq k l ≡ false → find k (without l ps) ≡ find k ps
 find-without k l no_pairs ne = refl
 find-without k l (more_pairs m t ps) ne = keep (slice_cmp nat_cmp l m) k l m t ps (without l ps) refl ne (find-without k l ps ne)
 
 -- what stands at a name is what stood there before another name was taken out
-find-left : (k l : List ℕ) (ps left : Pairs) → bytes_eq k l ≡ false → left ≡ without l ps → find k left ≡ find k ps
+pub find-left : (k l : List ℕ) (ps left : Pairs) → bytes_eq k l ≡ false → left ≡ without l ps → find k left ≡ find k ps
 find-left k l ps left ne is = ap (find k) is ∙ find-without k l ps ne
 
 -- the parts that are taken one after the other are those of the whole object

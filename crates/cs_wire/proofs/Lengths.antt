@@ -1,5 +1,5 @@
 -- The texts of a command stand in the value that it is.
-use Rattle.std.proofs.Common.{◌≡◌, refl, sym, ap, subst, ℕ, max, ◌≤◌, arith, List, [], ◌∷◌, length, Bool, true, false, if◌then◌else◌, Option, Some, None, option_map, option_and_then, codes, Ordering, Less, Equal, Greater, nat_cmp}
+use Rattle.std.proofs.Common.{◌≡◌, refl, ap, subst, ℕ, max, ◌≤◌, arith, List, [], ◌∷◌, length, Bool, true, false, if◌then◌else◌, Option, Some, None, option_and_then, codes, Less, Equal, Greater, nat_cmp}
 use Rattle.std.specs.Cmp.Lexicographic.{slice_cmp}
 use Rattle.std.specs.Ordering.{match_ordering}
 use Rattle.cs_value.specs.Id.{is_id}

@@ -1,4 +1,6 @@
 pub mod Asking
+mod Calendar
+mod Digits
+pub mod Holding
 mod Lengths
 pub mod OneRow
-pub mod Holding

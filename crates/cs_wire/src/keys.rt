@@ -1,4 +1,4 @@
-// Which keys an object has.
+//! Which keys an object has.
 ghost use Rattle.std.specs.Prelude.{◌≡◌, ◌++◌, map, is_some};
 ghost use Rattle.std.specs.List.{list_all};
 ghost use Rattle.cs_value.specs.Pairs.{find};
@@ -50,9 +50,9 @@ fn has_only(object: &Fields, must: &[&str], may: &[&str]) -> bool
     true
 }
 
-/// Whether the object has every key that it must have, and no key but these and those that it may
-/// have.
-pub(crate) fn has_keys(object: &Fields, must: &[&str], may: &[&str]) -> bool
+/// Whether the object has every key of `must`, and no key but these and those of `may`. Nothing is
+/// asked of the values.
+pub fn has_keys(object: &Fields, must: &[&str], may: &[&str]) -> bool
     ensures { result ≡ has_keys (map (λ k. k.now) must.entry.now)
         (map (λ k. k.now) may.entry.now) (fields object.now) }
 {

@@ -1,5 +1,4 @@
-// The typed parts of a command's object, each moved out of it. `None` comes exactly where the key
-// has a value of another type.
+//! The typed parts of a command's object, each moved out of it.
 ghost use Rattle.std.specs.Prelude.{◌≡◌, codes, option_map};
 ghost use Rattle.cs_value.specs.Pairs.{without};
 ghost use Rattle.cs_value.specs.View.{fields};
@@ -8,7 +7,9 @@ ghost use Rattle.cs_wire.specs.Commands.{text_in, name_in, params_in, flag_in};
 use cs_value::{Fields, Txt, Val, is_id};
 use std::alloc::Global;
 
-pub(crate) fn take_text(object: &mut Fields, key: &str) -> Option<Txt>
+/// The text under the key, moved out of the object. `None` exactly where the key is absent or has a
+/// value of another type, which is then dropped.
+pub fn take_text(object: &mut Fields, key: &str) -> Option<Txt>
     ensures taken { result ≡ text_in key.now (fields object.old) }
     ensures left { fields object.new ≡ without key.now (fields object.old) }
 {
@@ -18,7 +19,7 @@ pub(crate) fn take_text(object: &mut Fields, key: &str) -> Option<Txt>
     }
 }
 
-/// The name under the key: a text of the form of an id.
+// The name under the key: a text of the form of an id. `None` where there is none.
 pub(crate) fn take_name(object: &mut Fields, key: &str) -> Option<Txt>
     ensures taken { result ≡ name_in key.now (fields object.old) }
     ensures left { fields object.new ≡ without key.now (fields object.old) }
@@ -31,8 +32,10 @@ pub(crate) fn take_name(object: &mut Fields, key: &str) -> Option<Txt>
     }
 }
 
-/// The parameters: an object, or one without attributes where the key is absent.
-pub(crate) fn take_params(alloc: Global, object: &mut Fields) -> Option<Fields>
+/// The parameters, the object under `params`, moved out of the object, or an object without
+/// attributes where the key is absent: that takes no memory. `None` exactly where `params` has a
+/// value of another type, which is then dropped.
+pub fn take_params(alloc: Global, object: &mut Fields) -> Option<Fields>
     ensures taken { option_map fields result ≡ params_in (fields object.old) }
     ensures left { fields object.new ≡ without (codes "params") (fields object.old) }
 {
@@ -43,7 +46,7 @@ pub(crate) fn take_params(alloc: Global, object: &mut Fields) -> Option<Fields>
     }
 }
 
-/// The boolean under the key, or `false` where the key is absent.
+// The boolean under the key, or `false` where the key is absent; `None` where it has another type.
 pub(crate) fn take_flag(object: &mut Fields, key: &str) -> Option<bool>
     ensures taken { result ≡ flag_in key.now (fields object.old) }
     ensures left { fields object.new ≡ without key.now (fields object.old) }

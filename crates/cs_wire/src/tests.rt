@@ -132,3 +132,30 @@ fn reads_commands(rt: HostRuntime) -> Result<(), Fail> {
     }
     Ok(())
 }
+
+#[test]
+fn knows_moments(rt: HostRuntime) -> Result<(), Fail> {
+    let cases = [
+        ("1970-01-01T00:00:00Z", true),
+        ("9999-12-31T23:59:59Z", true),
+        ("0000-02-29T00:00:00Z", true),
+        ("2024-02-29T12:00:00Z", true),
+        ("2024-02-30T12:00:00Z", false),
+        ("2023-02-29T12:00:00Z", false),
+        ("1900-02-29T12:00:00Z", false),
+        ("2024-04-31T00:00:00Z", false),
+        ("2024-00-10T00:00:00Z", false),
+        ("2024-13-01T00:00:00Z", false),
+        ("2024-04-01T24:00:00Z", false),
+        ("2024-04-01T00:60:00Z", false),
+        ("2016-12-31T23:59:60Z", false),
+        ("2024-04-01T00:00:00.5Z", false),
+        ("2024-04-01 00:00:00Z", false),
+        ("2024-04-01T00:00:0aZ", false),
+        ("", false),
+    ];
+    for (given, wanted) in cases {
+        assert_eq!(rt; is_moment(given), wanted, "of {given}");
+    }
+    Ok(())
+}

@@ -1,0 +1,4 @@
+mod Lengths
+mod Lists
+mod Taken
+mod Takes

@@ -1,0 +1,5 @@
+pub mod Body
+pub mod Laws
+pub mod Taken
+pub mod Transaction
+pub mod View
