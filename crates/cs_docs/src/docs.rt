@@ -1,15 +1,17 @@
 //! The documents of the store.
-ghost use Rattle.std.specs.Prelude.{◌≡◌, ◌≤◌, ◌<◌, length, [], true, false, option_map, map, Some, IsSome, IfOk, OnOk, OnErr};
+ghost use Rattle.std.specs.Prelude.{◌≡◌, ◌≤◌, ◌<◌, All, length, [], true, false, option_map, map, Some, IsSome, IfSome, IfOk, OnOk, OnErr};
 ghost use Rattle.cs_view.specs.Dataset.{At, stands, with_doc};
 ghost use Rattle.cs_view.specs.Document.{id_of};
+ghost use Rattle.cs_view.specs.Keys.{Sel};
 ghost use Rattle.cs_view.specs.View.{doc};
+ghost use Rattle.cs_shelf.specs.Places.{most_places};
 ghost use Rattle.cs_shelf.specs.View.{documents};
 ghost use Rattle.cs_docs.specs.Limits.{most_documents};
 ghost use Rattle.cs_docs.specs.References.{clean};
 
 use cs_shelf::Shelf;
 use cs_value::{NoMemory, Txt};
-use cs_view::Doc;
+use cs_view::{Doc, Key};
 use std::alloc::Global;
 
 /// The most documents that the store holds: this project's profile.
@@ -47,7 +49,10 @@ impl Docs {
     /// The place of the document with the id, which it keeps while it stands. `None` exactly where
     /// there is none.
     pub fn place(&self, id: &Txt) -> Option<u32>
-        ensures { result ≡ place_at self.now id.now }
+        ensures place { result ≡ place_at self.now id.now }
+        ensures found { option_map (doc_at self.now) result
+            ≡ option_map Some (At id.now (docs self.now)) }
+        ensures low { IfSome result (λ p. p < most_places) }
     {
         self.shelf.place(id)
     }
@@ -66,6 +71,17 @@ impl Docs {
             (λ places. map (doc_at self.now) places.items ≡ map Some (docs self.now)) }
     {
         self.shelf.places(alloc)
+    }
+
+    /// The places of the documents that have the key, in the order of their ids. Each document is
+    /// tested. `NoMemory` where the allocator has no room for them.
+    pub fn select(&self, alloc: Global, key: &Key) -> Result<Vec<u32>, NoMemory>
+        ensures selected { IfOk result
+            (λ places. map (doc_at self.now) places.items
+            ≡ map Some (Sel key.now (docs self.now))) }
+        ensures low { IfOk result (λ places. All (λ p. p < most_places) places.items) }
+    {
+        self.shelf.select(alloc, key)
     }
 
     /// The document at a place where one stands.

@@ -22,9 +22,8 @@ impl<L: Ledger> View<L> for Docs {
         Docs::len(self)
     }
 
-    // Each document is tested.
     fn select(&self, alloc: Global, key: &Key) -> Result<Vec<u32>, NoMemory> {
-        self.shelf.select(alloc, key)
+        Docs::select(self, alloc, key)
     }
 
     fn at(&self, place: u32, steps: &mut Steps<L>) -> &Doc {
@@ -33,7 +32,7 @@ impl<L: Ledger> View<L> for Docs {
     }
 
     fn by_id(&self, id: &Txt) -> Option<u32> {
-        self.shelf.by_id(id)
+        Docs::place(self, id)
     }
 }
 

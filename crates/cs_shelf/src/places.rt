@@ -1,7 +1,8 @@
 //! Looking documents up.
-ghost use Rattle.std.specs.Prelude.{◌≡◌, length, [], Some, option_map, IsSome};
+ghost use Rattle.std.specs.Prelude.{◌≡◌, ◌<◌, ◌≤◌, length, [], Some, option_map, IsSome, IfSome};
 ghost use Rattle.cs_view.specs.Dataset.{At};
 ghost use Rattle.cs_view.specs.View.{doc};
+ghost use Rattle.cs_shelf.specs.Places.{most_places};
 ghost use Rattle.cs_shelf.specs.View.{documents, doc_at, place_at};
 
 use crate::shelf::Shelf;
@@ -28,25 +29,22 @@ impl Shelf {
         self.alloc
     }
 
-    /// How many documents there are.
+    /// How many documents there are: at most one for each place.
     pub fn count(&self) -> usize
-        ensures { result ≡ length (documents self.now) }
+        ensures count { result ≡ length (documents self.now) }
+        ensures few { result ≤ most_places }
     {
         self.order.len()
     }
 
-    /// The place of the document with the id: `None` exactly where there is none.
-    #[tactic(auto, using(crate::proofs::Standing::place_of))]
-    pub fn by_id(&self, id: &Txt) -> Option<u32>
-        ensures { option_map (doc_at self.now) result
-            ≡ option_map Some (At id.now (documents self.now)) }
-    {
-        self.order.get(id).copied()
-    }
-
-    /// The place of the document with the id, which it keeps while it stands.
+    /// The place of the document with the id, which it keeps while it stands: `None` exactly where
+    /// there is none.
+    #[tactic(auto, using(crate::proofs::Standing::place_of, crate::proofs::Few::low_place))]
     pub fn place(&self, id: &Txt) -> Option<u32>
-        ensures { result ≡ place_at self.now id.now }
+        ensures place { result ≡ place_at self.now id.now }
+        ensures found { option_map (doc_at self.now) result
+            ≡ option_map Some (At id.now (documents self.now)) }
+        ensures low { IfSome result (λ p. p < most_places) }
     {
         self.order.get(id).copied()
     }
@@ -73,7 +71,7 @@ impl Shelf {
     pub fn get(&self, id: &Txt) -> Option<&Doc>
         ensures { option_map (λ d. doc d.now) result ≡ At id.now (documents self.now) }
     {
-        match self.by_id(id) {
+        match self.place(id) {
             Some(place) => Some(self.at(place)),
             None => None,
         }

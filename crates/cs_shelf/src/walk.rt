@@ -1,6 +1,7 @@
 //! Walks over all documents, in the order of their ids.
-ghost use Rattle.std.specs.Prelude.{◌≡◌, map, Some, IfOk, option_map};
+ghost use Rattle.std.specs.Prelude.{◌≡◌, ◌<◌, All, map, Some, IfOk, option_map};
 ghost use Rattle.cs_view.specs.Keys.{Sel};
+ghost use Rattle.cs_shelf.specs.Places.{most_places};
 ghost use Rattle.cs_shelf.specs.View.{documents, doc_at};
 ghost use Rattle.cs_shelf.specs.Referring.{next_referrer, above};
 
@@ -36,9 +37,10 @@ impl Shelf {
     /// The places of the documents that have the key, in the order of their ids. Each document is
     /// tested. `NoMemory` where the allocator has no room for them.
     pub fn select(&self, alloc: Global, key: &Key) -> Result<Vec<u32>, NoMemory>
-        ensures { IfOk result
+        ensures selected { IfOk result
             (λ places. map (doc_at self.now) places.items
             ≡ map Some (Sel key.now (documents self.now))) }
+        ensures low { IfOk result (λ places. All (λ p. p < most_places) places.items) }
     {
         let mut places = Vec::new(alloc);
         for (_, place) in self.order.iter() {

@@ -1,0 +1,7 @@
+mod Counting
+mod Keeping
+mod Merging
+mod Noting
+mod Placing
+mod Selecting
+mod Workings

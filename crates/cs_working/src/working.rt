@@ -1,0 +1,98 @@
+//! The dataset that a transaction works on.
+ghost use Rattle.std.specs.Prelude.{◌≡◌, option_map, OnOk, OnErr, is_some};
+ghost use Rattle.cs_view.specs.Dataset.{At, stands, with_doc, without};
+ghost use Rattle.cs_view.specs.Document.{id_of};
+ghost use Rattle.cs_view.specs.View.{doc as document};
+ghost use Rattle.cs_shelf.specs.View.{documents};
+ghost use Rattle.cs_docs.specs.Store.{docs};
+ghost use Rattle.cs_working.specs.Noted.{AreNoted};
+
+use cs_docs::Docs;
+use cs_shelf::Shelf;
+use cs_value::{NoMemory, Txt};
+use cs_view::Doc;
+use std::alloc::Global;
+use std::collections::BTreeSet;
+
+/// The dataset that a transaction works on: the store's documents, but under the touched ids those
+/// put so far. Contracts see it as the dataset that stands now.
+#[derive(Drop)]
+pub struct Working<'d> {
+    pub(crate) store: &'d Docs,
+    pub(crate) put: Shelf,
+    pub(crate) touched: BTreeSet<Txt>,
+    pub(crate) alloc: Global,
+    ghost noted: { AreNoted (documents put) touched },
+}
+
+// Puts a document in the place of its id.
+fn put_in(shelf: &mut Shelf, doc: Doc) -> Result<(), NoMemory>
+    ensures put { OnOk result (documents shelf.new
+        ≡ with_doc (document doc) (documents shelf.old)) }
+    ensures kept { OnErr result (documents shelf.new ≡ documents shelf.old) }
+{
+    if shelf.get(doc.id()).is_some() {
+        shelf.replace(doc);
+        Ok(())
+    } else {
+        shelf.add(doc)
+    }
+}
+
+impl<'d> Working<'d> {
+    ghost use Rattle.cs_working.specs.Working.{base, working};
+
+    /// The store's dataset, with nothing done to it yet. It takes no memory.
+    pub fn of(alloc: Global, store: &'d Docs) -> Working<'d>
+        ensures store { base result ≡ docs store.now }
+        ensures working { working result ≡ docs store.now }
+    {
+        Working {
+            store,
+            put: Shelf::new(alloc),
+            touched: BTreeSet::new(alloc),
+            alloc,
+        }
+    }
+
+    /// The document with the id: `None` exactly where there is none.
+    pub fn get(&self, id: &Txt) -> Option<&Doc>
+        ensures { option_map (λ d. document d.now) result ≡ At id.now (working self.now) }
+    {
+        if self.touched.contains(id) {
+            self.put.get(id)
+        } else {
+            self.store.get(id)
+        }
+    }
+
+    /// Whether a document has the id.
+    pub fn stands(&self, id: &Txt) -> bool
+        ensures { result ≡ stands id.now (working self.now) }
+    {
+        self.get(id).is_some()
+    }
+
+    /// Puts a document in the place of its id. After `NoMemory` it is of no more use.
+    pub fn put(&mut self, doc: Doc) -> Result<(), NoMemory>
+        ensures store { base self.new ≡ base self.old }
+        ensures put { OnOk result (working self.new
+            ≡ with_doc (document doc) (working self.old)) }
+    {
+        let id = Txt::copy_of(self.alloc, doc.id().as_str())?;
+        drop(self.touched.insert(id)?);
+        put_in(&mut self.put, doc)
+    }
+
+    /// Takes out the document of the id, where one stands. After `NoMemory` it is of no more use.
+    pub fn remove(&mut self, id: &Txt) -> Result<(), NoMemory>
+        ensures store { base self.new ≡ base self.old }
+        ensures removed { OnOk result (working self.new
+            ≡ without id.now (working self.old)) }
+    {
+        let copy = Txt::copy_of(self.alloc, id.as_str())?;
+        drop(self.touched.insert(copy)?);
+        self.put.remove(id);
+        Ok(())
+    }
+}
