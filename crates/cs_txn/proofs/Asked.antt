@@ -8,7 +8,7 @@ use Rattle.cs_grammar.specs.Reading.{read}
 use Rattle.cs_parse.specs.Spelling.{expression_in}
 use Rattle.cs_parse.specs.Tokens.{tokens_from}
 use Rattle.cs_parse.specs.Verdict.{verdict, bad_token, no_syntax, faulty}
-use Rattle.cs_txn.specs.Transaction.{no_query, not_documents, not_number}
+use Rattle.cs_txn.specs.Refused.{no_query, not_documents, not_number}
 use Rattle.cs_txn.proofs.Told.{whole, items, obj, commits, refuses, told}
 
 -- the documents that a query finds

@@ -3,7 +3,7 @@ use Rattle.std.proofs.Common.{◌≡◌, [], ◌∷◌, Some, codes, refl}
 use Rattle.std.specs.Fmt.{digits}
 use Rattle.cs_value.specs.Tree.{text}
 use Rattle.cs_jsonmatch.specs.Verdict.{path_verdict}
-use Rattle.cs_txn.specs.Transaction.{diff, bad_path, missing, revision, immutable, overflow, not_array}
+use Rattle.cs_txn.specs.Refused.{diff, bad_path, missing, revision, immutable, overflow, not_array}
 use Rattle.cs_txn.proofs.Told.{whole, items, obj, commits, refuses, told}
 
 -- the expected revision is compared with the dataset as it then is

@@ -3,7 +3,7 @@
 use Rattle.std.proofs.Common.{◌≡◌, [], ◌∷◌, true, Some, None, codes, refl}
 use Rattle.std.specs.Fmt.{digits}
 use Rattle.cs_value.specs.Tree.{null, boolean, text}
-use Rattle.cs_txn.specs.Transaction.{bad_document, deep_document, exists, dangling}
+use Rattle.cs_txn.specs.Refused.{bad_document, deep_document, exists, dangling}
 use Rattle.cs_txn.proofs.Told.{whole, items, obj, nested, commits, refuses, told}
 
 -- a created document gets its revision and its moments

@@ -1,11 +1,8 @@
 -- Mutations lead from datasets to datasets.
-use Rattle.std.proofs.Common.{◌≡◌, ℕ, ◌+◌, ◌≤◌, List, [], ◌∷◌, length, nat_lt, Bool, true, false, ◌&&◌, cond, is_some, Option, Some, None, option_and_then, Result, Ok, Err, codes, refl, sym, ap, subst, ◌∙◌}
+use Rattle.std.proofs.Common.{◌≡◌, ℕ, ◌+◌, ◌≤◌, List, [], ◌∷◌, length, Bool, true, false, cond, Option, Some, None, Result, Ok, Err, refl, subst}
 use Rattle.std.specs.List.{list_all}
-use Rattle.cs_value.specs.Tree.{Tree, text, object, Pairs}
-use Rattle.cs_value.specs.Pairs.{put}
-use Rattle.cs_value.specs.Id.{is_id}
-use Rattle.cs_value.specs.Words.{is_object, as_text}
-use Rattle.cs_view.specs.Document.{passes, is_document, is_body, is_shallow, has_id, has_type, has_text, id_of}
+use Rattle.cs_value.specs.Tree.{Tree}
+use Rattle.cs_view.specs.Document.{is_document, is_body, is_shallow, id_of}
 use Rattle.cs_view.specs.Dataset.{At, same_id, ascending, is_dataset, stands, with_doc, without}
 use Rattle.cs_view.proofs.Booleans.{and-left, and-right}
 use Rattle.cs_view.proofs.Datasets.{dataset-placed}
@@ -15,59 +12,13 @@ use Rattle.cs_docs.specs.Verdict.{Verdict, fits, full, dangles, verdict}
 use Rattle.cs_docs.specs.Laws.{FitsWithinAndClean}
 use Rattle.cs_patch.specs.Laws.{PatchedIsADocument}
 use Rattle.cs_patch.specs.Operations as patch
-use Rattle.cs_patch.specs.Patched.{Patch, paths, first_fault, patched, stamped}
-use Rattle.cs_patch.proofs.Fixed.{other-put, same-put, shallow-put}
-use Rattle.cs_patch.proofs.Stamped.{pairs_of, stamped-body}
-use Rattle.cs_txn.specs.Transaction.{Aim, one, asked, Action, create, replace, if_none, remove, change, Cause, bad_document, deep_document, exists, diff, Transaction, Outcome}
+use Rattle.cs_patch.specs.Patched.{Patch, paths, first_fault, patched}
+use Rattle.cs_body.specs.Transaction.{Aim, one, asked, Action, create, replace, if_none, remove, change, Transaction}
+use Rattle.cs_txn.specs.Refused.{Cause, bad_document, deep_document, exists, diff, Outcome}
 use Rattle.cs_txn.specs.Install.{entered, with_made_id}
 use Rattle.cs_txn.specs.Mutated.{Attempt, and_then, installed, created, replaced, kept_or_created, without_all, deleted, cause_of, by_outcome, patched_there, patched_at, patched_all, patched_by, by_fault, edited, done, at_index, mutated, found}
 use Rattle.cs_txn.specs.Commit.{and_then as commit_then, folded, held, commit}
-
--- ---- what is installed is a document
-three : (a b c : Bool) → (a && b && c) ≡ true → (a ≡ true) × (b ≡ true) × (c ≡ true)
-three true true true h = (refl, refl, refl)
-three false b c h = cc
-three true false c h = cc
-three true true false h = cc
-
-all_three : (a b c : Bool) → a ≡ true → b ≡ true → c ≡ true → (a && b && c) ≡ true
-all_three a b c g h i = rw (g, h, i) refl
-
--- with a moment of creation put there
-dated : (ps : Pairs) (tx moment : List ℕ) → is_body (object ps) ≡ true
-    → is_shallow (object ps) ≡ true
-    → is_document (stamped tx moment (object (put (codes "_createdAt") (text moment) ps))) ≡ true
-dated ps tx moment body shallow =
-    let qs = put (codes "_createdAt") (text moment) ps in
-    let b = three true (has_id (object ps)) (has_type (object ps)) body in
-    let id = other-put (codes "_id") (codes "_createdAt") (text moment) ps refl in
-    let type = other-put (codes "_type") (codes "_createdAt") (text moment) ps refl in
-    (stamped-body qs tx moment
-    (all_three true (has_id (object qs)) (has_type (object qs)) refl
-    (ap (λ a. passes is_id (option_and_then as_text a)) id ∙ b.1)
-    (ap (λ a. passes (λ s. nat_lt 0 (length s)) (option_and_then as_text a)) type ∙ b.2))
-    (shallow-put (codes "_createdAt") moment ps shallow)
-    (ap (λ a. is_some (option_and_then as_text a)) (same-put (codes "_createdAt") (text moment)
-    ps))).0
-
-entered_object : (ps : Pairs) (tx moment : List ℕ) → is_body (object ps) ≡ true
-    → is_shallow (object ps) ≡ true → is_document (entered tx moment (object ps)) ≡ true
-entered_object ps tx moment body shallow =
-    elim (has_text (codes "_createdAt") (object ps)) as (λ b.
-    has_text (codes "_createdAt") (object ps) ≡ b
-    → is_document (stamped tx moment (cond b (object ps)
-    (object (put (codes "_createdAt") (text moment) ps)))) ≡ true) [
-      | true ↦ λ h. (stamped-body ps tx moment body shallow h).0
-      | false ↦ λ h. dated ps tx moment body shallow
-    ] refl
-
-pub entered-document : (t : Tree) (tx moment : List ℕ) → is_body t ≡ true → is_shallow t ≡ true
-    → is_document (entered tx moment t) ≡ true
-entered-document t tx moment body shallow =
-    let o = pairs_of t (three (is_object t) (has_id t) (has_type t) body).0 in
-    subst (λ u. is_document (entered tx moment u) ≡ true) (sym o.1)
-    (entered_object o.0 tx moment (subst (λ u. is_body u ≡ true) o.1 body)
-    (subst (λ u. is_shallow u ≡ true) o.1 shallow))
+use Rattle.cs_txn.proofs.Bodies.{entered-document}
 
 -- ---- datasets
 put-dataset : (d : Tree) (docs : List Tree) → is_document d ≡ true → is_dataset docs ≡ true
@@ -121,7 +72,7 @@ entered-leads : (t : Tree) (tx moment : List ℕ) (docs : List Tree) → is_data
     → is_body t ≡ true → is_shallow t ≡ true → Leads (Ok (with_doc (entered tx moment t) docs))
 entered-leads t tx moment docs g body shallow =
     ok-leads (with_doc (entered tx moment t) docs)
-    (put-dataset (entered tx moment t) docs (entered-document t tx moment body shallow) g)
+    (put-dataset (entered tx moment t) docs (entered-document tx moment t body shallow).0 g)
 
 created-leads : (tx moment : List ℕ) (docs : List Tree) (t : Tree) → is_dataset docs ≡ true
     → is_body t ≡ true → is_shallow t ≡ true → Leads (created tx moment docs t)

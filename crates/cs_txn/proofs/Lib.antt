@@ -1,9 +1,13 @@
 mod Asked
+mod Bodies
+mod Committing
 mod Differing
 mod Edits
+mod Folding
 mod Forms
 mod Installs
-mod Keeping
 mod Kept
+mod Naming
+mod Shortness
 mod Told
-mod Workings
+mod Worked

@@ -1,9 +1,9 @@
 -- What a body comes to, and values in few words, for the examples.
 use Rattle.std.proofs.Common.{ℕ, suc, zero, pos, List, [], ◌∷◌, Option, Ok, Err, codes}
 use Rattle.cs_value.specs.Tree.{Tree, integer, list, object, trees, pairs}
-use Rattle.cs_txn.specs.Body.{Body, no_command, bad_id, transaction, body_of}
+use Rattle.cs_body.specs.Body.{Body, no_command, bad_id, transaction, body_of}
 use Rattle.cs_txn.specs.Commit.{commit}
-use Rattle.cs_txn.specs.Transaction.{Cause, Outcome}
+use Rattle.cs_txn.specs.Refused.{Cause, Outcome}
 
 abbrev pub whole : ℕ → Tree
 whole n = integer (pos n)

@@ -3,7 +3,8 @@
 use Rattle.std.specs.Prelude.{ℕ, ◌+◌, List, [], ◌∷◌, None, Ok, Err}
 use Rattle.cs_value.specs.Tree.{Tree}
 use Rattle.cs_docs.specs.Verdict.{Verdict, fits, full, dangles, verdict}
-use Rattle.cs_txn.specs.Transaction.{Action, full_documents, dangling, Transaction, Outcome}
+use Rattle.cs_body.specs.Transaction.{Action, Transaction}
+use Rattle.cs_txn.specs.Refused.{full_documents, dangling, Outcome}
 use Rattle.cs_txn.specs.Mutated.{mutated}
 
 abbrev pub and_then : (List Tree → Outcome) → Outcome → Outcome

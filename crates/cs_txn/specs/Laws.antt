@@ -1,13 +1,33 @@
 -- The laws of transactions.
-use Rattle.std.specs.Prelude.{◌≡◌, ◌≢◌, ◌≤◌, ℕ, List, length, true, Ok}
+use Rattle.std.specs.Prelude.{◌≡◌, ◌≢◌, ◌≤◌, ◌<◌, ◌^◌, ℕ, List, length, true, Ok}
 use Rattle.std.specs.List.{AllByRecursion}
 use Rattle.cs_value.specs.Tree.{Tree}
+use Rattle.cs_view.specs.Document.{id_of, is_body, is_document, is_shallow}
 use Rattle.cs_view.specs.Dataset.{is_dataset}
 use Rattle.cs_view.specs.Changes.{Edit, are_changes, LeadFrom, After, AreChangesBetween}
 use Rattle.cs_docs.specs.Limits.{most_documents}
 use Rattle.cs_docs.specs.References.{clean}
-use Rattle.cs_txn.specs.Transaction.{Transaction}
+use Rattle.cs_body.specs.Laws.{ActionIsWithin}
+use Rattle.cs_body.specs.Transaction.{Action, Transaction}
+use Rattle.cs_txn.specs.Install.{entered}
 use Rattle.cs_txn.specs.Commit.{commit}
+use Rattle.cs_txn.specs.Within.{AreShort}
+
+-- what becomes of a body that is not too deep is a document with the same id
+abbrev pub EnteredIsADocument : Type 0
+EnteredIsADocument =
+    (tx moment : List ℕ) (t : Tree)
+    → is_body t ≡ true
+    → is_shallow t ≡ true
+    → (is_document (entered tx moment t) ≡ true) × (id_of (entered tx moment t) ≡ id_of t)
+
+-- mutations are short whose texts have no more bytes than a number below 2^32
+abbrev pub WithinAreShort : Type 0
+WithinAreShort =
+    (n : ℕ) (actions : List Action)
+    → n < 2 ^ 32
+    → AllByRecursion (ActionIsWithin n) actions
+    → AreShort actions
 
 -- an accepted transaction leads from a dataset to one that is clean and within the limit
 abbrev pub CommitsKeepDatasets : Type 0

@@ -1,8 +1,8 @@
-pub mod Body
-pub mod Changed
 pub mod Commit
 pub mod Install
 pub mod Laws
 pub mod Mutated
-pub mod Transaction
-pub mod Working
+pub mod Refused
+pub mod View
+pub mod Visits
+pub mod Within

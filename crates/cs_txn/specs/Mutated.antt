@@ -10,7 +10,8 @@ use Rattle.cs_parse.specs.Verdict.{Reading, query, verdict}
 use Rattle.cs_meaning.specs.Values.{query_value}
 use Rattle.cs_patch.specs.Operations as patch
 use Rattle.cs_patch.specs.Patched.{Patch, paths, first_fault, patched}
-use Rattle.cs_txn.specs.Transaction.{Aim, one, asked, Action, create, replace, if_none, remove, change, Cause, bad_document, deep_document, exists, diff, bad_path, no_query, not_documents, missing, revision, immutable, not_number, overflow, not_array, Outcome}
+use Rattle.cs_body.specs.Transaction.{Aim, one, asked, Action, create, replace, if_none, remove, change}
+use Rattle.cs_txn.specs.Refused.{Cause, bad_document, deep_document, exists, diff, bad_path, no_query, not_documents, missing, revision, immutable, not_number, overflow, not_array, Outcome}
 use Rattle.cs_txn.specs.Install.{with_made_id, entered}
 
 -- the dataset after, or why there is none

@@ -1,9 +1,15 @@
-//! Transactions: what each does to a dataset, as definitions, and the laws of these; and the
-//! dataset that one works on.
+//! Transactions: what each comes to over a store's dataset, and the laws of these.
 #![tactic(auto)]
 
-mod changed;
+mod commit;
+mod delete;
+mod find;
 pub mod laws;
-mod working;
+mod mutate;
+mod named;
+mod stamp;
+mod why;
 
-pub use working::Working;
+pub use commit::prepare;
+pub use stamp::{entered, has_text, put_text};
+pub use why::{Refusal, Why};

@@ -1,0 +1,8 @@
+use Rattle.cs_working.specs.Working.{working}
+use Rattle.cs_txn.specs.Mutated.{kept_or_created}
+use Rattle.cs_txn.proofs.mutate.create_if_none.Goals as goal
+
+pub returns-in-Err-clause-refused : goal.returns-in-Err-clause-refused
+returns-in-Err-clause-refused c =
+    c.in-Err.ensures.refused
+    (kept_or_created c.args.tx.now c.args.moment.now (working c.args.working.now))

@@ -1,0 +1,124 @@
+//! What a transaction comes to over a store's dataset.
+ghost use Rattle.std.specs.Prelude.{◌≡◌, ◌≤◌, ◌<◌, ◌^◌, ◌+◌, ℕ, List, true, Ok, OnOk, IfOk, IfErr, map, length};
+ghost use Rattle.cs_value.specs.Tree.{Tree};
+ghost use Rattle.cs_view.specs.Changes.{After, AreChangesBetween};
+ghost use Rattle.cs_docs.specs.Faults.{IsFault};
+ghost use Rattle.cs_docs.specs.Store.{docs as docs_of, prepared};
+ghost use Rattle.cs_docs.specs.Verdict.{Verdict, AreTaken};
+ghost use Rattle.cs_body.specs.View.{action, txn as transaction};
+ghost use Rattle.cs_txn.specs.Commit.{commit, folded, held};
+ghost use Rattle.cs_txn.specs.View.{IsRefusal};
+ghost use Rattle.cs_txn.specs.Visits.{are_simple, costs};
+ghost use Rattle.cs_txn.specs.Within.{without_patches, AreShort};
+ghost use Rattle.cs_working.specs.Working.{base, working as working_docs};
+
+use crate::mutate::mutate;
+use crate::why::{Refusal, Why};
+use cs_body::Txn;
+use cs_docs::{Docs, PrepareFault, Prepared, Referrers};
+use cs_value::{Steps, Txt};
+use cs_working::Working;
+use std::alloc::Global;
+use std::sync::ledger::Ledger;
+
+// The mutations one after another, up to the first that is refused.
+fn fold<L: Ledger>(
+    alloc: Global,
+    working: &mut Working<'_>,
+    txn: &Txn,
+    moment: &Txt,
+    steps: &mut Steps<L>,
+) -> Result<(), Refusal>
+    requires few { length txn.now.mutations.items < 2 ^ 31 }
+    requires short { AreShort (transaction txn.now).actions }
+    requires unpatched { without_patches (transaction txn.now).actions ≡ true }
+    ensures store { base working.new ≡ base working.old }
+    ensures folded { OnOk result (folded txn.now.id moment.now 0 (transaction txn.now).actions
+        (working_docs working.old) ≡ Ok (working_docs working.new)) }
+    ensures refused { IfErr result (λ r. IsRefusal r (folded txn.now.id moment.now 0
+        (transaction txn.now).actions (working_docs working.old))) }
+    ensures visits { are_simple (transaction txn.now).actions ≡ true → steps.new ≤ steps.old
+        + costs txn.now.id moment.now 0 (transaction txn.now).actions (working_docs working.old) }
+{
+    let mut index: u32 = 0;
+    for mutation in &txn.mutations {
+        match mutate(alloc, working, mutation, &txn.id, moment, index, steps) {
+            Ok(()) => {}
+            Err(why) => {
+                return Err(Refusal {
+                    mutation: Some(index),
+                    why,
+                });
+            }
+        }
+        index += 1;
+    }
+    Ok(())
+}
+
+// The refusal that a fault of the changes is.
+fn refusal_of(fault: PrepareFault) -> Refusal
+    ensures { (d : List Tree) (v : Verdict) → IsFault fault v → IsRefusal result (held d v) }
+{
+    let why = match fault {
+        PrepareFault::Full => Why::FullDocuments,
+        PrepareFault::Dangling { from, to } => Why::Dangling { from, to },
+        PrepareFault::NoMemory => Why::NoMemory,
+    };
+    Refusal {
+        mutation: None,
+        why,
+    }
+}
+
+/// What a transaction comes to over a store's dataset at a moment: the changes from it to the
+/// dataset after the transaction, or the refusal. The mutations are done one after another to a
+/// dataset that is worked on, over which the queries inside them are evaluated too, and the store
+/// stays as it is until the changes are installed. Strong references and the number of documents
+/// are asked for after the last mutation alone.
+///
+/// `referrers` knows who refers to an id in the store's dataset. There are fewer than 2^31
+/// mutations, none of them a patch, and each query text has fewer than 2^32 bytes. A query that is
+/// simple visits no more documents than have its key.
+///
+/// The first mutation that is refused ends the transaction, and the refusal has its index.
+/// `FullDocuments` and `Dangling` are of the whole transaction and have none. `NoMemory` comes where
+/// the allocator has no room, and says nothing of the transaction.
+pub fn prepare<R: Referrers, L: Ledger>(
+    alloc: Global,
+    docs: &Docs,
+    referrers: &R,
+    txn: &Txn,
+    moment: &Txt,
+    steps: &mut Steps<L>,
+) -> Result<Prepared, Refusal>
+    requires same { R.dataset referrers.now ≡ docs_of docs.now }
+    requires few { length txn.now.mutations.items < 2 ^ 31 }
+    requires short { AreShort (transaction txn.now).actions }
+    requires unpatched { without_patches (transaction txn.now).actions ≡ true }
+    ensures accepted { IfOk result (λ p. commit (transaction txn.now) moment.now (docs_of docs.now)
+        ≡ Ok (After (docs_of docs.now) (prepared p))) }
+    ensures changes { IfOk result (λ p. AreChangesBetween (docs_of docs.now)
+        (After (docs_of docs.now) (prepared p)) (prepared p)) }
+    ensures taken { IfOk result (λ p. AreTaken (docs_of docs.now) (prepared p)) }
+    ensures refused { IfErr result (λ r. IsRefusal r
+        (commit (transaction txn.now) moment.now (docs_of docs.now))) }
+    ensures visits { are_simple (transaction txn.now).actions ≡ true → steps.new ≤ steps.old
+        + costs txn.now.id moment.now 0 (transaction txn.now).actions (docs_of docs.now) }
+{
+    let mut working = Working::of(alloc, docs);
+    fold(alloc, &mut working, txn, moment, steps)?;
+    let changes = match working.changes() {
+        Ok(changes) => changes,
+        Err(_) => {
+            return Err(Refusal {
+                mutation: None,
+                why: Why::NoMemory,
+            });
+        }
+    };
+    match Prepared::make(alloc, docs, referrers, changes) {
+        Ok(prepared) => Ok(prepared),
+        Err(fault) => Err(refusal_of(fault)),
+    }
+}
