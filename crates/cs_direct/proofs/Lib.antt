@@ -1,0 +1,8 @@
+mod Compounds
+mod Deciding
+mod Follows
+mod Named
+mod Nodes
+mod Paths
+mod Sets
+mod Settled

@@ -1,0 +1,5 @@
+pub mod Few
+pub mod Follows
+pub mod Named
+pub mod Operand
+pub mod Paths
