@@ -1,4 +1,3 @@
-mod Calendar
 mod Depths
 mod Fullness
 mod Held

@@ -7,7 +7,7 @@ use Rattle.cs_syntax.specs.Faults.{arity}
 use Rattle.cs_parse.specs.Verdict.{bad_token, too_deep, faulty}
 use Rattle.cs_reply.specs.Refusal.{full_subscriptions}
 use Rattle.cs_reply.specs.Reply.{refused}
-use Rattle.cs_txn.specs.Transaction.{deep_document, no_query, full_documents}
+use Rattle.cs_txn.specs.Refused.{deep_document, no_query, full_documents}
 use Rattle.cs_machine.specs.Replies.{reply_line, said, not_done}
 
 too_deep_document :

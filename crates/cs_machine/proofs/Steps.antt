@@ -12,14 +12,16 @@ use Rattle.cs_reply.specs.Refusal as why
 use Rattle.cs_reply.specs.Reply.{found, stopped, set}
 use Rattle.cs_listen.specs.Events.{Listener}
 use Rattle.cs_listen.specs.Plain.{listened_filter}
-use Rattle.cs_txn.specs.Body.{Body, no_command, bad_id, transaction, body_of}
+use Rattle.cs_body.specs.Body.{Body, no_command, bad_id, transaction, body_of}
 use Rattle.cs_txn.specs.Commit.{commit}
-use Rattle.cs_txn.specs.Transaction.{Transaction, Refused, Outcome as Committed}
+use Rattle.cs_body.specs.Transaction.{Transaction}
+use Rattle.cs_txn.specs.Refused.{Refused, Outcome as Committed}
 use Rattle.cs_machine.specs.Causes.{of_fault}
 use Rattle.cs_machine.specs.Fold.{Stepped}
 use Rattle.cs_machine.specs.Lives.{LiveQuery, value_of, made, most_lives}
-use Rattle.cs_machine.specs.Machine.{is_blank, deepest_line, by_command, heard, step, state_after}
-use Rattle.cs_machine.specs.Moments.{is_moment}
+use Rattle.cs_wire.specs.Blank.{is_blank}
+use Rattle.cs_machine.specs.Machine.{deepest_line, by_command, heard, step, state_after}
+use Rattle.cs_wire.specs.Moments.{is_moment}
 use Rattle.cs_machine.specs.Refused.{refuse, by_reading}
 use Rattle.cs_machine.specs.Replies.{not_done}
 use Rattle.cs_machine.specs.Rows.{installed, by_outcome, by_transaction, by_body, lively, subscribing, listening, by_filter, without_named, row}

@@ -8,7 +8,7 @@ use Rattle.cs_reply.specs.Fields.{Fields, number}
 use Rattle.cs_reply.specs.Refusal as why
 use Rattle.cs_reply.specs.Reply.{refused, fields_of, where_there}
 use Rattle.cs_docs.specs.Limits.{most_documents}
-use Rattle.cs_txn.specs.Transaction.{Cause, bad_document, deep_document, exists, diff, bad_path, no_query, not_documents, missing, revision, immutable, not_number, overflow, not_array, full_documents, dangling, Refused}
+use Rattle.cs_txn.specs.Refused.{Cause, bad_document, deep_document, exists, diff, bad_path, no_query, not_documents, missing, revision, immutable, not_number, overflow, not_array, full_documents, dangling, Refused}
 
 -- ---- texts that are no query
 abbrev pub of_fault : fault.Fault → why.Refusal

@@ -9,7 +9,7 @@ use Rattle.cs_docs.specs.Limits.{most_documents}
 use Rattle.cs_docs.specs.References.{first_dangling}
 use Rattle.cs_txn.specs.Install.{with_text}
 use Rattle.cs_reply.specs.Stated.{Cause, no_json, deep, fraction, no_document, repeated, full, Stop, long_line, much, bad, dangling, data_file}
-use Rattle.cs_machine.specs.Machine.{is_blank}
+use Rattle.cs_wire.specs.Blank.{is_blank}
 use Rattle.cs_machine.specs.State.{first_moment}
 
 -- an attribute that is no text becomes this one

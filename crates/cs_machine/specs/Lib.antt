@@ -6,7 +6,6 @@ pub mod Fold
 pub mod Laws
 pub mod Lives
 pub mod Machine
-pub mod Moments
 pub mod Refused
 pub mod Replies
 pub mod Rows

@@ -1,9 +1,9 @@
 -- The plain machine, this project's profile: what each line of a script does to the state, and what
 -- it replies.
-use Rattle.std.specs.Prelude.{ℕ, List, [], Bool, ◌||◌, ◌==◌, cond, Option, Some, None}
-use Rattle.std.specs.List.{list_all}
+use Rattle.std.specs.Prelude.{ℕ, List, [], cond, Option, Some, None}
 use Rattle.cs_value.specs.Tree.{Tree}
 use Rattle.cs_json.specs.Reading.{Outcome, not_json, too_deep, not_whole, value, outcome}
+use Rattle.cs_wire.specs.Blank.{is_blank}
 use Rattle.cs_wire.specs.Commands.{Request}
 use Rattle.cs_wire.specs.Rows.{command}
 use Rattle.cs_reply.specs.Refusal as why
@@ -12,13 +12,6 @@ use Rattle.cs_machine.specs.Fold as fold
 use Rattle.cs_machine.specs.Refused.{refuse}
 use Rattle.cs_machine.specs.Rows.{row}
 use Rattle.cs_machine.specs.State.{State}
-
-abbrev pub is_blank_byte : ℕ → Bool
-is_blank_byte b = b == 32 || b == 9 || b == 13
-
--- spaces, tabs and carriage returns alone
-abbrev pub is_blank : List ℕ → Bool
-is_blank line = list_all is_blank_byte line
 
 -- how many levels of lists and objects a line may nest
 abbrev pub deepest_line : ℕ

@@ -4,7 +4,7 @@ use Rattle.std.specs.Prelude.{ℕ, List, ◌∷◌, map, flat_map, codes}
 use Rattle.cs_value.specs.Tree.{Tree}
 use Rattle.cs_reply.specs.Fields.{Fields, object_of, number}
 use Rattle.cs_reply.specs.Reply as plain
-use Rattle.cs_txn.specs.Transaction.{Refused}
+use Rattle.cs_txn.specs.Refused.{Refused}
 use Rattle.cs_machine.specs.Causes.{refused_fields}
 
 -- what a reply says: the refusal of a transaction by what it comes to, or anything else

@@ -12,12 +12,13 @@ use Rattle.cs_reply.specs.Reply as plain
 use Rattle.cs_reply.specs.Refusal.{bad_command, bad_tx, tx_used, name_used, full_subscriptions, not_listenable, no_name, bad_moment}
 use Rattle.cs_listen.specs.Events.{Listener, events}
 use Rattle.cs_listen.specs.Plain.{listened_filter}
-use Rattle.cs_txn.specs.Body.{Body, no_command, bad_id, transaction, body_of}
+use Rattle.cs_body.specs.Body.{Body, no_command, bad_id, transaction, body_of}
 use Rattle.cs_txn.specs.Commit.{commit}
-use Rattle.cs_txn.specs.Transaction.{Transaction, Outcome}
+use Rattle.cs_body.specs.Transaction.{Transaction}
+use Rattle.cs_txn.specs.Refused.{Outcome}
 use Rattle.cs_machine.specs.Fold.{Stepped}
 use Rattle.cs_machine.specs.Lives.{LiveQuery, Said, made, news, all_refreshed, without_name, most_lives}
-use Rattle.cs_machine.specs.Moments.{is_moment}
+use Rattle.cs_wire.specs.Moments.{is_moment}
 use Rattle.cs_machine.specs.Refused.{refuse, with_query}
 use Rattle.cs_machine.specs.Replies.{said, not_done}
 use Rattle.cs_machine.specs.State.{State, answered, with_docs, with_moment, with_used, with_lives, with_listeners, is_taken, listens}

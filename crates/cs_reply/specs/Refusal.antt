@@ -27,10 +27,9 @@ pub data Refusal : Type 0 where
   no_name : List ℕ → Refusal
   -- a text is no moment
   bad_moment : Refusal
-  -- a transaction's id has not its form, or is used; the mutation of an index creates what exists
+  -- a transaction's id has not its form, or is used
   bad_tx : Refusal
   tx_used : List ℕ → Refusal
-  exists : ℕ → List ℕ → Refusal
 
 -- the word that says why
 abbrev pub word_of : Refusal → List ℕ
@@ -53,7 +52,6 @@ word_of (no_name name) = codes "no-name"
 word_of bad_moment = codes "bad-moment"
 word_of bad_tx = codes "bad-tx"
 word_of (tx_used id) = codes "tx-used"
-word_of (exists mutation id) = codes "exists"
 
 -- the fields beside the word and the line
 abbrev pub details_of : Refusal → Fields
@@ -76,4 +74,3 @@ details_of (no_name name) = (codes "name", text name) ∷ []
 details_of bad_moment = []
 details_of bad_tx = []
 details_of (tx_used id) = (codes "id", text id) ∷ []
-details_of (exists mutation id) = (codes "id", text id) ∷ (codes "mutation", number mutation) ∷ []

@@ -6,12 +6,12 @@ use Rattle.cs_reply.specs.Refusal as why
 use Rattle.cs_reply.specs.Reply as said
 use Rattle.cs_reply.specs.Stated as stated
 use Rattle.cs_reply.specs.declared.refusal.Refusal.{Refusal}
-use Rattle.cs_reply.specs.declared.refusal.Refusal.TheVariants.{NotJson, TooDeep, NotWhole, BadCommand, NotBuilt, BadToken, DeepQuery, Syntax, Unsupported, UnknownFunction, Arity, NoKey, TxUsed, Exists}
+use Rattle.cs_reply.specs.declared.refusal.Refusal.TheVariants.{NotJson, TooDeep, NotWhole, BadCommand, NotBuilt, BadToken, DeepQuery, Syntax, Unsupported, UnknownFunction, Arity, NoKey, BadMoment, BadTx, TxUsed}
 use Rattle.cs_reply.specs.declared.reply.Operation.{Operation}
 use Rattle.cs_reply.specs.declared.reply.Operation.TheVariants.{Create, Update, Delete}
 use Rattle.cs_reply.specs.declared.reply.Outcome.{Outcome}
 use Rattle.cs_reply.specs.declared.reply.Reply.{Reply}
-use Rattle.cs_reply.specs.declared.reply.Reply.TheVariants.{Committed, Found, Refused}
+use Rattle.cs_reply.specs.declared.reply.Reply.TheVariants.{Committed, Found, Set, Refused}
 use Rattle.cs_reply.specs.declared.stated.Cause.{Cause}
 use Rattle.cs_reply.specs.declared.stated.Cause.TheVariants as line
 use Rattle.cs_reply.specs.declared.stated.Source.{Source}
@@ -32,8 +32,9 @@ refusal (Unsupported name) = why.unsupported name.now
 refusal (UnknownFunction name) = why.unknown_function name.now
 refusal (Arity name) = why.arity name.now
 refusal NoKey = why.no_key
+refusal BadMoment = why.bad_moment
+refusal BadTx = why.bad_tx
 refusal (TxUsed id) = why.tx_used id.now
-refusal (Exists mutation id) = why.exists mutation id.now
 
 abbrev pub operation : Operation → said.Operation
 operation Create = said.create
@@ -46,6 +47,7 @@ outcome o = (o.id.now, operation o.operation)
 abbrev pub reply : Reply → said.Reply
 reply (Committed tx outcomes) = said.committed tx.now (map outcome outcomes.now)
 reply (Found node) = said.found (node_tree node)
+reply (Set moment) = said.set moment.now
 reply (Refused r) = said.refused (refusal r)
 
 abbrev pub cause : Cause → stated.Cause

@@ -9,6 +9,7 @@ mod stated;
 #[cfg(test)]
 mod tests;
 
+pub use line::write_value;
 pub use refusal::Refusal;
 pub use reply::{Operation, Outcome, Reply};
 pub use stated::{Cause, Source, Stop};

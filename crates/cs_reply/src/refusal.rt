@@ -37,10 +37,12 @@ pub enum Refusal<'a> {
     Arity { name: &'a str },
     /// A value in a projection of a query has no name of its own.
     NoKey,
+    /// A text is no moment.
+    BadMoment,
+    /// The id that is given for a transaction has not the form of one.
+    BadTx,
     /// An accepted transaction has the id.
     TxUsed { id: &'a str },
-    /// The mutation of this index creates a document whose id another has.
-    Exists { mutation: u32, id: &'a str },
 }
 
 fn plain(alloc: Global, word: &str, line: u32, out: &mut Vec<u8>) -> Result<(), NoMemory>
@@ -96,26 +98,6 @@ fn tx_used(alloc: Global, id: &str, line: u32, out: &mut Vec<u8>) -> Result<(), 
     write_line(alloc, members, out)
 }
 
-fn exists(
-    alloc: Global,
-    mutation: u32,
-    id: &str,
-    line: u32,
-    out: &mut Vec<u8>,
-) -> Result<(), NoMemory>
-    ensures { OnOk result (Appended out.old.items out.new.items (object_of
-        ((codes "line", number line) ∷ (codes "error", text (codes "exists"))
-        ∷ (codes "id", text id.now) ∷ (codes "mutation", number mutation) ∷ []))) }
-{
-    let members = vec![in alloc;
-        member("error", text("exists")),
-        member("id", text(id)),
-        member("line", number(line)),
-        member("mutation", number(mutation)),
-    ]?;
-    write_line(alloc, members, out)
-}
-
 impl Refusal<'_> {
     /// Appends the reply to the line of the number. After `NoMemory` a part of it may have been
     /// appended.
@@ -142,8 +124,9 @@ impl Refusal<'_> {
             ),
             Refusal::Arity { name } => with_name(alloc, "arity", name, line, out),
             Refusal::NoKey => plain(alloc, "no-key", line, out),
+            Refusal::BadMoment => plain(alloc, "bad-moment", line, out),
+            Refusal::BadTx => plain(alloc, "bad-tx", line, out),
             Refusal::TxUsed { id } => tx_used(alloc, id, line, out),
-            Refusal::Exists { mutation, id } => exists(alloc, mutation, id, line, out),
         }
     }
 }

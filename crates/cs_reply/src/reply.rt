@@ -3,7 +3,7 @@ ghost use Rattle.std.specs.Prelude.{◌≡◌, OnOk, IfOk, ◌∷◌, [], codes,
 ghost use Rattle.cs_value.specs.Tree.{text, list, trees};
 ghost use Rattle.cs_json.specs.Nodes.{node_tree};
 ghost use Rattle.cs_reply.specs.Fields.{object_of, number};
-ghost use Rattle.cs_reply.specs.Reply.{operation_word, reply_tree, committed, found, outcome as outcome_tree};
+ghost use Rattle.cs_reply.specs.Reply.{operation_word, reply_tree, committed, found, set, outcome as outcome_tree};
 ghost use Rattle.cs_reply.specs.View.{operation, outcome, reply, Appended};
 
 use crate::line::{list, member, number, text, write_line};
@@ -55,6 +55,8 @@ pub enum Reply<'a> {
     },
     /// What a query found.
     Found(Node<'a>),
+    /// The moment of the transactions that follow was set.
+    Set(&'a str),
     /// The line is refused.
     Refused(Refusal<'a>),
 }
@@ -109,6 +111,14 @@ fn write_found(alloc: Global, node: Node<'_>, line: u32, out: &mut Vec<u8>) -> R
     write_line(alloc, members, out)
 }
 
+fn write_set(alloc: Global, moment: &str, line: u32, out: &mut Vec<u8>) -> Result<(), NoMemory>
+    ensures { OnOk result (Appended out.old.items out.new.items
+        (reply_tree line (set moment.now))) }
+{
+    let members = vec![in alloc; member("at", text(moment)), member("line", number(line))]?;
+    write_line(alloc, members, out)
+}
+
 impl Reply<'_> {
     /// Appends the reply to the line of the number: its compact text and a newline. After
     /// `NoMemory` a part of it may have been appended.
@@ -119,6 +129,7 @@ impl Reply<'_> {
         match self {
             Reply::Committed { tx, outcomes } => write_committed(alloc, tx, outcomes, line, out),
             Reply::Found(node) => write_found(alloc, node, line, out),
+            Reply::Set(moment) => write_set(alloc, moment, line, out),
             Reply::Refused(refusal) => refusal.write(alloc, line, out),
         }
     }

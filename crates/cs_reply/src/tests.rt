@@ -45,17 +45,18 @@ fn writes_replies(rt: HostRuntime) -> Result<(), Fail> {
         written(alloc, Reply::Found(Node::Flag(true)))?.as_str(),
         "{\"line\":7,\"result\":true}\n"
     );
+    assert_eq!(rt;
+        written(alloc, Reply::Set("2024-03-01T00:00:00Z"))?.as_str(),
+        "{\"at\":\"2024-03-01T00:00:00Z\",\"line\":7}\n"
+    );
     let refusals = [
         (
             Refusal::BadToken { at: 2 },
             "{\"at\":2,\"error\":\"bad-token\",\"line\":7}\n",
         ),
         (
-            Refusal::Exists {
-                mutation: 1,
-                id: "a",
-            },
-            "{\"error\":\"exists\",\"id\":\"a\",\"line\":7,\"mutation\":1}\n",
+            Refusal::BadMoment,
+            "{\"error\":\"bad-moment\",\"line\":7}\n",
         ),
         (
             Refusal::Arity { name: "count" },

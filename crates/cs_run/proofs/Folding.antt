@@ -5,7 +5,7 @@ use Rattle.std.proofs.lemmas.Grind.{flat_map-append}
 use Rattle.cs_machine.specs.Replies.{reply_line, reply_lines, numbered}
 use Rattle.cs_machine.specs.Fold.{Step, replies}
 use Rattle.cs_machine.specs.Fold as fold
-use Rattle.cs_run.specs.Built.{step, step_writes, step_state, state_after, written}
+use Rattle.cs_core.specs.Built.{step, step_writes, step_state, state_after, written}
 use Rattle.cs_machine.specs.State.{State}
 
 -- the list after k elements begins with x

@@ -1,17 +1,4 @@
-pub mod Changing
-pub mod Creating
-pub mod DataReading
-pub mod Folding
-pub mod Freed
-pub mod Gathering
-pub mod Headlines
-pub mod Importing
-pub mod Noting
-pub mod Placing
-pub mod Playing
-pub mod Replying
-pub mod Saying
-pub mod Soles
-pub mod Stamping
-pub mod Verdicts
-pub mod Wording
+mod Folding
+mod Headlines
+mod Playing
+mod Wording

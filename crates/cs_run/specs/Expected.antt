@@ -8,7 +8,7 @@ use Rattle.cs_reply.specs.Stated.{Stop}
 use Rattle.cs_machine.specs.Expected.{Ending, done, bad_usage, bad_data, bad_input, stop_ends}
 use Rattle.cs_machine.specs.Expected as machine
 use Rattle.cs_machine.specs.State.{State}
-use Rattle.cs_run.specs.Built.{step, written}
+use Rattle.cs_core.specs.Built.{step, written}
 use Rattle.cs_run.specs.declared.status.Status.{Status}
 use Rattle.cs_run.specs.declared.status.Status.TheVariants.{Done, Usage, ReadFault, Data, Input, WriteFault, OpenFault}
 

@@ -7,7 +7,7 @@ use Rattle.cs_io.specs.Lines.{whole_lines}
 use Rattle.cs_io.specs.Names.{Files, file_bytes}
 use Rattle.cs_io.specs.declared.library.Asked.{Asked}
 use Rattle.cs_machine.specs.Expected.{Task, no_task, play, expected_by, expected_end, usage_line, Start, begins, stops, start_with}
-use Rattle.cs_run.specs.Built.{step, written}
+use Rattle.cs_core.specs.Built.{step, written}
 use Rattle.cs_run.specs.Expected.{status_of, WroteReplies}
 use Rattle.cs_run.specs.Words.{takes_words, data_of, script_of, names_of}
 use Rattle.cs_run.specs.declared.status.Status.{Status}

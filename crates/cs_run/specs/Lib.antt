@@ -1,13 +1,4 @@
-pub mod Built
-pub mod Command
-pub mod Core
-pub mod Does
 pub mod Expected
-pub mod Gathered
 pub mod Headline
-pub mod Loading
-pub mod Reads
-pub mod Refusals
 pub mod Script
-pub mod Taking
 pub mod Words

@@ -13,11 +13,11 @@ use Rattle.cs_reply.specs.Stated.{stated_line}
 use Rattle.cs_machine.specs.Expected.{done, bad_input, Start, begins, stops, start_with, script_ends}
 use Rattle.cs_run.specs.Expected.{script_writes, stop_status, WroteReplies}
 use Rattle.cs_run.specs.Headline.{taken_of}
-use Rattle.cs_run.specs.Loading.{AsksFor, stop_of}
-use Rattle.cs_run.specs.Built.{written}
+use Rattle.cs_load.specs.Loading.{AsksFor, stop_of}
+use Rattle.cs_core.specs.Built.{written}
 use Rattle.cs_machine.specs.State.{State, begun}
-use Rattle.cs_run.specs.declared.fault.LoadFault.{LoadFault}
-use Rattle.cs_run.specs.declared.fault.LoadFault.TheVariants as fault
+use Rattle.cs_load.specs.declared.fault.LoadFault.{LoadFault}
+use Rattle.cs_load.specs.declared.fault.LoadFault.TheVariants as fault
 use Rattle.cs_run.specs.declared.status.Status.{Status}
 use Rattle.cs_run.specs.declared.status.Status.TheVariants.{Done, ReadFault, Usage, Data, Input, WriteFault, NoMemory, OpenFault}
 

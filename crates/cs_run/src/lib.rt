@@ -1,26 +1,12 @@
-//! The store's machine over the lines of a script, the data file that it begins with, and the top
-//! call.
+//! The top call: the words of a command line, the data file, and the lines of a script.
 #![tactic(auto)]
 
-mod blank;
-mod command;
-mod data_file;
-mod fault;
-mod import;
-mod loading;
-mod machine;
-mod mutate;
-mod query;
-mod refs;
-mod refusal;
-mod stamp;
 mod status;
 mod top;
 mod words;
 
+pub use cs_core::{Core, CoreFault, Replies};
 pub use cs_docs::Docs;
-pub use data_file::load;
-pub use fault::{DataCause, LoadFault};
-pub use machine::{Core, CoreFault, Replies};
+pub use cs_load::{DataCause, LoadFault, load};
 pub use status::Status;
 pub use top::run;

@@ -2,7 +2,7 @@ use Rattle.std.proofs.Common.{arith, rules, Ok, Err, Some, None}
 use Rattle.cs_docs.specs.Store.{docs}
 use Rattle.cs_io.specs.Next.{IsNext}
 use Rattle.cs_io.specs.declared.lines.LineFault.TheVariants as fault
-use Rattle.cs_run.specs.Core.{state}
+use Rattle.cs_core.specs.Core.{state}
 use Rattle.cs_machine.specs.State.{begun}
 use Rattle.cs_run.proofs.Playing.{Answer, begins, went, told_writes, stop_memory, stop_done, stop_read, stop_long, stop_much, stop_line}
 use Rattle.cs_run.proofs.top.run_script.Goals as goal

@@ -2,7 +2,7 @@ use Rattle.std.proofs.Common.{◌≡◌, ◌≤◌, ◌-◌, List, ℕ, Some, tr
 use Rattle.cs_io.specs.Lines.{largest_source}
 use Rattle.cs_io.specs.Names.{is_open}
 use Rattle.cs_io.specs.Reader.{OnlyReads, InStep}
-use Rattle.cs_run.specs.Core.{state}
+use Rattle.cs_core.specs.Core.{state}
 use Rattle.cs_machine.specs.State.{begun}
 use Rattle.cs_docs.specs.Store.{docs}
 use Rattle.cs_run.proofs.Playing.{Played}

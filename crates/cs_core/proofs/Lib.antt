@@ -1,0 +1,4 @@
+mod Noting
+mod Replying
+mod Told
+mod Transacting

@@ -1,0 +1,16 @@
+use Rattle.std.proofs.Common.{ap, true, string_bytes}
+use Rattle.std.proofs.lemmas.Map.Text.{hash_set_updates_text}
+use Rattle.indexmap.specs.IndexSet.{contains_text}
+use Rattle.cs_docs.specs.Store.{docs}
+use Rattle.cs_core.specs.Core.{seen}
+use Rattle.cs_core.proofs.Noting.{noted}
+use Rattle.cs_core.proofs.machine.Core.note.Goals as goal
+
+pub returns : goal.returns
+returns c =
+    let id = string_bytes c.args.id in
+    let old = c.args.self.now.used in
+    let new = c.insert.new.self in
+    ap (seen (docs c.args.self.now.docs) c.args.self.now.moment)
+    (noted (contains_text old) (contains_text new) id
+    (hash_set_updates_text id old new true c.in-Ok.ensures.updates))

@@ -1,0 +1,26 @@
+use Rattle.std.proofs.Common.{refl}
+use Rattle.std.proofs.lemmas.Result.{on_ok_weaker}
+use Rattle.cs_parse.specs.Verdict.{reading_of}
+use Rattle.cs_meaning.specs.Values.{query_value}
+use Rattle.cs_reply.specs.Reply.{found}
+use Rattle.cs_syntax.specs.Expression.{Expression}
+use Rattle.cs_syntax.specs.Queries.{query as expression_of}
+use Rattle.cs_value.specs.View.{fields}
+use Rattle.cs_core.specs.Core.{state}
+use Rattle.cs_machine.specs.State.{answered}
+use Rattle.cs_core.proofs.Replying.{says, does_as, read_text, refused_text}
+use Rattle.cs_core.proofs.machine.Core.query.Goals as goal
+
+pub returns-in-Ok : goal.returns-in-Ok
+returns-in-Ok g c =
+    let s = state c.args.self.now in
+    let next = λ (e : Expression). answered s (found (query_value s.docs (fields c.args.params.now) e)) in
+    let is = read_text s c.args.text.now next (expression_of c.in-Ok.query) c.in-Ok.ensures in
+    on_ok_weaker c.find.result (λ h. does_as c.args.out.now.items c.find.new.out.items s c.args.line _ _ is (says _ _ s s c.args.line (found (query_value s.docs (fields c.args.params.now) (expression_of c.in-Ok.query))) refl h)) c.find.ensures
+
+pub returns-in-Some : goal.returns-in-Some
+returns-in-Some g c =
+    let s = state c.args.self.now in
+    let next = λ (e : Expression). answered s (found (query_value s.docs (fields c.args.params.now) e)) in
+    let is = refused_text s c.args.text.now next (reading_of c.in-Err.fault) _ c.in-Err.ensures c.in-Some.ensures in
+    on_ok_weaker c.refuse.result (λ h. does_as c.args.out.now.items c.refuse.new.out.items s c.args.line _ _ is h) c.refuse.ensures

@@ -1,0 +1,4 @@
+pub mod Built
+pub mod Core
+pub mod Does
+pub mod Told

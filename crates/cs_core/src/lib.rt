@@ -1,0 +1,10 @@
+//! The store's machine: its state, and what each line of a script does to it.
+#![tactic(auto)]
+
+mod machine;
+mod moment;
+mod query;
+mod refused;
+mod transact;
+
+pub use machine::{Core, CoreFault, Replies};

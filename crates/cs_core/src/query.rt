@@ -1,0 +1,101 @@
+//! The row of `query`: the value of a query over the documents as they are.
+ghost use Rattle.std.specs.Prelude.{◌≡◌, ◌<◌, ◌^◌, OnOk, length, option_map, option_and_then};
+ghost use Rattle.cs_value.specs.View.{fields};
+ghost use Rattle.cs_syntax.specs.Queries.{query as expression_of};
+ghost use Rattle.cs_parse.specs.Verdict.{reading_of};
+ghost use Rattle.cs_parts.specs.Parts.{got};
+ghost use Rattle.cs_meaning.specs.Values.{query_value};
+ghost use Rattle.cs_docs.specs.Store.{docs as docs_of};
+ghost use Rattle.cs_reply.specs.Reply.{reply_tree, found as found_reply};
+ghost use Rattle.cs_reply.specs.View.{refusal as refusal_seen, Appended};
+ghost use Rattle.cs_core.specs.Core.{state};
+ghost use Rattle.cs_core.specs.Does.{Does};
+ghost use Rattle.cs_machine.specs.Causes.{why_none};
+ghost use Rattle.cs_machine.specs.Rows.{row_query};
+
+use crate::machine::Core;
+use cs_eval::{Got, eval};
+use cs_json::Node;
+use cs_parse::{ParseFault, parse};
+use cs_reply::{Refusal, Reply};
+use cs_syntax::Query;
+use cs_value::{Fields, NoMemory, Steps};
+use cs_view::Record;
+use std::alloc::Global;
+use std::sync::ledger::Ledger;
+
+// Why a text is no query. `None` for want of memory.
+fn refusal(fault: &ParseFault) -> Option<Refusal<'_>>
+    ensures { option_map refusal_seen result ≡ option_and_then why_none
+        (reading_of fault.entry.now) }
+{
+    match fault {
+        ParseFault::BadToken { at } => Some(Refusal::BadToken { at: *at }),
+        ParseFault::TooDeep => Some(Refusal::DeepQuery),
+        ParseFault::Syntax => Some(Refusal::Syntax),
+        ParseFault::Unsupported { name } => Some(Refusal::Unsupported {
+            name: name.as_str(),
+        }),
+        ParseFault::UnknownFunction { name } => Some(Refusal::UnknownFunction {
+            name: name.as_str(),
+        }),
+        ParseFault::Arity { name } => Some(Refusal::Arity {
+            name: name.as_str(),
+        }),
+        ParseFault::NoKey => Some(Refusal::NoKey),
+        ParseFault::NoMemory => None,
+    }
+}
+
+// What a query found, written from its borrowed parts.
+fn write_found(alloc: Global, found: Got<'_>, line: u32, out: &mut Vec<u8>) -> Result<(), NoMemory>
+    ensures { OnOk result (Appended out.old.items out.new.items (reply_tree line
+        (found_reply (got found.entry)))) }
+{
+    match found {
+        Got::Part(val) => Reply::Found(Node::Value(val)).write(alloc, line, out),
+        Got::Parts(vals) => Reply::Found(Node::Values(vals)).write(alloc, line, out),
+        Got::Whole(val) => Reply::Found(Node::Value(&val)).write(alloc, line, out),
+    }
+}
+
+impl Core {
+    // A query: its value, or why its text is none.
+    pub(crate) fn query<L: Ledger>(
+        &self,
+        text: &str,
+        params: &Fields,
+        line: u32,
+        steps: &mut Steps<L>,
+        out: &mut Vec<u8>,
+    ) -> Result<(), NoMemory>
+        requires { length text.now < 2 ^ 32 }
+        ensures { OnOk result (Does out.old.items out.new.items (state self.now) line
+            (row_query (state self.now) text.now (fields params.now))) }
+    {
+        match parse(self.alloc, text) {
+            Ok(query) => self.find(&query, params, line, steps, out),
+            Err(fault) => match refusal(&fault) {
+                Some(why) => self.refuse(why, line, out),
+                None => Err(NoMemory),
+            },
+        }
+    }
+
+    // The reply with the value of a query.
+    fn find<L: Ledger>(
+        &self,
+        query: &Query,
+        params: &Fields,
+        line: u32,
+        steps: &mut Steps<L>,
+        out: &mut Vec<u8>,
+    ) -> Result<(), NoMemory>
+        ensures { OnOk result (Appended out.old.items out.new.items (reply_tree line (found_reply
+            (query_value (docs_of self.now.docs) (fields params.now) (expression_of query.now))))) }
+    {
+        let mut keys = Record::new(self.alloc);
+        let found = eval(self.alloc, query, params, &self.docs, &mut keys, steps)?;
+        write_found(self.alloc, found, line, out)
+    }
+}

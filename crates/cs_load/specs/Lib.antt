@@ -1,0 +1,5 @@
+pub mod Gathered
+pub mod Loading
+pub mod Reads
+pub mod Refusals
+pub mod Taking

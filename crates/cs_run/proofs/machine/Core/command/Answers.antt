@@ -1,9 +1,0 @@
-use Rattle.cs_io.specs.Lines.{longest_line}
-use Rattle.cs_value.specs.Tree.{widest}
-use Rattle.cs_value.specs.View.{tree}
-use Rattle.cs_wire.specs.View.{request}
-use Rattle.cs_run.proofs.Replying.{within_more}
-use Rattle.cs_run.proofs.machine.Core.command.Goals as goal
-
-pub run-requires : goal.run-requires
-run-requires g c = record { short = within_more (widest (tree c.args.val)) longest_line (request c.in-Ok.command) c.requires.short (c.commands_are_within.ensures (tree c.args.val) (request c.in-Ok.command) c.in-Ok.ensures) }
