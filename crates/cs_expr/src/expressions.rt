@@ -13,6 +13,7 @@ ghost use Rattle.cs_parts.specs.Parts.{got, item};
 
 use crate::calls::{arguments, call};
 use crate::chains::chain;
+use cs_direct::{direct, direct_part};
 use cs_levels::{
     is_among, lies_between, matches_path, operated_got, put_keyed, put_named, put_spread,
 };
@@ -109,11 +110,14 @@ pub(crate) fn settled<'s, S: Source<C>, C>(
     ensures keys { OnOk result (keys.new ≡ keys.old ++ looked (S.docs source.now) (fields
         params.now) (expression expr.now) (scope frame.now)) }
 {
+    if let Some(val) = direct_part(expr, frame) {
+        return Ok(Item::Lent(val));
+    }
     let value = eval(alloc, expr, frame, params, source, keys, count)?;
     settle(alloc, value)
 }
 
-// Whether an expression is true.
+// Whether an expression is true. Most conditions are found directly, which takes no memory.
 #[cycle(eval)]
 pub(crate) fn is_met<'s, S: Source<C>, C>(
     alloc: Global,
@@ -129,6 +133,9 @@ pub(crate) fn is_met<'s, S: Source<C>, C>(
     ensures keys { OnOk result (keys.new ≡ keys.old ++ looked (S.docs source.now) (fields
         params.now) (expression expr.now) (scope frame.now)) }
 {
+    if let Some(found) = direct(expr, frame, params) {
+        return Ok(found.is_true());
+    }
     let value = eval(alloc, expr, frame, params, source, keys, count)?;
     let met = is_true(&value);
     drop(value);

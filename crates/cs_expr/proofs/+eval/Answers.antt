@@ -14,7 +14,7 @@ use Rattle.cs_meaning.specs.Joining.{form, kind, way, entrance}
 use Rattle.cs_meaning.specs.Ordered.{directions}
 use Rattle.cs_order.specs.First.{in_order}
 use Rattle.cs_order.specs.Ranked.{ranked as ranked_of}
-use Rattle.cs_meaning.specs.Operators.{in_path, sole}
+use Rattle.cs_meaning.specs.Operators.{in_path, is_true, sole}
 use Rattle.cs_expr.proofs.Firsts.{first_of_order}
 use Rattle.cs_meaning.specs.Values.{value, step_value, selected, keys_values}
 use Rattle.cs_meaning.specs.Looked.{looked, run_looked, rest_looked, step_looked, entered_looked, arguments_looked, selected_looked, keys_looked}
@@ -40,6 +40,7 @@ use Rattle.cs_expr.proofs.Climbing.{rest_of, stop_gives, step_stops, first_value
 use Rattle.cs_expr.proofs.Climbing.{first_looks, first_fits, turn_value, turn_looks, turn_fits}
 use Rattle.cs_expr.proofs.Climbing.{turn_marks, done_value, done_order, done_looks}
 use Rattle.cs_expr.proofs.+eval.Goals as goal
+use Rattle.std.proofs.lemmas.List.{append-nil}
 
 pub expressions::eval-run-requires : goal.expressions::eval-run-requires
 expressions::eval-run-requires g t c κs within =
@@ -611,3 +612,26 @@ steps::sorted_list-returns-clause-value g t c =
     (c.deref.ensures.value ∙ c.in_ok-directions.ensures)
     (c.deref-2.ensures.value ∙ c.in_ok-directions.ensures))
     c.list_in_order.ensures
+
+pub expressions::is_met-returns-in-Some-clause-value :
+    goal.expressions::is_met-returns-in-Some-clause-value
+expressions::is_met-returns-in-Some-clause-value g t c =
+    c.is_true.ensures ∙ ap is_true (c.in-Some.ensures.value (g.S.Source.docs c.args.source.now))
+
+pub expressions::is_met-returns-in-Some-clause-keys :
+    goal.expressions::is_met-returns-in-Some-clause-keys
+expressions::is_met-returns-in-Some-clause-keys g t c =
+    sym (ap (λ (ks : List Key). c.args.keys.now ++ ks)
+    (c.in-Some.ensures.quiet (g.S.Source.docs c.args.source.now)) ∙ append-nil c.args.keys.now)
+
+pub expressions::settled-returns-in-Some-clause-value :
+    goal.expressions::settled-returns-in-Some-clause-value
+expressions::settled-returns-in-Some-clause-value g t c =
+    c.in-Some.ensures.value (g.S.Source.docs c.args.source.now) (fields c.args.params.now)
+
+pub expressions::settled-returns-in-Some-clause-keys :
+    goal.expressions::settled-returns-in-Some-clause-keys
+expressions::settled-returns-in-Some-clause-keys g t c =
+    sym (ap (λ (ks : List Key). c.args.keys.now ++ ks)
+    (c.in-Some.ensures.quiet (g.S.Source.docs c.args.source.now) (fields c.args.params.now))
+    ∙ append-nil c.args.keys.now)
