@@ -1,0 +1,4 @@
+pub mod Alterations
+pub mod Inserted
+pub mod Insertions
+pub mod Within
