@@ -9,7 +9,7 @@ use Rattle.cs_value.specs.Tree.{Tree, null, boolean, integer, text, list, object
 use Rattle.cs_value.specs.Pairs.{find}
 use Rattle.cs_value.specs.Words.{as_text, as_list, as_object, as_integer}
 use Rattle.cs_wire.specs.Commands.{has_keys, given, text_in, params_in, value_or}
-use Rattle.cs_patch.specs.Inserted.{Side, before, after, replace as instead}
+use Rattle.cs_alter.specs.Inserted.{Side, before, after, replace as instead}
 use Rattle.cs_patch.specs.Operations.{Insertion}
 use Rattle.cs_patch.specs.Patched.{Patch}
 use Rattle.cs_body.specs.Body.{Body, no_command, bad_id, transaction, all_read, values_in, numbered, numbers_in, texts_in, text_or_none, inserted_at, insertion_of, insertion_in, patch_of, patch_in, patch_keys, aim_in, removal_in, has_diff, change_in, action_at, sole_action, action, is_tx_id, tx_of_line, by_id, by_actions, of_pairs, body_of}

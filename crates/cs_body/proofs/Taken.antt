@@ -9,7 +9,7 @@ use Rattle.cs_value.specs.declared.val.Val as val
 use Rattle.cs_value.proofs.Views.{members-trees, tree-List}
 use Rattle.cs_wire.specs.Commands.{has_keys, given, text_in, params_in, value_or}
 use Rattle.cs_wire.proofs.Asking.{find-left}
-use Rattle.cs_patch.specs.Inserted.{Side}
+use Rattle.cs_alter.specs.Inserted.{Side}
 use Rattle.cs_patch.specs.Operations.{Insertion}
 use Rattle.cs_patch.specs.Patched.{Patch}
 use Rattle.cs_body.specs.Body.{Body, no_command, transaction, action, by_id, by_actions, of_pairs, all_read, numbered, insertion_of, inserted_at, text_or_none, values_in, texts_in, numbers_in, insertion_in, patch_of, patch_keys, patch_in, aim_in, has_diff, change_in}

@@ -8,7 +8,7 @@ use Rattle.cs_value.specs.Pairs.{find}
 use Rattle.cs_value.specs.Words.{as_text, as_object, as_list, as_integer}
 use Rattle.cs_value.specs.Id.{is_between}
 use Rattle.cs_wire.specs.Commands.{has_keys, text_in, params_in, value_or, given}
-use Rattle.cs_patch.specs.Inserted.{Side, before, after, replace as instead}
+use Rattle.cs_alter.specs.Inserted.{Side, before, after, replace as instead}
 use Rattle.cs_patch.specs.Operations.{Insertion}
 use Rattle.cs_patch.specs.Patched.{Patch}
 use Rattle.cs_body.specs.Transaction.{Aim, one, asked, Action, create, replace, if_none, remove, change, Transaction}

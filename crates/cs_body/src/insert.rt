@@ -2,7 +2,8 @@
 ghost use Rattle.std.specs.Prelude.{◌≡◌, codes, false, bytes_eq, option_map};
 ghost use Rattle.cs_value.specs.Pairs.{without};
 ghost use Rattle.cs_value.specs.View.{fields};
-ghost use Rattle.cs_patch.specs.View.{side as side_of, insertion};
+ghost use Rattle.cs_alter.specs.Alterations.{side as side_of};
+ghost use Rattle.cs_patch.specs.View.{insertion};
 ghost use Rattle.cs_body.specs.Body.{inserted_at, insertion_of, insertion_in};
 ghost use Rattle.cs_body.specs.Taken.{IsPart};
 

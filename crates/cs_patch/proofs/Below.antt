@@ -8,7 +8,7 @@ use Rattle.cs_jsonmatch.specs.Grammar.{IsPath, first_name, first_bracket, first_
 use Rattle.cs_jsonmatch.specs.Places.{Location, Trail, parts, trails, leads, places}
 use Rattle.cs_jsonmatch.specs.Verdict.{spelled, IsPathRead, path_verdict}
 use Rattle.cs_jsonmatch.specs.declared.places.Part.TheVariants.{Name}
-use Rattle.cs_patch.specs.Within.{at, Reach, present, absent, blocked, reach, is_inside}
+use Rattle.cs_alter.specs.Within.{at, Reach, present, absent, blocked, reach, is_inside}
 use Rattle.cs_patch.specs.Targets.{if_some, plain_name, cut, run_of, prefix_of, Target, location, target_by, targets_from, made_targets, place_targets}
 use Rattle.cs_view.proofs.Booleans.{and-left, and-right, both}
 use Rattle.cs_patch.proofs.Kept.{is_below}
@@ -55,18 +55,18 @@ all_pass : {A : Type 0} (p : A → Bool) → ((x : A) → p x ≡ true) → (xs 
 all_pass p h [] = refl
 all_pass p h (x ∷ xs) = ap (λ b. b && list_all p xs) (h x) ∙ all_pass p h xs
 
-all_both : {A : Type 0} (p : A → Bool) (xs ys : List A)
+pub all-both : {A : Type 0} (p : A → Bool) (xs ys : List A)
     → list_all p xs ≡ true → list_all p ys ≡ true → list_all p (xs ++ ys) ≡ true
-all_both p [] ys g h = h
-all_both p (x ∷ xs) ys g h =
+all-both p [] ys g h = h
+all-both p (x ∷ xs) ys g h =
     both (p x) (list_all p (xs ++ ys)) (and-left (p x) (list_all p xs) g)
-    (all_both p xs ys (and-right (p x) (list_all p xs) g) h)
+    (all-both p xs ys (and-right (p x) (list_all p xs) g) h)
 
-all_filtered : {A : Type 0} (p q : A → Bool) (xs : List A)
+pub all-filtered : {A : Type 0} (p q : A → Bool) (xs : List A)
     → list_all p xs ≡ true → list_all p (filter q xs) ≡ true
-all_filtered p q [] h = refl
-all_filtered p q (x ∷ xs) h =
-    let rest = all_filtered p q xs (and-right (p x) (list_all p xs) h) in
+all-filtered p q [] h = refl
+all-filtered p q (x ∷ xs) h =
+    let rest = all-filtered p q xs (and-right (p x) (list_all p xs) h) in
     elim (q x) as (λ b. list_all p (cond b (x ∷ filter q xs) (filter q xs)) ≡ true) [
       | true ↦ both (p x) (list_all p (filter q xs)) (and-left (p x) (list_all p xs) h) rest
       | false ↦ rest
@@ -132,7 +132,7 @@ from_each : (ok : Target → Bool) (fit : Location → Bool) (v : Tree) (ns : Li
     → (ls : List Location) → list_all fit ls ≡ true → list_all ok (targets_from v ns ls) ≡ true
 from_each ok fit v ns one [] h = refl
 from_each ok fit v ns one (l ∷ ls) h =
-    all_both ok (if_some (λ t. target_by l ns (reach ns t)) [] (at l v)) (targets_from v ns ls)
+    all-both ok (if_some (λ t. target_by l ns (reach ns t)) [] (at l v)) (targets_from v ns ls)
     (elim (at l v) as (λ o. list_all ok (if_some (λ t. target_by l ns (reach ns t)) [] o) ≡
     true) [
       | None ↦ refl
@@ -157,7 +157,7 @@ pub made-below : (ss : Path) (v : Tree) → starts ss ≡ true
 made-below ss v h =
     let c = cut [] (reverse ss) in
     let ts = targets_from v (run_of ss) (places (prefix_of ss) v) in
-    all_filtered is_under (λ t. not (list_any (λ u. is_inside (location t) (location u)) ts)) ts
+    all-filtered is_under (λ t. not (list_any (λ u. is_inside (location t) (location u)) ts)) ts
     (from_each is_under (λ l. is_below (l ++ map Name (run_of ss))) v (run_of ss)
     (target-below (run_of ss)) (places (prefix_of ss) v)
     (made_below c.0 c.1 v (cut_starts (reverse ss) (starts-reverse ss h))))
@@ -166,5 +166,5 @@ pub place-below : (ss : Path) (v : Tree) → starts ss ≡ true
     → list_all is_placed (place_targets ss v) ≡ true
 place-below ss v h =
     let ts = targets_from v [] (places ss v) in
-    all_filtered is_placed (λ t. not (list_any (λ u. is_inside (location t) (location u)) ts)) ts
+    all-filtered is_placed (λ t. not (list_any (λ u. is_inside (location t) (location u)) ts)) ts
     (from_each is_placed is_below v [] (target-placed []) (places ss v) (places-below ss v h))

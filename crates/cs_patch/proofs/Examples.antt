@@ -2,7 +2,7 @@
 use Rattle.std.proofs.Common.{◌≡◌, ℕ, zero, suc, ℤ, pos, negsuc, List, [], ◌∷◌, Option, Some, None, codes, refl}
 use Rattle.cs_value.specs.Tree.{Tree, null, integer, text, list, object, trees, pairs}
 use Rattle.cs_jsonmatch.specs.Verdict.{path_verdict}
-use Rattle.cs_patch.specs.Inserted.{Side, before, after, replace}
+use Rattle.cs_alter.specs.Inserted.{Side, before, after, replace}
 use Rattle.cs_patch.specs.Operations.{document, refused, revision, no_path, not_number, overflow, not_array, immutable, too_deep, Insertion}
 use Rattle.cs_patch.specs.Patched.{Patch, patched}
 

@@ -9,7 +9,7 @@ use Rattle.std.specs.Ordering.{is_eq, match_ordering}
 use Rattle.cs_value.specs.Tree.{Tree, text, object, Pairs, no_pairs, more_pairs, depth, pairs_depth}
 use Rattle.cs_value.specs.Pairs.{find, put, without}
 use Rattle.cs_view.specs.Document.{is_shallow}
-use Rattle.cs_patch.specs.Within.{update_pair}
+use Rattle.cs_alter.specs.Within.{update_pair}
 
 passed_by : (o : Ordering) (x y : Option Tree) → is_eq o ≡ false → match_ordering o x y x ≡ x
 passed_by Less x y h = refl

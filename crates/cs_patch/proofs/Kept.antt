@@ -8,8 +8,8 @@ use Rattle.cs_value.specs.Words.{is_object}
 use Rattle.cs_jsonmatch.specs.Places.{Location}
 use Rattle.cs_jsonmatch.specs.declared.places.Part.{Part}
 use Rattle.cs_jsonmatch.specs.declared.places.Part.TheVariants.{Name, Pos}
-use Rattle.cs_patch.specs.Within.{update, changed, removed, drop_member, given, at_name, object_pairs}
-use Rattle.cs_patch.specs.Inserted.{Side, insert_into}
+use Rattle.cs_alter.specs.Within.{update, changed, removed, drop_member, given, at_name, object_pairs}
+use Rattle.cs_alter.specs.Inserted.{Side, insert_into}
 use Rattle.cs_patch.specs.Operations.{immutable, fixed, fixed_at}
 use Rattle.cs_jsonmatch.specs.Path.{Step}
 use Rattle.cs_patch.proofs.Fixed.{other-put, other-without, other-update}

@@ -1,6 +1,14 @@
+mod Applied
 mod Below
+mod Deep
 mod Examples
 pub mod Fixed
+mod Giving
 mod Kept
+mod Missing
+mod Named
+mod Outer
+mod Reading
+mod Seeing
 pub mod Stamped
 mod Worked

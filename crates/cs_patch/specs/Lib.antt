@@ -1,7 +1,13 @@
-pub mod Inserted
+pub mod Asked
+pub mod Entries
+pub mod Faults
 pub mod Laws
 pub mod Operations
+pub mod Outcomes
 pub mod Patched
+pub mod Read
+pub mod Readings
+pub mod Runs
+pub mod Seen
 pub mod Targets
 pub mod View
-pub mod Within

@@ -3,15 +3,15 @@
 use Rattle.std.specs.Prelude.{ℕ, ℤ, ◌+ℤ◌, ◌-ℤ◌, List, [], ◌∷◌, reverse, cond, Option, Some, None, bytes_eq, codes}
 use Rattle.std.specs.List.{list_any}
 use Rattle.cs_value.specs.Tree.{Tree, integer, list}
-use Rattle.cs_ops.specs.Arithmetic.{is_whole, number}
+use Rattle.cs_ops.specs.Arithmetic.{is_whole}
 use Rattle.cs_view.specs.Document.{is_shallow}
 use Rattle.cs_jsonmatch.specs.Path.{Step, Path}
 use Rattle.cs_jsonmatch.specs.Places.{Location}
 use Rattle.cs_jsonmatch.specs.Verdict.{PathReading, spelled, bad_path, path_verdict}
 use Rattle.cs_jsonmatch.specs.declared.places.Part.TheVariants.{Name}
-use Rattle.cs_patch.specs.Within.{changed, removed, given}
+use Rattle.cs_alter.specs.Within.{changed, removed, given, recount}
 use Rattle.cs_patch.specs.Targets.{if_some, Target, location, made_targets, place_targets}
-use Rattle.cs_patch.specs.Inserted.{Side, insert_into, is_misplaced}
+use Rattle.cs_alter.specs.Inserted.{Side, insert_into, is_misplaced}
 
 -- Why a patch is refused: another revision than the expected one, with both; a text that is no
 -- path, with the place of its fault; the path or the name concerned; depth.
@@ -83,10 +83,6 @@ set_missing_at new t v = if_some (λ u. v) (set_at new t v) t.value
 
 abbrev pub unset_at : Target → Tree → Tree
 unset_at t v = removed t.place v
-
-abbrev pub recount : (ℤ → ℤ) → Tree → Tree
-recount f (integer m) = number (f m)
-recount f t = t
 
 abbrev pub count_at : (ℤ → ℤ) → Target → Tree → Tree
 count_at f t v = changed t.place (recount f) v

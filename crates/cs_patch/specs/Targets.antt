@@ -6,7 +6,7 @@ use Rattle.cs_value.specs.Tree.{Tree}
 use Rattle.cs_jsonmatch.specs.Path.{Item, named, Step, Path}
 use Rattle.cs_jsonmatch.specs.Places.{Location, places}
 use Rattle.cs_jsonmatch.specs.declared.places.Part.TheVariants.{Name}
-use Rattle.cs_patch.specs.Within.{at, Reach, present, absent, blocked, reach, is_inside}
+use Rattle.cs_alter.specs.Within.{at, Reach, present, absent, blocked, reach, is_inside}
 
 -- f of what is there, b where nothing is
 abbrev pub if_some : {A B : Type 0} → (A → B) → B → Option A → B

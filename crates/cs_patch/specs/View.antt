@@ -4,13 +4,11 @@ use Rattle.std.specs.List.{list_all}
 use Rattle.cs_value.specs.Tree.{Pairs, attributes}
 use Rattle.cs_value.specs.Words.{as_integer}
 use Rattle.cs_value.specs.View.{list_tree, fields}
-use Rattle.cs_patch.specs.Inserted.{Side, before, after, replace}
+use Rattle.cs_alter.specs.Alterations.{side}
 use Rattle.cs_patch.specs.Operations.{Insertion}
 use Rattle.cs_patch.specs.Patched.{Patch}
 use Rattle.cs_patch.specs.declared.patch.Patch.{Patch as CodePatch}
 use Rattle.cs_patch.specs.declared.patch.Insert.{Insert}
-use Rattle.cs_patch.specs.declared.patch.Side.{Side as CodeSide}
-use Rattle.cs_patch.specs.declared.patch.Side.TheVariants.{Before, After, Replace}
 
 -- every value is a whole number
 abbrev pub are_numbers : Pairs → Bool
@@ -22,11 +20,6 @@ AreNumbers ps = are_numbers ps ≡ true
 -- each name with its number: 0 where the value is none, which no patch that was read has
 abbrev pub numbers : Pairs → List (List ℕ × ℤ)
 numbers ps = map (λ e. (e.0, unwrap_or (as_integer e.1) (pos 0))) (attributes ps)
-
-abbrev pub side : CodeSide → Side
-side Before = before
-side After = after
-side Replace = replace
 
 abbrev pub insertion : Insert → Insertion
 insertion i = record { side = side i.side; path = i.path; items = list_tree i.items.items }

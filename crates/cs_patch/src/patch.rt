@@ -1,4 +1,5 @@
 //! Patches of documents, as they stand in a command.
+use cs_alter::Side;
 use cs_value::{Fields, Txt, Val};
 
 /// A patch: what a document is to become, by the paths at which it changes. A path stands as it is
@@ -31,15 +32,4 @@ pub struct Insert {
     pub path: Txt,
     /// What is put there.
     pub items: Vec<Val>,
-}
-
-/// Where items go: before or after elements of a list, or in their stead.
-#[derive(Drop)]
-pub enum Side {
-    /// Before the first of the elements.
-    Before,
-    /// After the last of them.
-    After,
-    /// In their stead, where the first of them was.
-    Replace,
 }

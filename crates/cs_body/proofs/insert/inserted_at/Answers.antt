@@ -1,6 +1,6 @@
 use Rattle.std.proofs.Common.{Some, None}
 use Rattle.cs_value.specs.View.{fields, list_tree}
-use Rattle.cs_patch.specs.View.{side}
+use Rattle.cs_alter.specs.Alterations.{side}
 use Rattle.cs_body.proofs.Taken.{inserted_asks}
 use Rattle.cs_body.proofs.insert.inserted_at.Goals as goal
 

@@ -1,0 +1,13 @@
+use Rattle.std.proofs.Common.{◌≡◌, ◌≤◌, ℕ, List, length, drop, map}
+use Rattle.cs_value.specs.View.{tree}
+use Rattle.cs_alter.specs.Within.{changed}
+use Rattle.cs_alter.specs.Alterations.{altered}
+use Rattle.cs_patch.specs.Seen.{seen, each_seen}
+use Rattle.cs_patch.proofs.all.alter_each.Given as goal
+
+abbrev pub invariant-loop-left : goal.invariant-loop-left
+invariant-loop-left l =
+    (l.left ≤ length l.targets.items) × ((ns : List (List ℕ)) → tree l.val ≡ each_seen (λ x. changed x.place (altered l.alteration)) (map (λ t. seen ns t.now) (drop l.left l.targets.items)) (tree l.fn.val))
+
+abbrev pub decreases-loop-left : goal.decreases-loop-left
+decreases-loop-left l = l.left

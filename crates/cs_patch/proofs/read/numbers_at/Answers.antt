@@ -1,0 +1,17 @@
+use Rattle.std.proofs.Common.{◌++◌, map, ap, sym, subst, ◌∙◌}
+use Rattle.cs_value.proofs.Views.{walked}
+use Rattle.cs_patch.specs.View.{numbers}
+use Rattle.cs_value.specs.View.{entries_tree}
+use Rattle.cs_patch.specs.Patched.{first_fault}
+use Rattle.cs_patch.specs.Entries.{number_at}
+use Rattle.cs_patch.specs.Readings.{AreShort, names_of}
+use Rattle.cs_patch.proofs.read.numbers_at.Goals as goal
+
+pub loop-text-init : goal.loop-text-init
+loop-text-init c =
+    let steps = c.into_iter-text-iterator.ensures.into_iter_gives ∙ c.iter-text-items.ensures.rest in
+    let all = walked c.args.values.now steps in (
+      ap (λ es. map number_at es ++ numbers (entries_tree c.into_iter-text-iterator.result)) c.new-entries.ensures.items ∙ ap numbers (sym all),
+      subst (λ ps. AreShort (names_of (numbers ps))) all c.requires,
+      ap (λ ps. first_fault (names_of (numbers ps))) all,
+    )

@@ -1,0 +1,23 @@
+use Rattle.std.proofs.Common.{map, refl, ap}
+use Rattle.cs_value.specs.View.{tree}
+use Rattle.cs_patch.specs.Operations.{and_then, dec_path, inc_path, unset_path}
+use Rattle.cs_patch.specs.Patched.{in_turn, maybe_insert}
+use Rattle.cs_patch.specs.Entries.{removal_at}
+use Rattle.cs_patch.specs.Read.{read_patch}
+use Rattle.cs_patch.proofs.Applied.{went_on, broke_off}
+use Rattle.cs_patch.proofs.read_patch.ReadPatch.from_unset.Goals as goal
+
+pub returns-in-Ok : goal.returns-in-Ok
+returns-in-Ok c =
+    let p = read_patch c.args.self.now in
+    went_on unset_path (λ o. and_then (maybe_insert p.insert) (and_then (in_turn dec_path p.dec) (and_then (in_turn inc_path p.inc) o)))
+    (map removal_at c.deref.result.now) p.unset (tree c.args.val.now)
+    (tree c.unset_all.new.val) (tree c.from_inc.new.val) c.from_inc.result
+    (ap (map removal_at) c.deref.ensures.value) c.in-Ok.ensures c.from_inc.ensures
+
+pub returns-in-Err : goal.returns-in-Err
+returns-in-Err c =
+    let p = read_patch c.args.self.now in
+    broke_off unset_path (λ o. and_then (maybe_insert p.insert) (and_then (in_turn dec_path p.dec) (and_then (in_turn inc_path p.inc) o)))
+    (map removal_at c.deref.result.now) p.unset (tree c.args.val.now) c.in-Err.fault
+    (λ r. refl) (ap (map removal_at) c.deref.ensures.value) c.in-Err.ensures

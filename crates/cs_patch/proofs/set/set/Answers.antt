@@ -1,0 +1,4 @@
+use Rattle.cs_patch.proofs.set.set.Goals as goal
+
+pub returns-in-Err : goal.returns-in-Err
+returns-in-Err c = c.told.ensures _ c.in-Err.ensures

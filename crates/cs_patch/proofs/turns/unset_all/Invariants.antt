@@ -1,0 +1,11 @@
+use Rattle.std.proofs.Common.{◌≡◌, drop, map}
+use Rattle.cs_value.specs.View.{tree}
+use Rattle.cs_patch.specs.Operations.{unset_path}
+use Rattle.cs_patch.specs.Patched.{in_turn}
+use Rattle.cs_patch.specs.Entries.{removal_at}
+use Rattle.cs_patch.proofs.turns.unset_all.Given as goal
+
+abbrev pub invariant-loop-entry : goal.invariant-loop-entry
+invariant-loop-entry l =
+    in_turn unset_path (map removal_at (drop l.entry-index l.entries)) (tree l.val)
+    ≡ in_turn unset_path (map removal_at l.entries) (tree l.fn.val)

@@ -1,0 +1,170 @@
+//! The targets of a path.
+ghost use Rattle.std.specs.Prelude.{◌≡◌, ◌++◌, IfOk, OnOk, List, [], ◌∷◌, ℕ, cond, filter, map};
+ghost use Rattle.std.specs.List.{list_any};
+ghost use Rattle.cs_value.specs.View.{tree};
+ghost use Rattle.cs_alter.specs.Within.{is_inside as inside_of, reach};
+ghost use Rattle.cs_patch.specs.Targets.{targets_from, target_by};
+ghost use Rattle.cs_patch.specs.Seen.{stands_of, way_of, seen, seen_of, outer_seen, is_absent, is_missing as missing_word};
+ghost use Rattle.cs_jsonmatch.specs.View.{locations};
+ghost use Rattle.cs_jsonmatch.specs.declared.places.Part.TheVariants.{Name};
+
+use cs_alter::{copy_parts, is_inside, look};
+use cs_jsonmatch::{Part, Place};
+use cs_value::{NoMemory, Txt, Val};
+use std::alloc::Global;
+
+// What stands at a target, as far as an operation asks.
+#[derive(Clone, Copy, Drop)]
+pub(crate) enum Stands {
+    // Something on the way is no object.
+    Blocked,
+    Absent,
+    Number(i64),
+    List,
+    Other,
+}
+
+// The place that the names lead on from, the location that they lead to, and what stands there.
+#[derive(Drop)]
+pub(crate) struct Target {
+    pub place: Vec<Part>,
+    pub location: Vec<Part>,
+    pub stands: Stands,
+}
+
+fn standing(val: &Val) -> Stands
+    ensures { result ≡ stands_of (tree val.now) }
+{
+    match val {
+        Val::Num(number) => Stands::Number(*number),
+        Val::List(_) => Stands::List,
+        _ => Stands::Other,
+    }
+}
+
+fn way(val: &Val, names: &[Txt]) -> Stands
+    ensures { result ≡ way_of (reach names.now (tree val.now)) }
+{
+    let mut here = val;
+    for name in names {
+        let Val::Obj(object) = here else {
+            return Stands::Blocked;
+        };
+        let Some(next) = object.get(name.as_str()) else {
+            return Stands::Absent;
+        };
+        here = next;
+    }
+    standing(here)
+}
+
+fn location(alloc: Global, place: &[Part], names: &[Txt]) -> Result<Vec<Part>, NoMemory>
+    ensures { IfOk result (λ parts. parts.items ≡ place.now ++ map Name names.now) }
+{
+    let mut parts = copy_parts(alloc, place)?;
+    for name in names {
+        parts.push(Part::Name(Txt::copy_of(alloc, name.as_str())?))?;
+    }
+    Ok(parts)
+}
+
+// The target that the names lead to from a place of the value, where nothing on the way blocks.
+fn add_target(
+    alloc: Global,
+    start: &Val,
+    place: &Place,
+    names: &[Txt],
+    found: &mut Vec<Target>,
+) -> Result<(), NoMemory>
+    ensures { OnOk result (map (seen names.now) found.new.items
+        ≡ map (seen names.now) found.old.items ++ map seen_of
+        (target_by place.now.parts.items names.now (reach names.now (tree start.now)))) }
+{
+    let stands = way(start, names);
+    if let Stands::Blocked = stands {
+        return Ok(());
+    }
+    found.push(Target {
+        place: copy_parts(alloc, &place.parts)?,
+        location: location(alloc, &place.parts, names)?,
+        stands,
+    })?;
+    Ok(())
+}
+
+pub(crate) fn targets(
+    alloc: Global,
+    val: &Val,
+    places: &[Place],
+    names: &[Txt],
+) -> Result<Vec<Target>, NoMemory>
+    ensures { IfOk result (λ ts. map (seen names.now) ts.items
+        ≡ map seen_of (targets_from (tree val.now) names.now (locations places.now))) }
+{
+    let mut found = Vec::new(alloc);
+    for place in places {
+        if let Some(start) = look(val, &place.parts) {
+            add_target(alloc, start, place, names, &mut found)?;
+        }
+    }
+    Ok(found)
+}
+
+// Whether a target is inside one of the targets.
+fn is_inside_some(target: &Target, targets: &[Target]) -> bool
+    ensures { result ≡ list_any (λ u. inside_of target.now.location.items u.location.items)
+        targets.now }
+{
+    for other in targets {
+        if is_inside(&target.location, &other.location) {
+            return true;
+        }
+    }
+    false
+}
+
+fn keep<'t>(keeps: bool, target: &'t Target, kept: &mut Vec<&'t Target>) -> Result<(), NoMemory>
+    ensures { (ns : List (List ℕ)) → OnOk result (map (λ t. seen ns t.now) kept.new.items
+        ≡ map (λ t. seen ns t.now) kept.old.items ++ cond keeps (seen ns target.now ∷ []) []) }
+{
+    if keeps {
+        kept.push(target)?;
+    }
+    Ok(())
+}
+
+// The targets that are inside no other one.
+pub(crate) fn outermost<'t>(
+    alloc: Global,
+    targets: &'t [Target],
+) -> Result<Vec<&'t Target>, NoMemory>
+    ensures { (ns : List (List ℕ)) → IfOk result
+        (λ kept. map (λ t. seen ns t.now) kept.items ≡ outer_seen (map (seen ns) targets.now)) }
+{
+    let mut kept = Vec::new(alloc);
+    for target in targets {
+        keep(!is_inside_some(target, targets), target, &mut kept)?;
+    }
+    Ok(kept)
+}
+
+fn is_missing(target: &Target) -> bool
+    ensures { result ≡ is_absent target.now.stands }
+{
+    matches!(target.stands, Stands::Absent)
+}
+
+// The targets where nothing stands.
+pub(crate) fn missing<'t>(
+    alloc: Global,
+    targets: &[&'t Target],
+) -> Result<Vec<&'t Target>, NoMemory>
+    ensures { (ns : List (List ℕ)) → IfOk result (λ kept. map (λ t. seen ns t.now) kept.items
+        ≡ filter missing_word (map (λ t. seen ns t.now) targets.now)) }
+{
+    let mut kept = Vec::new(alloc);
+    for target in targets {
+        keep(is_missing(target), target, &mut kept)?;
+    }
+    Ok(kept)
+}
