@@ -9,7 +9,7 @@ ghost use Rattle.cs_body.specs.View.{action, txn as transaction};
 ghost use Rattle.cs_txn.specs.Commit.{commit, folded, held};
 ghost use Rattle.cs_txn.specs.View.{IsRefusal};
 ghost use Rattle.cs_txn.specs.Visits.{are_simple, costs};
-ghost use Rattle.cs_txn.specs.Within.{without_patches, AreShort};
+ghost use Rattle.cs_txn.specs.Within.{AreShort};
 ghost use Rattle.cs_working.specs.Working.{base, working as working_docs};
 
 use crate::mutate::mutate;
@@ -31,7 +31,6 @@ fn fold<L: Ledger>(
 ) -> Result<(), Refusal>
     requires few { length txn.now.mutations.items < 2 ^ 31 }
     requires short { AreShort (transaction txn.now).actions }
-    requires unpatched { without_patches (transaction txn.now).actions ≡ true }
     ensures store { base working.new ≡ base working.old }
     ensures folded { OnOk result (folded txn.now.id moment.now 0 (transaction txn.now).actions
         (working_docs working.old) ≡ Ok (working_docs working.new)) }
@@ -78,8 +77,8 @@ fn refusal_of(fault: PrepareFault) -> Refusal
 /// are asked for after the last mutation alone.
 ///
 /// `referrers` knows who refers to an id in the store's dataset. There are fewer than 2^31
-/// mutations, none of them a patch, and each query text has fewer than 2^32 bytes. A query that is
-/// simple visits no more documents than have its key.
+/// mutations, and each text of a query and of a patch's path has fewer than 2^32 bytes. A query
+/// that is simple visits no more documents than have its key.
 ///
 /// The first mutation that is refused ends the transaction, and the refusal has its index.
 /// `FullDocuments` and `Dangling` are of the whole transaction and have none. `NoMemory` comes where
@@ -95,7 +94,6 @@ pub fn prepare<R: Referrers, L: Ledger>(
     requires same { R.dataset referrers.now ≡ docs_of docs.now }
     requires few { length txn.now.mutations.items < 2 ^ 31 }
     requires short { AreShort (transaction txn.now).actions }
-    requires unpatched { without_patches (transaction txn.now).actions ≡ true }
     ensures accepted { IfOk result (λ p. commit (transaction txn.now) moment.now (docs_of docs.now)
         ≡ Ok (After (docs_of docs.now) (prepared p))) }
     ensures changes { IfOk result (λ p. AreChangesBetween (docs_of docs.now)

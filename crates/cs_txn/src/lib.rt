@@ -1,6 +1,7 @@
 //! Transactions: what each comes to over a store's dataset, and the laws of these.
 #![tactic(auto)]
 
+mod change;
 mod commit;
 mod delete;
 mod find;

@@ -1,5 +1,5 @@
 //! What one mutation does to the dataset that a transaction works on.
-ghost use Rattle.std.specs.Prelude.{◌≡◌, ◌≤◌, ◌+◌, ℕ, List, true, false, Ok, Err, OnOk, IfOk, IfErr};
+ghost use Rattle.std.specs.Prelude.{◌≡◌, ◌≤◌, ◌+◌, ℕ, List, true, Ok, Err, OnOk, IfOk, IfErr};
 ghost use Rattle.cs_value.specs.Tree.{Tree};
 ghost use Rattle.cs_value.specs.View.{tree};
 ghost use Rattle.cs_view.specs.Document.{id_of, is_body, is_shallow};
@@ -8,9 +8,10 @@ ghost use Rattle.cs_txn.specs.Install.{with_made_id};
 ghost use Rattle.cs_txn.specs.Mutated.{Attempt, installed, created, replaced, kept_or_created, done};
 ghost use Rattle.cs_txn.specs.View.{IsTold};
 ghost use Rattle.cs_txn.specs.Visits.{is_simple_action, action_cost};
-ghost use Rattle.cs_txn.specs.Within.{is_patch, IsShort};
+ghost use Rattle.cs_txn.specs.Within.{IsShort};
 ghost use Rattle.cs_working.specs.Working.{base, working as docs_of};
 
+use crate::change::change;
 use crate::delete::delete;
 use crate::named::id_in;
 use crate::stamp::{entered, with_made_id};
@@ -165,7 +166,6 @@ pub(crate) fn mutate<L: Ledger>(
     index: u32,
     steps: &mut Steps<L>,
 ) -> Result<(), Why>
-    requires unpatched { is_patch (action mutation.now) ≡ false }
     requires short { IsShort (action mutation.now) }
     ensures store { base working.new ≡ base working.old }
     ensures done { OnOk result (done tx.now moment.now index (docs_of working.old)
@@ -180,6 +180,10 @@ pub(crate) fn mutate<L: Ledger>(
         Mutation::Replace(body) => replace(alloc, working, body, tx, moment),
         Mutation::IfNone(body) => create_if_none(alloc, working, body, tx, moment),
         Mutation::Delete(target) => delete(alloc, working, target, steps),
-        Mutation::Change { .. } => unreachable!(),
+        Mutation::Change {
+            target,
+            patch,
+            diff,
+        } => change(alloc, working, target, patch, *diff, tx, moment, steps),
     }
 }

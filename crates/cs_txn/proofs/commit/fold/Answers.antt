@@ -6,7 +6,7 @@ use Rattle.cs_body.specs.View.{action}
 use Rattle.cs_working.specs.Working.{working}
 use Rattle.cs_txn.specs.Commit.{folded}
 use Rattle.cs_txn.specs.Visits.{is_simple_action, are_simple, costs}
-use Rattle.cs_txn.specs.Within.{without_patches, AreShort}
+use Rattle.cs_txn.specs.Within.{AreShort}
 use Rattle.cs_txn.proofs.Folding.{one_more_folded, one_more_cost, last_cost}
 use Rattle.cs_txn.proofs.commit.fold.Goals as goal
 
@@ -31,7 +31,6 @@ loop-mutation-preserved g c =
       at = ap (λ n. n + 1) l.invariant.at;
       store = c.in-Ok.ensures.store ∙ l.invariant.store;
       short = (subst AreShort here l.invariant.short).1;
-      unpatched = and-right _ _ (sym (ap without_patches here) ∙ l.invariant.unpatched);
       to_come = one_more_folded tx moment l.index docs m rest now
           all c.in-Ok.ensures.done
           (subst (λ (ms : List Action). folded tx moment l.index ms docs ≡ all) here

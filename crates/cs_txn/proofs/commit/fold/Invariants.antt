@@ -3,7 +3,7 @@ use Rattle.cs_body.specs.View.{action}
 use Rattle.cs_working.specs.Working.{base, working}
 use Rattle.cs_txn.specs.Commit.{folded}
 use Rattle.cs_txn.specs.Visits.{are_simple, costs}
-use Rattle.cs_txn.specs.Within.{without_patches, AreShort}
+use Rattle.cs_txn.specs.Within.{AreShort}
 use Rattle.cs_txn.proofs.commit.fold.Given as goal
 
 abbrev pub invariant-loop-mutation : goal.invariant-loop-mutation
@@ -14,7 +14,6 @@ invariant-loop-mutation g l =
       at : l.index ≡ l.mutation-index;
       store : base l.working ≡ base l.fn.working;
       short : AreShort left;
-      unpatched : without_patches left ≡ true;
       to_come : folded l.txn.id l.moment l.index left (working l.working)
           ≡ folded l.txn.id l.moment 0 all (working l.fn.working);
       simple : are_simple all ≡ true → are_simple left ≡ true;
