@@ -1,0 +1,6 @@
+pub mod Agree
+pub mod Items
+pub mod Parts
+pub mod Quiet
+pub mod Shapes
+pub mod Tested

@@ -1,0 +1,7 @@
+pub mod Forms
+pub mod Holds
+pub mod Laws
+pub mod Operands
+pub mod Plain
+pub mod Predicates
+pub mod Truths

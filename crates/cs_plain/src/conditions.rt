@@ -1,0 +1,288 @@
+//! The truth of conditions over one document.
+ghost use Rattle.std.specs.Prelude.{◌≡◌, map};
+ghost use Rattle.cs_syntax.specs.Expression.{arguments_of, elements_of, operands_of};
+ghost use Rattle.cs_syntax.specs.View.{expression, arg as argument_of, elem as element_of, operands};
+ghost use Rattle.cs_syntax.specs.Faults.{is_path};
+ghost use Rattle.cs_ops.specs.Truth.{both, either, opposite};
+ghost use Rattle.cs_value.specs.View.{tree, fields};
+ghost use Rattle.cs_parts.specs.Callees.{meant};
+ghost use Rattle.cs_plain.specs.Operands.{tree_of};
+ghost use Rattle.cs_plain.specs.Truths.{first_value, rest_of, some_referred, some_equal, contained, tested, comparison, compared, junction, decides, is_joining, flipped, condition_truth, joined_truth};
+
+use crate::operand::{
+    Operand, begins, between, defined, equal, matches_path, partial, refers_to, truth, within,
+};
+use crate::values::{argument, one, operand};
+use cs_func::Function;
+use cs_parts::{Callee, callee_of};
+use cs_syntax::{Arg, BinSign, Elem, Expr, PreSign};
+use cs_value::{Fields, Val};
+
+fn both(a: Option<bool>, b: Option<bool>) -> Option<bool>
+    ensures { result ≡ both a b }
+{
+    match (a, b) {
+        (Some(false), _) | (_, Some(false)) => Some(false),
+        (Some(true), Some(true)) => Some(true),
+        _ => None,
+    }
+}
+
+fn either(a: Option<bool>, b: Option<bool>) -> Option<bool>
+    ensures { result ≡ either a b }
+{
+    match (a, b) {
+        (Some(true), _) | (_, Some(true)) => Some(true),
+        (Some(false), Some(false)) => Some(false),
+        _ => None,
+    }
+}
+
+fn junction(sign: BinSign, a: Option<bool>, b: Option<bool>) -> Option<bool>
+    ensures { result ≡ junction sign a b }
+{
+    match sign {
+        BinSign::And => both(a, b),
+        BinSign::Or => either(a, b),
+        _ => None,
+    }
+}
+
+// Whether the left side alone decides.
+fn decides(sign: BinSign, left: Option<bool>) -> bool
+    ensures { result ≡ decides sign left }
+{
+    match (sign, left) {
+        (BinSign::And, Some(false)) => true,
+        (BinSign::Or, Some(true)) => true,
+        _ => false,
+    }
+}
+
+fn comparison(sign: BinSign, a: Operand<'_>, b: Operand<'_>) -> Option<bool>
+    ensures { result ≡ comparison sign (tree_of a.entry) (tree_of b.entry) }
+{
+    match sign {
+        BinSign::Eq => Some(equal(a, b)),
+        BinSign::Ne => Some(!equal(a, b)),
+        BinSign::Lt => match partial(a, b) {
+            Some(order) => Some(order.is_lt()),
+            None => None,
+        },
+        BinSign::Le => match partial(a, b) {
+            Some(order) => Some(order.is_le()),
+            None => None,
+        },
+        BinSign::Gt => match partial(a, b) {
+            Some(order) => Some(order.is_gt()),
+            None => None,
+        },
+        BinSign::Ge => match partial(a, b) {
+            Some(order) => Some(order.is_ge()),
+            None => None,
+        },
+        _ => None,
+    }
+}
+
+#[tactic(auto, unfolding(cs_syntax::specs::View::operands))]
+fn compared(rest: &[(BinSign, Expr)], params: &Fields, doc: &Val, a: Operand<'_>) -> Option<bool>
+    ensures { result ≡ compared (fields params.now) (tree doc.now)
+        (operands_of (operands rest.now)) (tree_of a.entry) }
+{
+    let (first, others) = rest.split_first()?;
+    if let Some(_) = others.split_first() {
+        return None;
+    }
+    comparison(first.0, a, operand(&first.1, params, doc))
+}
+
+#[tactic(auto, unfolding(cs_syntax::specs::View::operands))]
+fn is_joining(rest: &[(BinSign, Expr)]) -> bool
+    ensures { result ≡ is_joining (operands_of (operands rest.now)) }
+{
+    match rest.split_first() {
+        None => true,
+        Some((first, _)) => match first.0 {
+            BinSign::And | BinSign::Or => true,
+            _ => false,
+        },
+    }
+}
+
+fn opposite(a: Option<bool>) -> Option<bool>
+    ensures { result ≡ opposite a }
+{
+    match a {
+        Some(b) => Some(!b),
+        None => None,
+    }
+}
+
+fn flipped(signs: &[PreSign], a: Option<bool>) -> Option<bool>
+    ensures { result ≡ flipped signs.now a }
+{
+    let mut truth = a;
+    let mut left = signs;
+    while let Some((sign, later)) = left.split_first() {
+        match sign {
+            PreSign::Not => truth = opposite(truth),
+            _ => return None,
+        }
+        left = later;
+    }
+    truth
+}
+
+fn first<'v>(args: &'v [Arg], params: &'v Fields, doc: &'v Val) -> Operand<'v>
+    ensures { tree_of result ≡ first_value (fields params.now) (tree doc.now)
+        (arguments_of (map argument_of args.now)) }
+{
+    match args.split_first() {
+        Some((arg, _)) => argument(arg, params, doc),
+        None => Operand::Null,
+    }
+}
+
+// What stands behind the first argument.
+fn rest(args: &[Arg]) -> &[Arg]
+    ensures { arguments_of (map argument_of result.now)
+        ≡ rest_of (arguments_of (map argument_of args.now)) }
+{
+    match args.split_first() {
+        Some((_, others)) => others,
+        None => args,
+    }
+}
+
+fn some_referred(args: &[Arg], params: &Fields, doc: &Val) -> bool
+    ensures { result ≡ some_referred (fields params.now) (tree doc.now)
+        (arguments_of (map argument_of args.now)) }
+{
+    let mut left = args;
+    while let Some((arg, later)) = left.split_first() {
+        if refers_to(doc, argument(arg, params, doc)) {
+            return true;
+        }
+        left = later;
+    }
+    false
+}
+
+#[tactic(auto, unfolding(cs_syntax::specs::View::elem, cs_syntax::specs::View::expression))]
+fn some_equal(elements: &[Elem], params: &Fields, doc: &Val, a: Operand<'_>) -> bool
+    ensures { result ≡ some_equal (fields params.now) (tree doc.now)
+        (elements_of (map element_of elements.now)) (tree_of a.entry) }
+{
+    let mut left = elements;
+    while let Some((element, later)) = left.split_first() {
+        if let Elem::One(expr) = element {
+            if equal(operand(expr, params, doc), a) {
+                return true;
+            }
+        }
+        left = later;
+    }
+    false
+}
+
+/// Whether a call is one of `path`.
+pub(crate) fn is_path(name: &str) -> bool
+    ensures { result ≡ is_path name.now }
+{
+    name == "path"
+}
+
+// Whether the value is in what stands on the right of `in`.
+#[tactic(auto, using(cs_syntax::proofs::Views::expression_call, cs_syntax::proofs::Views::expression_array), unfolding(cs_syntax::specs::View::expression))]
+fn contained(right: &Expr, params: &Fields, doc: &Val, a: Operand<'_>) -> Option<bool>
+    ensures { result ≡ contained (fields params.now) (tree doc.now) (expression right.now)
+        (tree_of a.entry) }
+{
+    match right {
+        Expr::Array(elements) => Some(some_equal(elements, params, doc, a)),
+        Expr::Call { name, args } => {
+            if is_path(name.as_str()) {
+                matches_path(a, one(args, params, doc))
+            } else {
+                within(a, operand(right, params, doc))
+            }
+        }
+        _ => within(a, operand(right, params, doc)),
+    }
+}
+
+// The truth of a call.
+fn tested(callee: Callee, args: &[Arg], params: &Fields, doc: &Val) -> Option<bool>
+    ensures { result ≡ tested (meant callee) (fields params.now) (tree doc.now)
+        (arguments_of (map argument_of args.now)) }
+{
+    match callee {
+        Callee::Values(Some(Function::Defined)) => defined(one(args, params, doc)),
+        Callee::Values(Some(Function::StartsWith)) => {
+            begins(first(args, params, doc), one(rest(args), params, doc))
+        }
+        Callee::References => Some(some_referred(args, params, doc)),
+        _ => None,
+    }
+}
+
+/// The truth of a condition over the document.
+#[cycle(condition)]
+#[tactic(auto, using(cs_syntax::proofs::Views::expression_call, cs_syntax::proofs::Views::expression_run), unfolding(cs_syntax::specs::View::expression))]
+pub(crate) fn condition(expr: &Expr, params: &Fields, doc: &Val) -> Option<bool>
+    ensures { result ≡ condition_truth (fields params.now) (tree doc.now) (expression expr.now) }
+{
+    match expr {
+        Expr::Round(inner) => condition(inner, params, doc),
+        Expr::Run { first, rest } => {
+            if is_joining(rest) {
+                joined(condition(first, params, doc), rest, params, doc)
+            } else {
+                compared(rest, params, doc, operand(first, params, doc))
+            }
+        }
+        Expr::Prefix { signs, operand } => flipped(signs, condition(operand, params, doc)),
+        Expr::Within { left, right } => contained(right, params, doc, operand(left, params, doc)),
+        Expr::Between {
+            left,
+            from,
+            to,
+            closed,
+        } => between(
+            operand(left, params, doc),
+            operand(from, params, doc),
+            operand(to, params, doc),
+            *closed,
+        ),
+        Expr::Call { name, args } => tested(callee_of(name.as_str()), args, params, doc),
+        _ => truth(operand(expr, params, doc)),
+    }
+}
+
+// The truth of a run of `&&` or `||`.
+#[cycle(condition)]
+#[tactic(auto, unfolding(cs_syntax::specs::View::operands))]
+fn joined(first: Option<bool>, rest: &[(BinSign, Expr)], params: &Fields, doc: &Val) -> Option<bool>
+    ensures { result ≡ joined_truth (fields params.now) (tree doc.now)
+        (operands_of (operands rest.now)) first }
+{
+    let mut truth = first;
+    for (sign, right) in rest {
+        truth = join(*sign, truth, right, params, doc);
+    }
+    truth
+}
+
+// One `&&` or `||`, whose right side is left out where the left one decides.
+#[cycle(condition)]
+#[tactic(auto, using(crate::proofs::Parts::decided))]
+fn join(sign: BinSign, left: Option<bool>, right: &Expr, params: &Fields, doc: &Val) -> Option<bool>
+    ensures { result ≡ junction sign left (condition_truth (fields params.now) (tree doc.now)
+        (expression right.now)) }
+{
+    if decides(sign, left) {
+        return left;
+    }
+    junction(sign, left, condition(right, params, doc))
+}
