@@ -1,17 +1,21 @@
 -- What contracts see of the replies that are written.
-use Rattle.std.specs.Prelude.{◌≡◌, ℕ, List, ◌++◌, map}
+use Rattle.std.specs.Prelude.{◌≡◌, ℕ, List, ◌++◌, map, option_map}
 use Rattle.cs_value.specs.Tree.{Tree}
+use Rattle.cs_value.specs.View.{tree}
 use Rattle.cs_json.specs.Nodes.{node_tree}
 use Rattle.cs_reply.specs.Refusal as why
 use Rattle.cs_reply.specs.Reply as said
 use Rattle.cs_reply.specs.Stated as stated
 use Rattle.cs_reply.specs.declared.refusal.Refusal.{Refusal}
-use Rattle.cs_reply.specs.declared.refusal.Refusal.TheVariants.{NotJson, TooDeep, NotWhole, BadCommand, NotBuilt, BadToken, DeepQuery, Syntax, Unsupported, UnknownFunction, Arity, NoKey, BadMoment, BadTx, TxUsed}
+use Rattle.cs_reply.specs.declared.refusal.Refusal.TheVariants.{NotJson, TooDeep, NotWhole, BadCommand, NotBuilt, BadToken, DeepQuery, Syntax, Unsupported, UnknownFunction, Arity, NoKey, NotListenable, NameUsed, FullSubscriptions, NoName, BadMoment, BadTx, TxUsed}
+use Rattle.cs_reply.specs.declared.event.Event.{Event}
+use Rattle.cs_reply.specs.declared.event.Transition.{Transition}
+use Rattle.cs_reply.specs.declared.event.Transition.TheVariants as heard
 use Rattle.cs_reply.specs.declared.reply.Operation.{Operation}
 use Rattle.cs_reply.specs.declared.reply.Operation.TheVariants.{Create, Update, Delete}
 use Rattle.cs_reply.specs.declared.reply.Outcome.{Outcome}
 use Rattle.cs_reply.specs.declared.reply.Reply.{Reply}
-use Rattle.cs_reply.specs.declared.reply.Reply.TheVariants.{Committed, Found, Set, Refused}
+use Rattle.cs_reply.specs.declared.reply.Reply.TheVariants.{Committed, Found, Welcome, Heard, Stopped, Set, Refused}
 use Rattle.cs_reply.specs.declared.stated.Cause.{Cause}
 use Rattle.cs_reply.specs.declared.stated.Cause.TheVariants as line
 use Rattle.cs_reply.specs.declared.stated.Source.{Source}
@@ -32,6 +36,10 @@ refusal (Unsupported name) = why.unsupported name.now
 refusal (UnknownFunction name) = why.unknown_function name.now
 refusal (Arity name) = why.arity name.now
 refusal NoKey = why.no_key
+refusal NotListenable = why.not_listenable
+refusal (NameUsed name) = why.name_used name.now
+refusal (FullSubscriptions limit) = why.full_subscriptions limit
+refusal (NoName name) = why.no_name name.now
 refusal BadMoment = why.bad_moment
 refusal BadTx = why.bad_tx
 refusal (TxUsed id) = why.tx_used id.now
@@ -44,9 +52,30 @@ operation Delete = said.delete
 abbrev pub outcome : Outcome → List ℕ × said.Operation
 outcome o = (o.id.now, operation o.operation)
 
+abbrev pub transition : Transition → said.Transition
+transition heard.Appear = said.appear
+transition heard.Update = said.changed
+transition heard.Disappear = said.disappear
+
+abbrev pub event : Event → said.Event
+event e = record {
+  listener = e.listener.now;
+  id = e.id.now;
+  transition = transition e.transition;
+  previous_rev = option_map (λ s. s.now) e.previous_rev;
+  result_rev = option_map (λ s. s.now) e.result_rev;
+  previous = option_map (λ v. tree v.now) e.previous;
+  result = option_map (λ v. tree v.now) e.result;
+  tx = e.tx.now;
+  moment = e.moment.now;
+}
+
 abbrev pub reply : Reply → said.Reply
 reply (Committed tx outcomes) = said.committed tx.now (map outcome outcomes.now)
 reply (Found node) = said.found (node_tree node)
+reply (Welcome name) = said.welcome name.now
+reply (Heard e) = said.event (event e)
+reply (Stopped name) = said.stopped name.now
 reply (Set moment) = said.set moment.now
 reply (Refused r) = said.refused (refusal r)
 

@@ -2,6 +2,7 @@
 //! parts: no value is copied.
 #![tactic(auto)]
 
+mod event;
 mod line;
 mod refusal;
 mod reply;
@@ -9,6 +10,7 @@ mod stated;
 #[cfg(test)]
 mod tests;
 
+pub use event::{Event, Transition};
 pub use line::write_value;
 pub use refusal::Refusal;
 pub use reply::{Operation, Outcome, Reply};

@@ -37,6 +37,14 @@ pub enum Refusal<'a> {
     Arity { name: &'a str },
     /// A value in a projection of a query has no name of its own.
     NoKey,
+    /// A query is none that can be listened to.
+    NotListenable,
+    /// A live query or a listener has the name.
+    NameUsed { name: &'a str },
+    /// As many live queries, or as many listeners, stand as may.
+    FullSubscriptions { limit: u32 },
+    /// No live query and no listener has the name.
+    NoName { name: &'a str },
     /// A text is no moment.
     BadMoment,
     /// The id that is given for a transaction has not the form of one.
@@ -85,6 +93,24 @@ fn with_name(
     write_line(alloc, members, out)
 }
 
+fn full_subscriptions(
+    alloc: Global,
+    limit: u32,
+    line: u32,
+    out: &mut Vec<u8>,
+) -> Result<(), NoMemory>
+    ensures { OnOk result (Appended out.old.items out.new.items (object_of
+        ((codes "line", number line) ∷ (codes "error", text (codes "full-subscriptions"))
+        ∷ (codes "limit", number limit) ∷ []))) }
+{
+    let members = vec![in alloc;
+        member("error", text("full-subscriptions")),
+        member("limit", number(limit)),
+        member("line", number(line)),
+    ]?;
+    write_line(alloc, members, out)
+}
+
 fn tx_used(alloc: Global, id: &str, line: u32, out: &mut Vec<u8>) -> Result<(), NoMemory>
     ensures { OnOk result (Appended out.old.items out.new.items (object_of
         ((codes "line", number line) ∷ (codes "error", text (codes "tx-used"))
@@ -124,6 +150,10 @@ impl Refusal<'_> {
             ),
             Refusal::Arity { name } => with_name(alloc, "arity", name, line, out),
             Refusal::NoKey => plain(alloc, "no-key", line, out),
+            Refusal::NotListenable => plain(alloc, "not-listenable", line, out),
+            Refusal::NameUsed { name } => with_name(alloc, "name-used", name, line, out),
+            Refusal::FullSubscriptions { limit } => full_subscriptions(alloc, limit, line, out),
+            Refusal::NoName { name } => with_name(alloc, "no-name", name, line, out),
             Refusal::BadMoment => plain(alloc, "bad-moment", line, out),
             Refusal::BadTx => plain(alloc, "bad-tx", line, out),
             Refusal::TxUsed { id } => tx_used(alloc, id, line, out),

@@ -3,9 +3,10 @@ ghost use Rattle.std.specs.Prelude.{◌≡◌, OnOk, IfOk, ◌∷◌, [], codes,
 ghost use Rattle.cs_value.specs.Tree.{text, list, trees};
 ghost use Rattle.cs_json.specs.Nodes.{node_tree};
 ghost use Rattle.cs_reply.specs.Fields.{object_of, number};
-ghost use Rattle.cs_reply.specs.Reply.{operation_word, reply_tree, committed, found, set, outcome as outcome_tree};
+ghost use Rattle.cs_reply.specs.Reply.{operation_word, reply_tree, committed, found, welcome, stopped, set, outcome as outcome_tree};
 ghost use Rattle.cs_reply.specs.View.{operation, outcome, reply, Appended};
 
+use crate::event::{Event, write_event};
 use crate::line::{list, member, number, text, write_line};
 use crate::refusal::Refusal;
 use cs_json::Node;
@@ -55,6 +56,12 @@ pub enum Reply<'a> {
     },
     /// What a query found.
     Found(Node<'a>),
+    /// A listener of this name listens.
+    Welcome(&'a str),
+    /// What a listener hears of a change.
+    Heard(Event<'a>),
+    /// The live query or the listener of this name was stopped.
+    Stopped(&'a str),
     /// The moment of the transactions that follow was set.
     Set(&'a str),
     /// The line is refused.
@@ -111,6 +118,26 @@ fn write_found(alloc: Global, node: Node<'_>, line: u32, out: &mut Vec<u8>) -> R
     write_line(alloc, members, out)
 }
 
+fn write_welcome(alloc: Global, name: &str, line: u32, out: &mut Vec<u8>) -> Result<(), NoMemory>
+    ensures { OnOk result (Appended out.old.items out.new.items
+        (reply_tree line (welcome name.now))) }
+{
+    let members = vec![in alloc;
+        member("line", number(line)),
+        member("listener", text(name)),
+        member("type", text("welcome")),
+    ]?;
+    write_line(alloc, members, out)
+}
+
+fn write_stopped(alloc: Global, name: &str, line: u32, out: &mut Vec<u8>) -> Result<(), NoMemory>
+    ensures { OnOk result (Appended out.old.items out.new.items
+        (reply_tree line (stopped name.now))) }
+{
+    let members = vec![in alloc; member("line", number(line)), member("stopped", text(name))]?;
+    write_line(alloc, members, out)
+}
+
 fn write_set(alloc: Global, moment: &str, line: u32, out: &mut Vec<u8>) -> Result<(), NoMemory>
     ensures { OnOk result (Appended out.old.items out.new.items
         (reply_tree line (set moment.now))) }
@@ -129,6 +156,9 @@ impl Reply<'_> {
         match self {
             Reply::Committed { tx, outcomes } => write_committed(alloc, tx, outcomes, line, out),
             Reply::Found(node) => write_found(alloc, node, line, out),
+            Reply::Welcome(name) => write_welcome(alloc, name, line, out),
+            Reply::Heard(event) => write_event(alloc, event, line, out),
+            Reply::Stopped(name) => write_stopped(alloc, name, line, out),
             Reply::Set(moment) => write_set(alloc, moment, line, out),
             Reply::Refused(refusal) => refusal.write(alloc, line, out),
         }

@@ -55,6 +55,18 @@ fn writes_replies(rt: HostRuntime) -> Result<(), Fail> {
             "{\"at\":2,\"error\":\"bad-token\",\"line\":7}\n",
         ),
         (
+            Refusal::NotListenable,
+            "{\"error\":\"not-listenable\",\"line\":7}\n",
+        ),
+        (
+            Refusal::NameUsed { name: "a" },
+            "{\"error\":\"name-used\",\"line\":7,\"name\":\"a\"}\n",
+        ),
+        (
+            Refusal::FullSubscriptions { limit: 1024 },
+            "{\"error\":\"full-subscriptions\",\"limit\":1024,\"line\":7}\n",
+        ),
+        (
             Refusal::BadMoment,
             "{\"error\":\"bad-moment\",\"line\":7}\n",
         ),
