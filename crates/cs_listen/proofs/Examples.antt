@@ -7,7 +7,7 @@ use Rattle.cs_parse.specs.Spelling.{expression_in}
 use Rattle.cs_parse.specs.Tokens.{tokens_from}
 use Rattle.cs_parse.specs.Verdict.{Reading, query, verdict}
 use Rattle.cs_reply.specs.Reply.{Event, Transition, appear, changed, disappear}
-use Rattle.cs_listen.specs.Plain.{listened_filter}
+use Rattle.cs_plain.specs.Plain.{listened_filter}
 use Rattle.cs_listen.specs.Events.{Listener, events}
 
 abbrev whole : ℕ → Tree

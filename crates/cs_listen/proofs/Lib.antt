@@ -1,2 +1,2 @@
 mod Examples
-mod Quiet
+pub mod Without

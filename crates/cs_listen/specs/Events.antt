@@ -1,12 +1,11 @@
 -- What a listener hears of changes: Sanity's HTTP documentation, "Listening", in this project's
 -- profile.
-use Rattle.std.specs.Prelude.{ℕ, List, [], ◌∷◌, Bool, true, false, cond, Option, Some, None, flat_map, filter_map, option_map}
-use Rattle.cs_value.specs.Tree.{Tree, null, Pairs}
+use Rattle.std.specs.Prelude.{ℕ, List, Bool, true, false, cond, Option, Some, None, flat_map, filter_map, option_map}
+use Rattle.cs_value.specs.Tree.{Tree, Pairs}
 use Rattle.cs_syntax.specs.Expression.{Expression}
 use Rattle.cs_view.specs.Changes.{Edit}
 use Rattle.cs_view.specs.Document.{rev_of}
-use Rattle.cs_meaning.specs.Operators.{is_true}
-use Rattle.cs_meaning.specs.Values.{value}
+use Rattle.cs_plain.specs.Holds.{holds}
 use Rattle.cs_reply.specs.Reply.{Event, Transition, appear, changed, disappear}
 
 -- a listener: its name, the filter that it watches, and which documents its events carry
@@ -16,11 +15,6 @@ pub record Listener : Type 0 where
   pub params : Pairs
   pub with_result : Bool
   pub with_previous : Bool
-
--- The filter is true of a document, which stands in a scope of its own in front of null. No other
--- document is asked.
-abbrev pub holds : Expression → Pairs → Tree → Bool
-holds filter params d = is_true (value [] params filter (d ∷ null ∷ []))
 
 -- the filter is true of what stands there; of nothing it is not
 abbrev pub sees : Expression → Pairs → Option Tree → Bool

@@ -1,5 +1,10 @@
-//! Listeners: which filters they may have and what they hear of changes, as definitions, and the
-//! laws of these.
+//! Listeners: which ones stand, and what they hear of changes.
 #![tactic(auto)]
 
-pub mod laws;
+mod listeners;
+mod listening;
+mod transition;
+
+pub use cs_reply::{Event, Transition};
+pub use listeners::{ListenFault, Listeners, MOST_LISTENERS};
+pub use transition::transition_of;

@@ -1,0 +1,157 @@
+//! The listeners of a store.
+ghost use Rattle.std.specs.Prelude.{◌≡◌, ◌<◌, [], Some, true, false, IfOk, IfErr, OnOk, OnErr, IsOk, length, map};
+ghost use Rattle.cs_value.specs.View.{fields};
+ghost use Rattle.cs_view.specs.View.{edits};
+ghost use Rattle.cs_syntax.specs.Queries.{query as expression_of};
+ghost use Rattle.cs_plain.specs.Predicates.{filter};
+ghost use Rattle.cs_listen.specs.Events.{events};
+ghost use Rattle.cs_listen.specs.Listeners.{HasRoom, NotAdded, NotTaken, is_listening, listeners, most_listeners, with_one, with_query, without};
+ghost use Rattle.cs_reply.specs.View.{event};
+
+use crate::listening::Listening;
+use cs_plain::Plain;
+use cs_reply::Event;
+use cs_syntax::Query;
+use cs_value::{Fields, NoMemory, NoName, Txt};
+use cs_view::Change;
+use std::alloc::Global;
+
+/// How many listeners may stand.
+pub const MOST_LISTENERS: u32 = 1024;
+
+/// Why a listener is not taken.
+#[derive(Clone, Copy, Debug, Drop, PartialEq, Eq)]
+pub enum ListenFault {
+    /// A listener may not have the query.
+    NotListenable,
+    /// A listener has the name.
+    NameUsed,
+    /// 1,024 listeners stand.
+    Full,
+    /// The allocator had no memory to give.
+    NoMemory,
+}
+
+/// The listeners of a store, in the order made. A name is looked for among all of them, which are
+/// few: that happens where one is made or stopped, and not at a change.
+#[derive(Drop)]
+pub struct Listeners {
+    made: Vec<Listening>,
+}
+
+impl Listeners {
+    /// No listener.
+    pub fn new(alloc: Global) -> Listeners
+        ensures { listeners result ≡ [] }
+    {
+        Listeners {
+            made: Vec::new(alloc),
+        }
+    }
+
+    /// Whether a listener has the name.
+    pub fn has(&self, name: &str) -> bool
+        ensures { result ≡ is_listening name.now (listeners self.now) }
+    {
+        for listening in &self.made {
+            if listening.is_named(name) {
+                return true;
+            }
+        }
+        false
+    }
+
+    /// A listener more, the last, that watches the query. The first that holds is told: that a
+    /// listener may not have the query, that one has the name, that 1,024 stand. After a fault the
+    /// listeners are as before.
+    pub fn add(
+        &mut self,
+        name: Txt,
+        query: Query,
+        params: Fields,
+        include_result: bool,
+        include_previous: bool,
+    ) -> Result<(), ListenFault>
+        ensures added { OnOk result (with_query name (expression_of query) (fields params)
+            include_result include_previous (listeners self.old) ≡ Some (listeners self.new)) }
+        ensures room { OnOk result (HasRoom name (listeners self.old)) }
+        ensures fault { IfErr result (NotAdded name (expression_of query) (listeners self.old)) }
+        ensures unchanged { OnErr result (listeners self.new ≡ listeners self.old) }
+    {
+        match Plain::from_query(query) {
+            Ok(predicate) => {
+                self.add_predicate(name, predicate, params, include_result, include_previous)
+            }
+            Err(_query) => Err(ListenFault::NotListenable),
+        }
+    }
+
+    /// A listener more, the last, that watches the predicate. The first that holds is told: that a
+    /// listener has the name, that 1,024 stand. After a fault the listeners are as before.
+    pub fn add_predicate(
+        &mut self,
+        name: Txt,
+        predicate: Plain,
+        params: Fields,
+        include_result: bool,
+        include_previous: bool,
+    ) -> Result<(), ListenFault>
+        ensures added { OnOk result (listeners self.new ≡ with_one name (filter predicate)
+            (fields params) include_result include_previous (listeners self.old)) }
+        ensures room { OnOk result (HasRoom name (listeners self.old)) }
+        ensures fault { IfErr result (NotTaken name (listeners self.old)) }
+        ensures unchanged { OnErr result (listeners self.new ≡ listeners self.old) }
+    {
+        if self.has(name.as_str()) {
+            return Err(ListenFault::NameUsed);
+        }
+        if self.made.len() >= MOST_LISTENERS as usize {
+            return Err(ListenFault::Full);
+        }
+        let listening = Listening {
+            name,
+            predicate,
+            params,
+            include_result,
+            include_previous,
+        };
+        match self.made.push(listening) {
+            Ok(()) => Ok(()),
+            Err(_refused) => Err(ListenFault::NoMemory),
+        }
+    }
+
+    /// Takes out the listener of the name; the others stay in their order. `NoName` exactly where
+    /// none has the name.
+    pub fn remove(&mut self, name: &str) -> Result<(), NoName>
+        ensures removed { OnOk result (listeners self.new ≡ without name.now (listeners self.old)) }
+        ensures had { OnOk result (is_listening name.now (listeners self.old) ≡ true) }
+        ensures none { OnErr result (is_listening name.now (listeners self.old) ≡ false) }
+        ensures unchanged { OnErr result (listeners self.new ≡ listeners self.old) }
+    {
+        if !self.has(name) {
+            return Err(NoName);
+        }
+        self.made.retain(|listening| !listening.is_named(name));
+        Ok(())
+    }
+
+    /// What the listeners hear of the changes of the transaction at the moment: by listener in the
+    /// order made, and then by the order of the changes.
+    pub fn events<'a>(
+        &'a self,
+        alloc: Global,
+        tx: &'a str,
+        moment: &'a str,
+        changes: &'a [Change],
+    ) -> Result<Vec<Event<'a>>, NoMemory>
+        ensures { IfOk result (λ heard. map event heard.items
+            ≡ events tx.now moment.now (edits changes.now) (listeners self.now)) }
+    {
+        let mut heard = Vec::new(alloc);
+        for listening in &self.made {
+            listening.hear(tx, moment, changes, &mut heard)?;
+        }
+        Ok(heard)
+    }
+}
