@@ -1,2 +1,7 @@
-//! The generated script and the summary of its replies, as definitions.
+//! The generated script: its lines, one by one, and the summary of its replies as a definition.
 #![tactic(auto)]
+
+mod lines;
+mod text;
+
+pub use lines::gen_line;

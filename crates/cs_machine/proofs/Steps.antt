@@ -11,7 +11,7 @@ use Rattle.cs_wire.specs.Rows.{command}
 use Rattle.cs_reply.specs.Refusal as why
 use Rattle.cs_reply.specs.Reply.{found, stopped, set}
 use Rattle.cs_listen.specs.Events.{Listener}
-use Rattle.cs_listen.specs.Plain.{listened_filter}
+use Rattle.cs_plain.specs.Plain.{listened_filter}
 use Rattle.cs_body.specs.Body.{Body, no_command, bad_id, transaction, body_of}
 use Rattle.cs_txn.specs.Commit.{commit}
 use Rattle.cs_body.specs.Transaction.{Transaction}

@@ -11,7 +11,7 @@ use Rattle.cs_reply.specs.Reply.{Operation, create, update, delete, committed, f
 use Rattle.cs_reply.specs.Reply as plain
 use Rattle.cs_reply.specs.Refusal.{bad_command, bad_tx, tx_used, name_used, full_subscriptions, not_listenable, no_name, bad_moment}
 use Rattle.cs_listen.specs.Events.{Listener, events}
-use Rattle.cs_listen.specs.Plain.{listened_filter}
+use Rattle.cs_plain.specs.Plain.{listened_filter}
 use Rattle.cs_body.specs.Body.{Body, no_command, bad_id, transaction, body_of}
 use Rattle.cs_txn.specs.Commit.{commit}
 use Rattle.cs_body.specs.Transaction.{Transaction}
