@@ -1,0 +1,182 @@
+-- Entries that changes were applied to are those of the store after the changes.
+use Rattle.std.proofs.Common.{◌≡◌, ℕ, List, [], ◌∷◌, Option, Some, None, Bool, true, false, cond, not, ◌&&◌, ◌||◌, refl, sym, ap, ◌∙◌, subst, true≢false, Ordering, Less, Equal, Greater, is_eq, nat_cmp, nat_eq, eqb-true}
+use Rattle.std.proofs.lemmas.Map.Lookups.{exact_unsigned}
+use Rattle.std.proofs.lemmas.Cmp.{nat_cmp_total, tied_itself}
+use Rattle.std.specs.Ordering.{ordering_then}
+use Rattle.std.specs.BTreeSet.{BTreeSet}
+use Rattle.std.specs.FinMap.Entries.{find}
+use Rattle.cs_value.specs.Tree.{Tree}
+use Rattle.cs_view.specs.Document.{id_of}
+use Rattle.cs_view.specs.Dataset.{id_cmp, same_id, At}
+use Rattle.cs_view.specs.Changes.{Edit, are_changes, LeadFrom, LeadTo, After, after_of}
+use Rattle.cs_view.proofs.Datasets.{same_id-same}
+use Rattle.cs_view.proofs.Changed.{own_ids, At-After, After-leads}
+use Rattle.cs_shelf.specs.Places.{found}
+use Rattle.cs_shelf.proofs.Standing.{at-documents}
+use Rattle.cs_docs.specs.Store.{docs, place_at, ArePlacesSteady}
+use Rattle.cs_docs.specs.declared.docs.Docs.{Docs}
+use Rattle.cs_index.specs.Codes.{Seed, is_among}
+use Rattle.cs_index.specs.Entries.{same_entry, entry, has_entry, side_codes, is_put, is_put_at, puts, parts, all_put, all_parted, AreEntriesOf}
+use Rattle.cs_index.specs.Picking.{entering}
+use Rattle.cs_index.specs.declared.entry.Entry.{Entry}
+
+-- ---- entries
+equal_both : (o p : Ordering) → is_eq (ordering_then o p) ≡ true → (o ≡ Equal) × (p ≡ Equal)
+equal_both Equal Equal h = (refl, refl)
+equal_both Equal Less h = absurd (true≢false (sym h))
+equal_both Equal Greater h = absurd (true≢false (sym h))
+equal_both Less p h = absurd (true≢false (sym h))
+equal_both Greater p h = absurd (true≢false (sym h))
+
+pub same_parts : (a p c r : ℕ) → same_entry (entry a p) (entry c r) ≡ true → (a ≡ c) × (p ≡ r)
+same_parts a p c r h = let e = equal_both (nat_cmp a c) (nat_cmp p r) h in (exact_unsigned a c e.0, exact_unsigned p r e.1)
+
+pub same_itself : (c p : ℕ) → same_entry (entry c p) (entry c p) ≡ true
+same_itself c p = ap (λ o. is_eq (ordering_then o (nat_cmp p p))) (tied_itself nat_cmp_total c) ∙ ap is_eq (tied_itself nat_cmp_total p)
+
+put_found : (out : ℕ → Bool) (p c : ℕ) (cs : List ℕ) → out c ≡ false → is_among c cs ≡ true → is_put out p cs (entry c p) ≡ true
+put_found out p c [] o h = h
+put_found out p c (x ∷ xs) o h = by_test (put_found out p c xs o) (nat_eq c x) refl h where
+  by_test : (is_among c xs ≡ true → is_put out p xs (entry c p) ≡ true) → (b : Bool) → nat_eq c x ≡ b → (b || is_among c xs) ≡ true → is_put out p (x ∷ xs) (entry c p) ≡ true
+  by_test ih true e h = subst (λ (y : ℕ). is_put out p (y ∷ xs) (entry c p) ≡ true) (eqb-true c x e) (here o) where
+    here : out c ≡ false → is_put out p (c ∷ xs) (entry c p) ≡ true
+    here o = rw (o, same_itself c p) refl
+  by_test ih false e h = later (not (out x) && same_entry (entry x p) (entry c p)) (ih h) where
+    later : (a : Bool) {b : Bool} → b ≡ true → (a || b) ≡ true
+    later true k = refl
+    later false k = k
+
+put_only : (out : ℕ → Bool) (r c p : ℕ) (cs : List ℕ) → is_put out r cs (entry c p) ≡ true → (r ≡ p) × (out c ≡ false)
+put_only out r c p [] h = absurd (true≢false (sym h))
+put_only out r c p (x ∷ xs) h = by_tests (put_only out r c p xs) (out x) refl (same_entry (entry x r) (entry c p)) refl h where
+  by_tests : (is_put out r xs (entry c p) ≡ true → (r ≡ p) × (out c ≡ false)) → (a : Bool) → out x ≡ a → (b : Bool) → same_entry (entry x r) (entry c p) ≡ b → ((not a && b) || is_put out r xs (entry c p)) ≡ true → (r ≡ p) × (out c ≡ false)
+  by_tests ih false e true f h = let s = same_parts x r c p f in (s.1, sym (ap out s.0) ∙ e)
+  by_tests ih false e false f h = ih h
+  by_tests ih true e b f h = ih h
+
+-- ---- puts
+put_kept : (seed : Seed) (d : Docs) (q : Entry) (cs : List Edit) → all_put seed d q cs true ≡ true
+put_kept seed d q [] = refl
+put_kept seed d q (c ∷ cs) = ap (all_put seed d q cs) (still (puts seed d q c)) ∙ put_kept seed d q cs where
+  still : (b : Bool) → cond b true true ≡ true
+  still true = refl
+  still false = refl
+
+pub put_in : (seed : Seed) (d : Docs) (x : List ℕ) (c p : ℕ) (s : Option Tree × Option Tree) (cs : List Edit) (b : Bool) → place_at d x ≡ Some p → find id_cmp x cs ≡ Some s
+    → is_among c (side_codes seed s.1) ≡ true → is_among c (side_codes seed s.0) ≡ false → all_put seed d (entry c p) cs b ≡ true
+put_in seed d x c p s [] b at f has hasnt = absurd (true≢false (sym (ap (λ (o : Option (Option Tree × Option Tree)). is_there o) f))) where
+  is_there : Option (Option Tree × Option Tree) → Bool
+  is_there None = false
+  is_there (Some t) = true
+put_in seed d x c p s (e ∷ es) b at f has hasnt = by_test (λ b f. put_in seed d x c p s es b at f has hasnt) (same_id x e.0) refl f where
+  side : Option (Option Tree × Option Tree) → Option Tree × Option Tree
+  side None = s
+  side (Some t) = t
+
+  by_test : ((b : Bool) → find id_cmp x es ≡ Some s → all_put seed d (entry c p) es b ≡ true) → (t : Bool) → same_id x e.0 ≡ t → cond t (Some e.1) (find id_cmp x es) ≡ Some s → all_put seed d (entry c p) (e ∷ es) b ≡ true
+  by_test ih false t f = ih (cond (puts seed d (entry c p) e) true b) f
+  by_test ih true t f =
+      ap (λ a. all_put seed d (entry c p) es (cond a true b)) (here (sym (ap (place_at d) (same_id-same x e.0 t)) ∙ at) (ap side f)) ∙ put_kept seed d (entry c p) es
+    where
+      here : place_at d e.0 ≡ Some p → e.1 ≡ s → puts seed d (entry c p) e ≡ true
+      here at is = ap (λ o. is_put_at (λ y. is_among y (side_codes seed e.1.0)) o (side_codes seed e.1.1) (entry c p)) at
+          ∙ put_found (λ y. is_among y (side_codes seed e.1.0)) p c (side_codes seed e.1.1) (ap (λ (r : Option Tree × Option Tree). is_among c (side_codes seed r.0)) is ∙ hasnt) (ap (λ (r : Option Tree × Option Tree). is_among c (side_codes seed r.1)) is ∙ has)
+
+-- ---- partings
+abbrev text_of : Option (List ℕ) → List ℕ
+text_of None = []
+text_of (Some x) = x
+
+pub one_place : (d : Docs) (x y : List ℕ) (p : ℕ) → place_at d x ≡ Some p → place_at d y ≡ Some p → x ≡ y
+one_place d x y p h g = ap text_of (sym (d.shelf.sound x p h) ∙ d.shelf.sound y p g)
+
+not_parted : (seed : Seed) (d : Docs) (now : List Tree) (x : List ℕ) (c p : ℕ) (cs : List Edit) → LeadTo now cs → place_at d x ≡ Some p → is_among c (side_codes seed (At x now)) ≡ true → all_parted seed d (entry c p) cs false ≡ false
+not_parted seed d now x c p [] lead at has = refl
+not_parted seed d now x c p (e ∷ es) lead at has = ap (λ a. all_parted seed d (entry c p) es (cond a true false)) (none (place_at d e.0) refl) ∙ not_parted seed d now x c p es lead.1 at has where
+  out : ℕ → Bool
+  out y = is_among y (side_codes seed e.1.1)
+
+  some : (r : ℕ) → place_at d e.0 ≡ Some r → (b : Bool) → is_put (λ y. is_among y (side_codes seed e.1.1)) r (side_codes seed e.1.0) (entry c p) ≡ b → b ≡ false
+  some r g false h = refl
+  some r g true h =
+      let o = put_only (λ y. is_among y (side_codes seed e.1.1)) r c p (side_codes seed e.1.0) h in
+      let same : x ≡ e.0 = one_place d x e.0 p at (g ∙ ap Some o.0) in
+      absurd (true≢false (sym (ap (λ (t : Option Tree). is_among c (side_codes seed t)) (lead.0 ∙ ap (λ (i : List ℕ). At i now) (sym same)) ∙ has) ∙ o.1))
+
+  none : (o : Option ℕ) → place_at d e.0 ≡ o → is_put_at (λ y. is_among y (side_codes seed e.1.1)) o (side_codes seed e.1.0) (entry c p) ≡ false
+  none None g = refl
+  none (Some r) g = some r g _ refl
+
+-- ---- what stands has a place
+no_codes : (seed : Seed) (c : ℕ) (o : Option Tree) → o ≡ None → is_among c (side_codes seed o) ≡ true → ⊥
+no_codes seed c o e h = true≢false (sym h ∙ ap (λ (t : Option Tree). is_among c (side_codes seed t)) e)
+
+pub stays : (seed : Seed) (was now : Docs) (x : List ℕ) (c p : ℕ) → ArePlacesSteady was now → place_at now x ≡ Some p → is_among c (side_codes seed (At x (docs was))) ≡ true → place_at was x ≡ Some p
+stays seed was now x c p steady at has = by_place (place_at was x) refl where
+  by_place : (o : Option ℕ) → place_at was x ≡ o → o ≡ Some p
+  by_place None h = absurd (no_codes seed c (At x (docs was)) (at-documents was.shelf x ∙ ap (found was.shelf.store) h) has)
+  by_place (Some r) h = ap Some (steady x r p h at)
+
+led : (ds : List Tree) (x : List ℕ) (cs : List Edit) (s : Option Tree × Option Tree) → LeadFrom ds cs → find id_cmp x cs ≡ Some s → s.0 ≡ At x ds
+led ds x [] s l f = absurd (cc)
+led ds x (e ∷ es) s l f = by_test (led ds x es s l.1) (same_id x e.0) refl f where
+  by_test : (find id_cmp x es ≡ Some s → s.0 ≡ At x ds) → (t : Bool) → same_id x e.0 ≡ t → cond t (Some e.1) (find id_cmp x es) ≡ Some s → s.0 ≡ At x ds
+  by_test ih false t f = ih f
+  by_test ih true t f = let is : e.1 ≡ s = cc in sym (ap (λ (r : Option Tree × Option Tree). r.0) is) ∙ l.0 ∙ ap (λ (i : List ℕ). At i ds) (sym (same_id-same x e.0 t))
+
+module _ (seed : Seed) (was now : Docs) (cs : List Edit) (m n : BTreeSet Entry) (is : (q : Entry) → has_entry n q ≡ all_put seed now q cs (cond (all_parted seed was q cs false) false (has_entry m q)))
+    (changes : are_changes cs ≡ true) (lead : LeadFrom (docs was) cs) (after : docs now ≡ After (docs was) cs) (steady : ArePlacesSteady was now) (old : AreEntriesOf seed m was) where
+  -- an entry of a code that was had and is had stays
+  both_sides : (x : List ℕ) (c p : ℕ) → place_at now x ≡ Some p → is_among c (side_codes seed (At x (docs now))) ≡ true → is_among c (side_codes seed (At x (docs was))) ≡ true → has_entry n (entry c p) ≡ true
+  both_sides x c p at has had =
+      let place : place_at was x ≡ Some p = stays seed was now x c p steady at had in
+      is (entry c p)
+      ∙ ap (λ a. all_put seed now (entry c p) cs (cond a false (has_entry m (entry c p)))) (not_parted seed was (docs now) x c p cs (subst (λ (ds : List Tree). LeadTo ds cs) (sym after) (After-leads (docs was) cs changes)) place has)
+      ∙ ap (all_put seed now (entry c p) cs) (old x c p place had)
+      ∙ put_kept seed now (entry c p) cs
+
+  pub applied : AreEntriesOf seed n now
+  applied x c p at has = by_change (find id_cmp x cs) refl where
+    there : At x (docs now) ≡ after_of (find id_cmp x cs) (At x (docs was))
+    there = ap (At x) after ∙ At-After x (docs was) cs (own_ids cs changes)
+
+    by_side : (s : Option Tree × Option Tree) → find id_cmp x cs ≡ Some s → (b : Bool) → is_among c (side_codes seed s.0) ≡ b → has_entry n (entry c p) ≡ true
+    by_side s f true h = both_sides x c p at has (sym (ap (λ (t : Option Tree). is_among c (side_codes seed t)) (led (docs was) x cs s lead f)) ∙ h)
+    by_side s f false h = is (entry c p) ∙ put_in seed now x c p s cs _ at f (sym (ap (λ (t : Option Tree). is_among c (side_codes seed t)) (there ∙ ap (λ g. after_of g (At x (docs was))) f)) ∙ has) h
+
+    by_change : (f : Option (Option Tree × Option Tree)) → find id_cmp x cs ≡ f → has_entry n (entry c p) ≡ true
+    by_change None f = both_sides x c p at has (sym (ap (λ (t : Option Tree). is_among c (side_codes seed t)) (there ∙ ap (λ g. after_of g (At x (docs was))) f)) ∙ has)
+    by_change (Some s) f = by_side s f (is_among c (side_codes seed s.0)) refl
+
+-- ---- the entries of a whole store
+find_entering : (x : List ℕ) (ds : List Tree) (t : Tree) → At x ds ≡ Some t → find id_cmp x (entering ds) ≡ Some (None, Some t)
+find_entering x [] t h = absurd (cc)
+find_entering x (e ∷ es) t h = by_test (find_entering x es t) (same_id x (id_of e)) refl h where
+  by_test : (At x es ≡ Some t → find id_cmp x (entering es) ≡ Some (None, Some t)) → (b : Bool) → same_id x (id_of e) ≡ b → cond b (Some e) (At x es) ≡ Some t → cond b (Some (None, Some e)) (find id_cmp x (entering es)) ≡ Some (None, Some t)
+  by_test ih true k h = let s : e ≡ t = cc in ap (λ (y : Tree). Some (None, Some y)) s
+  by_test ih false k h = ih h
+
+pub built : (seed : Seed) (d : Docs) (n : BTreeSet Entry) (b : Entry → Bool) → ((q : Entry) → has_entry n q ≡ all_put seed d q (entering (docs d)) (b q)) → AreEntriesOf seed n d
+built seed d n b is x c p at has = by_doc (At x (docs d)) refl where
+  by_doc : (o : Option Tree) → At x (docs d) ≡ o → has_entry n (entry c p) ≡ true
+  by_doc None h = absurd (no_codes seed c (At x (docs d)) h has)
+  by_doc (Some t) h =
+      is (entry c p) ∙ put_in seed d x c p (None, Some t) (entering (docs d)) _ at (find_entering x (docs d) t h) (sym (ap (λ (y : Option Tree). is_among c (side_codes seed y)) h) ∙ has) refl
+
+-- the entries of a store are those of one with the same documents at the same places
+pub refitted : (seed : Seed) (was now : Docs) (m : BTreeSet Entry) → ArePlacesSteady was now → docs now ≡ docs was → AreEntriesOf seed m was → AreEntriesOf seed m now
+refitted seed was now m steady same old x c p at has =
+    let had : is_among c (side_codes seed (At x (docs was))) ≡ true = sym (ap (λ (ds : List Tree). is_among c (side_codes seed (At x ds))) same) ∙ has in
+    old x c p (stays seed was now x c p steady at had) had
+
+-- what both sides have is left out
+left_out : (out : ℕ → Bool) (o : Option ℕ) (c p : ℕ) (cs : List ℕ) → out c ≡ true → is_put_at out o cs (entry c p) ≡ false
+left_out out None c p cs h = refl
+left_out out (Some r) c p cs h = by_test (is_put out r cs (entry c p)) refl where
+  by_test : (b : Bool) → is_put out r cs (entry c p) ≡ b → b ≡ false
+  by_test false e = refl
+  by_test true e = absurd (true≢false (sym h ∙ (put_only out r c p cs e).1))
+
+pub shared : (seed : Seed) (d : Docs) (e : Edit) (c p : ℕ) → is_among c (side_codes seed e.1.0) ≡ true → is_among c (side_codes seed e.1.1) ≡ true → (puts seed d (entry c p) e ≡ false) × (parts seed d (entry c p) e ≡ false)
+shared seed d e c p before after =
+    (left_out (λ y. is_among y (side_codes seed e.1.0)) (place_at d e.0) c p (side_codes seed e.1.1) before, left_out (λ y. is_among y (side_codes seed e.1.1)) (place_at d e.0) c p (side_codes seed e.1.0) after)

@@ -1,0 +1,7 @@
+pub mod Applied
+pub mod Listed
+pub mod Marks
+pub mod Nearest
+pub mod Picked
+pub mod Referred
+pub mod Split

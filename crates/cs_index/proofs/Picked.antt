@@ -1,0 +1,204 @@
+-- What a look-up picks are the documents that have the key.
+use Rattle.std.proofs.Common.{◌≡◌, ℕ, ◌<◌, List, [], ◌∷◌, map, filter, Option, Some, None, Bool, true, false, cond, ◌||◌, refl, sym, ap, ◌∙◌, subst, true≢false, nat_cmp, nat_eq, arith, option_map, eqb-true, eq-eqb}
+use Rattle.std.proofs.lemmas.Grind.{common_steps}
+use Rattle.std.proofs.lemmas.Cmp.{nat_cmp_total, tied_itself}
+use Rattle.std.specs.BTreeSet.{BTreeSet}
+use Rattle.std.specs.BTreeMap.{get, is_at, IsOrdered}
+use Rattle.std.specs.BTreeMap.Range.{range_contains}
+use Rattle.std.specs.List.{list_any}
+use Rattle.std.specs.declared.ops.Bound.TheVariants.{Included}
+use Rattle.cs_value.specs.Tree.{Tree}
+use Rattle.cs_view.specs.Document.{id_of, passes}
+use Rattle.cs_view.specs.Dataset.{id_cmp, same_id, At, kept_if}
+use Rattle.cs_view.specs.Keys.{has, Sel}
+use Rattle.cs_view.specs.declared.key.Key.{Key}
+use Rattle.cs_view.specs.declared.key.Key.TheVariants.{All, Id}
+use Rattle.cs_view.proofs.Datasets.{same_id-same, same_id-refl, same_id-sym, same_docs, ascending-filter, At-filter}
+use Rattle.cs_shelf.specs.Places.{Store, Order, found, tree_at, trees_at, IsSound}
+use Rattle.cs_shelf.proofs.Standing.{Entry as PlaceEntry, at-documents, sound_entries, at_of, ascending_of, some-trees, ascending-documents}
+use Rattle.cs_docs.specs.Store.{docs, place_at, doc_at}
+use Rattle.cs_docs.specs.declared.docs.Docs.{Docs}
+use Rattle.cs_index.specs.Codes.{Seed, is_among, key_code}
+use Rattle.cs_index.specs.Entries.{entry_cmp, same_entry, entry, has_entry, AreEntriesOf, side_codes}
+use Rattle.cs_index.specs.Kept.{IsKept}
+use Rattle.cs_index.specs.Picking.{where_has, wanted, or_else, pick, picked, under}
+use Rattle.cs_index.specs.declared.entry.Entry.{Entry}
+use Rattle.cs_index.proofs.Applied.{same_parts}
+use Rattle.cs_index.proofs.Listed.{listed}
+
+pub pick_none : (d : Docs) (k : Key) (y i : List ℕ) (o : Option ℕ) → wanted d k i ≡ None → o ≡ cond (same_id y i) (or_else (wanted d k y) o) o
+pick_none d k y i o h = by_test (same_id y i) refl where
+  by_test : (b : Bool) → same_id y i ≡ b → o ≡ cond b (or_else (wanted d k y) o) o
+  by_test true e = sym (ap (λ w. or_else w o) (ap (wanted d k) (same_id-same y i e) ∙ h))
+  by_test false e = refl
+
+pub pick_some : (d : Docs) (k : Key) (y i : List ℕ) (p : ℕ) (o : Option ℕ) → wanted d k i ≡ Some p → cond (same_id i y) (Some p) o ≡ cond (same_id y i) (or_else (wanted d k y) o) o
+pick_some d k y i p o h = ap (λ b. cond b (Some p) o) (same_id-sym i y) ∙ by_test (same_id y i) refl where
+  by_test : (b : Bool) → same_id y i ≡ b → cond b (Some p) o ≡ cond b (or_else (wanted d k y) o) o
+  by_test true e = sym (ap (λ w. or_else w o) (ap (wanted d k) (same_id-same y i e) ∙ h))
+  by_test false e = refl
+
+abbrev is_some_place : Option ℕ → Bool
+is_some_place None = false
+is_some_place (Some p) = true
+
+abbrev or_zero : Option ℕ → ℕ
+or_zero None = 0
+or_zero (Some p) = p
+
+some_not_none : (p : ℕ) → None ≡ Some p → ⊥
+some_not_none p h = true≢false (sym (ap is_some_place h))
+
+-- what is wanted at an id stands at the id's place, and has the key
+wanted_place : (d : Docs) (k : Key) (y : List ℕ) (p : ℕ) → wanted d k y ≡ Some p → (place_at d y ≡ Some p) × (passes (has k) (doc_at d p) ≡ true)
+wanted_place d k y p h = by_place (place_at d y) refl h where
+  by_test : (r : ℕ) → (b : Bool) → passes (has k) (doc_at d r) ≡ b → cond b (Some r) None ≡ Some p → (Some r ≡ Some p) × (passes (has k) (doc_at d p) ≡ true)
+  by_test r true e g = (g, ap (λ (x : ℕ). passes (has k) (doc_at d x)) (sym (ap or_zero g)) ∙ e)
+  by_test r false e g = absurd (some_not_none p g)
+
+  by_place : (o : Option ℕ) → place_at d y ≡ o → where_has d k o ≡ Some p → (o ≡ Some p) × (passes (has k) (doc_at d p) ≡ true)
+  by_place None e g = absurd (some_not_none p g)
+  by_place (Some r) e g = by_test r (passes (has k) (doc_at d r)) refl g
+
+-- ---- walks over entries
+abbrev pub is_here : ℕ → List Entry → Bool
+is_here p es = list_any (λ e. nat_eq e.place p) es
+
+picked_nothing : (d : Docs) (k : Key) (y : List ℕ) (es : List Entry) → wanted d k y ≡ None → picked d k y es None ≡ None
+picked_nothing d k y [] h = refl
+picked_nothing d k y (e ∷ es) h = ap (picked d k y es) (one (passes (λ t. same_id y (id_of t)) (doc_at d e.place))) ∙ picked_nothing d k y es h where
+  one : (b : Bool) → cond b (or_else (wanted d k y) None) None ≡ None
+  one true = ap (λ w. or_else w None) h
+  one false = refl
+
+picked_once : (d : Docs) (k : Key) (y : List ℕ) (p : ℕ) (es : List Entry) → wanted d k y ≡ Some p → picked d k y es (Some p) ≡ Some p
+picked_once d k y p [] h = refl
+picked_once d k y p (e ∷ es) h = ap (picked d k y es) (one (passes (λ t. same_id y (id_of t)) (doc_at d e.place))) ∙ picked_once d k y p es h where
+  one : (b : Bool) → cond b (or_else (wanted d k y) (Some p)) (Some p) ≡ Some p
+  one true = ap (λ w. or_else w (Some p)) h
+  one false = refl
+
+picked_there : (d : Docs) (k : Key) (y : List ℕ) (p : ℕ) (es : List Entry) → wanted d k y ≡ Some p → passes (λ t. same_id y (id_of t)) (doc_at d p) ≡ true → is_here p es ≡ true → picked d k y es None ≡ Some p
+picked_there d k y p [] h own g = absurd (true≢false (sym g))
+picked_there d k y p (e ∷ es) h own g = by_test (picked_there d k y p es h own) (nat_eq e.place p) refl g where
+  one : (b : Bool) → cond b (or_else (wanted d k y) None) None ≡ cond b (Some p) None
+  one true = ap (λ w. or_else w None) h
+  one false = refl
+
+  hit : passes (λ t. same_id y (id_of t)) (doc_at d e.place) ≡ true → pick d k y e.place None ≡ Some p
+  hit is = one _ ∙ ap (λ b. cond b (Some p) None) is
+
+  either : (is_here p es ≡ true → picked d k y es None ≡ Some p) → (b : Bool) → passes (λ t. same_id y (id_of t)) (doc_at d e.place) ≡ b → is_here p es ≡ true → picked d k y es (pick d k y e.place None) ≡ Some p
+  either ih true is g = ap (picked d k y es) (hit is) ∙ picked_once d k y p es h
+  either ih false is g = ap (picked d k y es) (one _ ∙ ap (λ b. cond b (Some p) None) is) ∙ ih g
+
+  by_test : (is_here p es ≡ true → picked d k y es None ≡ Some p) → (b : Bool) → nat_eq e.place p ≡ b → (b || is_here p es) ≡ true → picked d k y es (pick d k y e.place None) ≡ Some p
+  by_test ih true is g = ap (picked d k y es) (hit (ap (λ (x : ℕ). passes (λ t. same_id y (id_of t)) (doc_at d x)) (eqb-true e.place p is) ∙ own)) ∙ picked_once d k y p es h
+  by_test ih false is g = either ih (passes (λ t. same_id y (id_of t)) (doc_at d e.place)) refl g
+
+-- ---- the entries of a code
+pub inside_low : (c p : ℕ) → range_contains entry_cmp (Included (entry c 0)) (Included (entry c 4294967295)) (entry c p) ≡ range_contains nat_cmp (Included 0) (Included 4294967295) p
+inside_low c p = rw (tied_itself nat_cmp_total c) refl
+
+pub inside_all : (p : ℕ) → p < 2147483648 → range_contains nat_cmp (Included 0) (Included 4294967295) p ≡ true
+inside_all p h = grind (arith, common_steps)
+
+pub here_filter : (c p : ℕ) (t : Entry → Bool) → t (entry c p) ≡ true → (es : List Entry) → list_any (is_at (entry_cmp (entry c p))) es ≡ true → is_here p (filter t es) ≡ true
+here_filter c p t h [] g = g
+here_filter c p t h (e ∷ es) g = by_test (here_filter c p t h es) (same_entry (entry c p) e) refl g where
+  own : nat_eq p p ≡ true
+  own = eq-eqb p p refl
+
+  later : (b : Bool) → is_here p (filter t es) ≡ true → is_here p (cond b (e ∷ filter t es) (filter t es)) ≡ true
+  later false k = k
+  later true k = or_right (nat_eq e.place p) k where
+    or_right : (a : Bool) {b : Bool} → b ≡ true → (a || b) ≡ true
+    or_right true k = refl
+    or_right false k = k
+
+  by_test : (list_any (is_at (entry_cmp (entry c p))) es ≡ true → is_here p (filter t es) ≡ true) → (b : Bool) → same_entry (entry c p) e ≡ b → (b || list_any (is_at (entry_cmp (entry c p))) es) ≡ true
+      → is_here p (cond (t e) (e ∷ filter t es) (filter t es)) ≡ true
+  by_test ih true is g =
+      let s = same_parts c p e.code e.place is in
+      let one : t e ≡ true = ap t (sym (ap (λ (x : ℕ). entry x e.place) s.0)) ∙ ap t (sym (ap (entry c) s.1)) ∙ h in
+      ap (λ b. is_here p (cond b (e ∷ filter t es) (filter t es))) one ∙ ap (λ (x : ℕ). nat_eq x p || is_here p (filter t es)) (sym s.1) ∙ ap (λ b. b || is_here p (filter t es)) own
+  by_test ih false is g = later (t e) (ih g)
+
+named : (d : Docs) (y : List ℕ) (p : ℕ) → place_at d y ≡ Some p → (Some y ≡ option_map id_of (doc_at d p)) × (passes (λ t. same_id y (id_of t)) (doc_at d p) ≡ true)
+named d y p h = (sym (d.shelf.sound y p h), by_doc (doc_at d p) (d.shelf.sound y p h)) where
+  text_of : Option (List ℕ) → List ℕ
+  text_of None = []
+  text_of (Some x) = x
+
+  there : Option (List ℕ) → Bool
+  there None = false
+  there (Some x) = true
+
+  by_doc : (o : Option Tree) → option_map id_of o ≡ Some y → passes (λ t. same_id y (id_of t)) o ≡ true
+  by_doc None g = absurd (cc)
+  by_doc (Some t) g = let e : id_of t ≡ y = cc in ap (same_id y) e ∙ same_id-refl y
+
+pub has_codes : (seed : Seed) (k : Key) (o : Option Tree) → IsKept k → passes (has k) o ≡ true → is_among (key_code seed k) (side_codes seed o) ≡ true
+has_codes seed k None kept h = absurd (true≢false (sym h))
+has_codes seed k (Some t) kept h = listed seed k t kept h
+
+found_doc : (d : Docs) (y : List ℕ) (p : ℕ) → place_at d y ≡ Some p → At y (docs d) ≡ doc_at d p
+found_doc d y p h = at-documents d.shelf y ∙ ap (found d.shelf.store) h
+
+pub all_picked : (seed : Seed) (d : Docs) (m : BTreeSet Entry) (k : Key) → IsKept k → AreEntriesOf seed m d → (y : List ℕ) → picked d k y (under m (key_code seed k)) None ≡ wanted d k y
+all_picked seed d m k kept are y = by_wanted (wanted d k y) refl where
+  by_wanted : (o : Option ℕ) → wanted d k y ≡ o → picked d k y (under m (key_code seed k)) None ≡ o
+  by_wanted None h = picked_nothing d k y (under m (key_code seed k)) h
+  by_wanted (Some p) h =
+      let w = wanted_place d k y p h in
+      let stands : has_entry m (entry (key_code seed k) p) ≡ true = are y (key_code seed k) p w.0 (ap (λ (o : Option Tree). is_among (key_code seed k) (side_codes seed o)) (found_doc d y p w.0) ∙ has_codes seed k (doc_at d p) kept w.1) in
+      picked_there d k y p (under m (key_code seed k)) h (named d y p w.0).1
+      (here_filter (key_code seed k) p (range_contains entry_cmp (Included (entry (key_code seed k) 0)) (Included (entry (key_code seed k) 4294967295))) (inside_low (key_code seed k) p ∙ inside_all p (d.shelf.low y p w.0)) m.keys stands)
+
+-- ---- the documents at what was picked
+second : (s : Store) (es : List PlaceEntry) → map (tree_at s) (map (λ e. e.1) es) ≡ map (λ e. tree_at s e.1) es
+second s [] = refl
+second s (e ∷ es) = ap (λ r. tree_at s e.1 ∷ r) (second s es)
+
+kept_there : (d : Docs) (k : Key) (o : Option ℕ) → found d.shelf.store (where_has d k o) ≡ kept_if (has k) (found d.shelf.store o)
+kept_there d k None = refl
+kept_there d k (Some p) = by_doc (doc_at d p) refl where
+  by_test : (t : Tree) → doc_at d p ≡ Some t → (b : Bool) → found d.shelf.store (cond b (Some p) None) ≡ cond b (Some t) None
+  by_test t g true = g
+  by_test t g false = refl
+
+  by_doc : (o : Option Tree) → doc_at d p ≡ o → found d.shelf.store (cond (passes (has k) o) (Some p) None) ≡ kept_if (has k) o
+  by_doc None g = refl
+  by_doc (Some t) g = by_test t g (has k t)
+
+pub selected : (d : Docs) (k : Key) (chosen : Order) → IsOrdered id_cmp chosen → ((y : List ℕ) → get id_cmp chosen y ≡ wanted d k y) → map (doc_at d) (map (λ e. e.1) chosen.entries) ≡ map Some (Sel k (docs d))
+selected d k chosen ordered is =
+    let s : Store = d.shelf.store in
+    let sound : IsSound s chosen = λ x p h. d.shelf.sound x p (wanted_place d k x p (sym (is x) ∙ h)).0 in
+    second s chosen.entries ∙ some-trees s chosen.entries (sound_entries s chosen.entries ordered sound)
+    ∙ ap (map Some) (same_docs (trees_at s chosen.entries) (Sel k (docs d)) (ascending_of s chosen sound ordered) (ascending-filter (has k) (docs d) (ascending-documents d.shelf))
+    (λ q. at_of s chosen sound ordered q ∙ ap (found s) (is q) ∙ kept_there d k (place_at d q) ∙ sym (ap (kept_if (has k)) (at-documents d.shelf q)) ∙ sym (At-filter (has k) q (docs d) (ascending-documents d.shelf))))
+
+pub selected_all : (ds : List Tree) → Sel All ds ≡ ds
+selected_all [] = refl
+selected_all (d ∷ ds) = ap (λ es. d ∷ es) (selected_all ds)
+
+pub one_id : (d : Docs) (i y : List ℕ) → cond (same_id y i) (or_else (wanted d (Id i) y) None) None ≡ wanted d (Id i) y
+one_id d i y = by_test (same_id y i) refl where
+  same : (o : Option ℕ) → or_else o None ≡ o
+  same None = refl
+  same (Some p) = refl
+
+  other : same_id y i ≡ false → (o : Option ℕ) → wanted d (Id i) y ≡ o → None ≡ o
+  other f None h = refl
+  other f (Some p) h = absurd (true≢false (sym (matches (doc_at d p) (d.shelf.sound y p (wanted_place d (Id i) y p h).0) (wanted_place d (Id i) y p h).1) ∙ same_id-sym i y ∙ f)) where
+    matches : (o : Option Tree) → option_map id_of o ≡ Some y → passes (has (Id i)) o ≡ true → same_id i y ≡ true
+    matches None g m = absurd (true≢false (sym m))
+    matches (Some t) g m = let e : id_of t ≡ y = cc in sym (ap (same_id i) e) ∙ m
+
+  by_test : (b : Bool) → same_id y i ≡ b → cond b (or_else (wanted d (Id i) y) None) None ≡ wanted d (Id i) y
+  by_test true e = same (wanted d (Id i) y)
+  by_test false e = other e (wanted d (Id i) y) refl
+
+pub one_key : (d : Docs) (k : Key) (i y : List ℕ) → k ≡ Id i → cond (same_id y i) (or_else (wanted d k y) None) None ≡ wanted d k y
+one_key d k i y h = subst (λ (z : Key). cond (same_id y i) (or_else (wanted d z y) None) None ≡ wanted d z y) (sym h) (one_id d i y)

@@ -1,0 +1,25 @@
+use Rattle.std.proofs.Common.{◌≡◌, ◌∙◌, List, sym, ap, subst, true, false}
+use Rattle.cs_view.specs.Changes.{Edit, LeadFrom, After, are_changes}
+use Rattle.cs_docs.specs.Store.{docs}
+use Rattle.cs_index.specs.Entries.{all_parted}
+use Rattle.cs_index.proofs.Applied.{refitted}
+use Rattle.cs_index.proofs.commit.install.Goals as goal
+
+pub returns-in-Err-clause-fits_still : goal.returns-in-Err-clause-fits_still
+returns-in-Err-clause-fits_still c e =
+    refitted c.args.index.now.seed c.args.docs.now c.install.new.self c.args.index.now.entries
+    c.install.ensures.steady c.in-Err.ensures.kept c.requires.fits
+
+pub returns-in-Ok-apply-clause-fits : goal.returns-in-Ok-apply-clause-fits
+returns-in-Ok-apply-clause-fits c =
+    let was = c.args.docs.now in
+    c.in-Ok-apply.ensures.follows was (record {
+      changes = subst (λ (cs : List Edit). are_changes cs ≡ true) (sym c.changes-2.ensures) c.args.prepared.now.ordered;
+      leads = subst (λ (cs : List Edit). LeadFrom (docs was) cs) (sym c.changes-2.ensures) c.requires.taken.leads;
+      after = c.in-Ok-install.ensures.installed ∙ ap (After (docs was)) (sym c.changes-2.ensures);
+      steady = c.install.ensures.steady;
+    })
+    (λ q.
+    c.in-Ok.ensures q
+    ∙ ap (λ (cs : List Edit). all_parted c.args.index.now.seed was q cs false) (c.changes.ensures ∙ sym c.changes-2.ensures))
+    c.requires.fits

@@ -1,0 +1,130 @@
+//! Codes of keys. Two keys may have one code: who finds a document by a code has to test it.
+ghost use Rattle.std.specs.Prelude.{◌≡◌};
+ghost use Rattle.cs_index.specs.Codes.{start, with_text, with_mark, with_names, with_value, with_element, code_of, boolean_code, number_code, text_code, scalar_code, ref_code, key_code};
+
+use cs_value::Txt;
+use cs_view::{Key, Scalar};
+use std::hash::{BuildHasher, DefaultHasher, Hash, Hasher, RandomState};
+
+// These numbers tell what comes next in a hash. No text has one of them as a byte.
+const VALUE: u8 = 254;
+
+const ELEMENT: u8 = 253;
+
+const REFERENCE: u8 = 252;
+
+const BOOLEAN: u8 = 251;
+
+const NUMBER: u8 = 250;
+
+const TEXT: u8 = 249;
+
+// The hash that has read nothing yet.
+pub(crate) fn start(seed: &RandomState) -> DefaultHasher
+    ensures { result ≡ start seed.now }
+{
+    seed.build_hasher()
+}
+
+// The hash that has read the text too.
+pub(crate) fn with_text(hash: DefaultHasher, text: &str) -> DefaultHasher
+    ensures { result ≡ with_text hash text.now }
+{
+    let mut longer = hash;
+    text.hash(&mut longer);
+    longer
+}
+
+fn with_mark(hash: DefaultHasher, mark: u8) -> DefaultHasher
+    ensures { result ≡ with_mark hash mark }
+{
+    let mut longer = hash;
+    longer.write_u8(mark);
+    longer
+}
+
+fn code_of(hash: &DefaultHasher) -> u32
+    ensures { result ≡ code_of hash.now }
+{
+    (hash.finish() % 4_294_967_296) as u32
+}
+
+fn with_names(hash: DefaultHasher, names: &[Txt]) -> DefaultHasher
+    ensures { result ≡ with_names hash names.now }
+{
+    let mut longer = hash;
+    for name in names {
+        longer = with_text(longer, name.as_str());
+    }
+    longer
+}
+
+// The hash of a value at the end of the names that were read.
+pub(crate) fn with_value(hash: DefaultHasher) -> DefaultHasher
+    ensures { result ≡ with_value hash }
+{
+    with_mark(hash, VALUE)
+}
+
+// The hash of an element of a list at the end of the names that were read.
+pub(crate) fn with_element(hash: DefaultHasher) -> DefaultHasher
+    ensures { result ≡ with_element hash }
+{
+    with_mark(hash, ELEMENT)
+}
+
+pub(crate) fn boolean_code(hash: DefaultHasher, value: bool) -> u32
+    ensures { result ≡ boolean_code hash value }
+{
+    let mut longer = with_mark(hash, BOOLEAN);
+    value.hash(&mut longer);
+    code_of(&longer)
+}
+
+pub(crate) fn number_code(hash: DefaultHasher, number: i64) -> u32
+    ensures { result ≡ number_code hash number }
+{
+    let mut longer = with_mark(hash, NUMBER);
+    number.hash(&mut longer);
+    code_of(&longer)
+}
+
+pub(crate) fn text_code(hash: DefaultHasher, text: &Txt) -> u32
+    ensures { result ≡ text_code hash text.now }
+{
+    code_of(&with_text(with_mark(hash, TEXT), text.as_str()))
+}
+
+fn scalar_code(hash: DefaultHasher, scalar: &Scalar) -> u32
+    ensures { result ≡ scalar_code hash scalar.now }
+{
+    match scalar {
+        Scalar::Bool(value) => boolean_code(hash, *value),
+        Scalar::Num(number) => number_code(hash, *number),
+        Scalar::Text(text) => text_code(hash, text),
+    }
+}
+
+// The code of a reference to the target.
+pub(crate) fn ref_code(seed: &RandomState, target: &Txt) -> u32
+    ensures { result ≡ ref_code seed.now target.now }
+{
+    code_of(&with_text(with_mark(start(seed), REFERENCE), target.as_str()))
+}
+
+// The code of a key; a key that no index keeps has the code 0.
+pub(crate) fn key_code(seed: &RandomState, key: &Key) -> u32
+    ensures { result ≡ key_code seed.now key.now }
+{
+    match key {
+        Key::All => 0,
+        Key::Id(_) => 0,
+        Key::Path(names, scalar) => {
+            scalar_code(with_value(with_names(start(seed), names.texts())), scalar)
+        }
+        Key::Elem(names, scalar) => {
+            scalar_code(with_element(with_names(start(seed), names.texts())), scalar)
+        }
+        Key::Ref(target) => ref_code(seed, target),
+    }
+}

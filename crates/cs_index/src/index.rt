@@ -1,0 +1,92 @@
+//! The index of a store.
+ghost use Rattle.std.specs.Prelude.{IfOk, OnOk};
+ghost use Rattle.cs_view.specs.View.{edits};
+ghost use Rattle.cs_index.specs.Index.{IsIndexOf, AreOutdated, AreApplied, FollowsChanges, ArePlacesOf};
+
+use crate::build::put_all;
+use crate::entry::Entry;
+use crate::pick::{all_places, place_of_id, places_under};
+use crate::put::{list_changes, put_changes, take_out};
+use cs_docs::Docs;
+use cs_value::NoMemory;
+use cs_view::{Change, Key};
+use std::alloc::Global;
+use std::collections::BTreeSet;
+use std::hash::RandomState;
+
+/// The places of a store's documents by the codes of their keys. It keeps each scalar at an
+/// attribute path of at most four names, each scalar element of a list at such a path, and each
+/// `_ref`: for each of them the code and the place alone. The codes depend on its seed, so that
+/// those who choose the documents can't choose which keys share a code; no answer does.
+#[derive(Drop)]
+pub struct Index {
+    pub(crate) entries: BTreeSet<Entry>,
+    pub(crate) seed: RandomState,
+    pub(crate) alloc: Global,
+}
+
+impl Index {
+    /// The index of the documents of a store. `NoMemory` where the allocator has no room for it.
+    pub fn build(alloc: Global, seed: RandomState, docs: &Docs) -> Result<Index, NoMemory>
+        ensures { IfOk result (λ index. IsIndexOf index docs.now) }
+    {
+        let mut entries = BTreeSet::new(alloc);
+        put_all(alloc, &seed, &mut entries, docs)?;
+        Ok(Index {
+            entries,
+            seed,
+            alloc,
+        })
+    }
+
+    /// The entries that changes of a store part with: those of codes that a document has before and
+    /// not after. They are asked for before the changes are installed, since they name places.
+    /// `NoMemory` where the allocator has no room for them.
+    pub fn outdated(&self, docs: &Docs, changes: &[Change]) -> Result<Vec<Entry>, NoMemory>
+        ensures { IfOk result
+            (λ es. AreOutdated self.now docs.now (edits changes.now) es.items) }
+    {
+        list_changes(self.alloc, &self.seed, docs, changes)
+    }
+
+    /// Takes the index of a store to that of the store in which the changes were installed. An
+    /// entry that both sides of a change have is not touched. After `NoMemory` it must not be used.
+    pub fn apply(
+        &mut self,
+        docs: &Docs,
+        outdated: Vec<Entry>,
+        changes: &[Change],
+    ) -> Result<(), NoMemory>
+        ensures entries { OnOk result (AreApplied self.old self.new docs.now
+            (edits changes.now) outdated.items) }
+        ensures follows { OnOk result (FollowsChanges self.old self.new docs.now
+            (edits changes.now) outdated.items) }
+    {
+        take_out(&mut self.entries, outdated);
+        put_changes(self.alloc, &self.seed, &mut self.entries, docs, changes)?;
+        Ok(())
+    }
+
+    /// The places of the documents that have the key, in the order of their ids. Of the documents
+    /// that the index names each is tested. `NoMemory` where the allocator has no room for them.
+    pub fn select(&self, alloc: Global, key: &Key, docs: &Docs) -> Result<Vec<u32>, NoMemory>
+        requires { IsIndexOf self.now docs.now }
+        ensures { IfOk result (λ places. ArePlacesOf key.now docs.now places.items) }
+    {
+        match key {
+            Key::All => all_places(alloc, docs),
+            Key::Id(id) => place_of_id(alloc, key, id, docs),
+            Key::Path(names, _) => {
+                // There are at most four of them.
+                let _few = names.len();
+                places_under(alloc, &self.seed, &self.entries, key, docs)
+            }
+            Key::Elem(names, _) => {
+                // Here too.
+                let _few = names.len();
+                places_under(alloc, &self.seed, &self.entries, key, docs)
+            }
+            Key::Ref(_) => places_under(alloc, &self.seed, &self.entries, key, docs),
+        }
+    }
+}

@@ -1,0 +1,22 @@
+//! An index of the documents of a store: by a key it finds its documents without a walk over all.
+#![tactic(auto)]
+
+mod build;
+mod code;
+mod commit;
+mod entry;
+mod index;
+mod indexed;
+pub mod laws;
+mod pick;
+mod put;
+mod referrers;
+#[cfg(test)]
+mod tests;
+mod view;
+mod walk;
+
+pub use commit::{InstallFault, install};
+pub use entry::Entry;
+pub use index::Index;
+pub use indexed::Indexed;

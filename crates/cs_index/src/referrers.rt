@@ -1,0 +1,132 @@
+//! The next document that refers to an id, found under the code of the reference.
+ghost use Rattle.std.specs.Prelude.{◌≡◌, ◌&&◌, None, option_map};
+ghost use Rattle.cs_view.specs.View.{doc as document};
+ghost use Rattle.cs_shelf.specs.Referring.{above};
+ghost use Rattle.cs_docs.specs.Suspects.{lesser};
+ghost use Rattle.cs_index.specs.Picking.{under};
+ghost use Rattle.cs_index.specs.Referring.{referrer, referrer_at, is_below, least};
+
+use crate::entry::Entry;
+use cs_docs::Docs;
+use cs_value::Txt;
+use cs_view::{Doc, has_ref};
+use std::cmp::Ordering;
+use std::collections::BTreeSet;
+
+fn is_above(low: Option<&Txt>, id: &Txt) -> bool
+    ensures { result ≡ above (option_map (λ i. i.now) low.entry) id.now }
+{
+    match low {
+        Some(low) => low.as_str().cmp(id.as_str()) == Ordering::Less,
+        None => true,
+    }
+}
+
+// Of two documents the one with the lesser id.
+fn lesser<'d>(one: Option<&'d Doc>, other: Option<&'d Doc>) -> Option<&'d Doc>
+    ensures { option_map (λ d. document d.now) result
+        ≡ lesser (option_map (λ d. document d.now) one.entry)
+        (option_map (λ d. document d.now) other.entry) }
+{
+    let Some(a) = one else { return other };
+    let Some(b) = other else { return Some(a) };
+    if b.id().as_str().cmp(a.id().as_str()) == Ordering::Less {
+        Some(b)
+    } else {
+        Some(a)
+    }
+}
+
+fn is_below(id: &Txt, high: Option<&Doc>) -> bool
+    ensures { result ≡ is_below id.now (option_map (λ d. document d.now) high.entry) }
+{
+    match high {
+        Some(doc) => id.as_str().cmp(doc.id().as_str()) == Ordering::Less,
+        None => true,
+    }
+}
+
+// The document with the id, if it refers to the target and stands above `low`.
+fn referrer<'d>(docs: &'d Docs, target: &Txt, low: Option<&Txt>, id: &Txt) -> Option<&'d Doc>
+    ensures { option_map (λ d. document d.now) result
+        ≡ referrer docs.now target.now (option_map (λ i. i.now) low.entry) id.now }
+{
+    let doc = docs.get(id)?;
+    if has_ref(doc.val(), target) && is_above(low, doc.id()) {
+        Some(doc)
+    } else {
+        None
+    }
+}
+
+fn is_between(low: Option<&Txt>, id: &Txt, high: Option<&Doc>) -> bool
+    ensures { result ≡ (above (option_map (λ i. i.now) low.entry) id.now
+        && is_below id.now (option_map (λ d. document d.now) high.entry)) }
+{
+    is_above(low, id) && is_below(id, high)
+}
+
+// Of a document and the one with the id, if this refers to the target and stands above `low`, the
+// one with the lesser id. A document that can't be the answer is not looked up.
+#[tactic(auto, using(crate::proofs::Nearest::not_between))]
+fn nearer<'d>(
+    docs: &'d Docs,
+    target: &Txt,
+    low: Option<&Txt>,
+    id: &Txt,
+    least: Option<&'d Doc>,
+) -> Option<&'d Doc>
+    ensures { option_map (λ d. document d.now) result
+        ≡ lesser (option_map (λ d. document d.now) least.entry)
+        (referrer docs.now target.now (option_map (λ i. i.now) low.entry) id.now) }
+{
+    if is_between(low, id, least) {
+        lesser(least, referrer(docs, target, low, id))
+    } else {
+        least
+    }
+}
+
+// Of a document and the one at a place, if this refers to the target and stands above `low`, the
+// one with the lesser id.
+fn nearer_at<'d>(
+    docs: &'d Docs,
+    target: &Txt,
+    low: Option<&Txt>,
+    place: u32,
+    least: Option<&'d Doc>,
+) -> Option<&'d Doc>
+    ensures { option_map (λ d. document d.now) result
+        ≡ lesser (option_map (λ d. document d.now) least.entry)
+        (referrer_at docs.now target.now (option_map (λ i. i.now) low.entry) place) }
+{
+    match docs.found(place) {
+        Some(found) => nearer(docs, target, low, found.id(), least),
+        None => least,
+    }
+}
+
+// The document with the least id, above `low` where it is given, that refers to the target, among
+// those at the places under a code. It takes no memory.
+pub(crate) fn next_under<'d>(
+    entries: &BTreeSet<Entry>,
+    code: u32,
+    docs: &'d Docs,
+    target: &Txt,
+    low: Option<&Txt>,
+) -> Option<&'d Doc>
+    ensures { option_map (λ d. document d.now) result
+        ≡ least docs.now target.now (option_map (λ i. i.now) low.entry)
+        (under entries.now code) None }
+{
+    let mut least = None;
+    let first = Entry { code, place: 0 };
+    let last = Entry {
+        code,
+        place: 4_294_967_295,
+    };
+    for entry in entries.range(first..=last) {
+        least = nearer_at(docs, target, low, entry.place, least);
+    }
+    least
+}
