@@ -1,3 +1,4 @@
+mod Listening
 mod Noting
 mod Replying
 mod Told

@@ -1,11 +1,7 @@
 -- What is built so far. Every other command is answered `not-built` and changes nothing, and this is
 -- the one place that says so: each case that is built takes a line away, and the file goes with the
 -- last one, so that the machine is the plain machine.
-use Rattle.std.specs.Prelude.{ℕ, List, Bool, true, false, not, cond, is_some, Option, Some, None, option_and_then, codes}
-use Rattle.std.specs.List.{list_any}
-use Rattle.cs_value.specs.Tree.{Tree}
-use Rattle.cs_value.specs.Pairs.{attribute}
-use Rattle.cs_value.specs.Words.{as_list}
+use Rattle.std.specs.Prelude.{ℕ, List, Bool, true, false, cond}
 use Rattle.cs_wire.specs.Commands.{Request, mutate, query, live, listen, stop, at}
 use Rattle.cs_reply.specs.Refusal.{not_built}
 use Rattle.cs_machine.specs.Fold.{Stepped}
@@ -16,23 +12,12 @@ use Rattle.cs_machine.specs.Replies.{reply_lines, numbered}
 use Rattle.cs_machine.specs.Rows.{row}
 use Rattle.cs_machine.specs.State.{State}
 
-abbrev pub is_patch : Tree → Bool
-is_patch t = is_some (attribute (codes "patch") t)
-
-abbrev pub some_patch : Option (List Tree) → Bool
-some_patch None = false
-some_patch (Some ts) = list_any is_patch ts
-
--- a mutation of the body is a patch
-abbrev pub has_patch : Tree → Bool
-has_patch body = some_patch (option_and_then as_list (attribute (codes "mutations") body))
-
 abbrev pub is_built : Request → Bool
-is_built (mutate body) = not (has_patch body)
+is_built (mutate body) = true
 is_built (query text params) = true
 is_built (live name text params) = false
-is_built (listen name text params result previous) = false
-is_built (stop name) = false
+is_built (listen name text params result previous) = true
+is_built (stop name) = true
 is_built (at moment) = true
 
 -- the row of the plain machine, as far as it is built

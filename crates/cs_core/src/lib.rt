@@ -1,6 +1,7 @@
 //! The store's machine: its state, and what each line of a script does to it.
 #![tactic(auto)]
 
+mod listen;
 mod machine;
 mod moment;
 mod query;

@@ -21,6 +21,7 @@ ghost use Rattle.cs_machine.specs.State.{begun};
 use cs_docs::Docs;
 use cs_io::Line;
 use cs_json::{JsonFault, ValueReader};
+use cs_listen::Listeners;
 use cs_reply::{Refusal, Reply};
 use cs_value::{NoMemory, Steps, Txt, Val};
 use cs_wire::{BadCommand, Command, commands_are_within, is_blank};
@@ -71,8 +72,8 @@ impl Replies {
     }
 }
 
-/// The machine: the documents that the lines so far have left, the moment, and the ids of accepted
-/// transactions in the order in which they were.
+/// The machine: the documents that the lines so far have left, the moment, the ids of accepted
+/// transactions in the order in which they were, and the listeners.
 #[derive(Drop)]
 pub struct Core {
     pub(crate) alloc: Global,
@@ -80,6 +81,7 @@ pub struct Core {
     pub(crate) docs: Docs,
     pub(crate) moment: Txt,
     pub(crate) used: IndexSet<String>,
+    pub(crate) listeners: Listeners,
 }
 
 impl Core {
@@ -93,6 +95,7 @@ impl Core {
             docs,
             moment: Txt::copy_of(alloc, FIRST_MOMENT)?,
             used: IndexSet::new(alloc),
+            listeners: Listeners::new(alloc),
         })
     }
 
@@ -223,13 +226,21 @@ impl Core {
                 params: _,
             } => self.refuse(Refusal::NotBuilt, line, out),
             Command::Listen {
-                name: _,
-                text: _,
-                params: _,
-                include_result: _,
-                include_previous: _,
-            } => self.refuse(Refusal::NotBuilt, line, out),
-            Command::Stop { name: _ } => self.refuse(Refusal::NotBuilt, line, out),
+                name,
+                text,
+                params,
+                include_result,
+                include_previous,
+            } => self.listen(
+                name,
+                text.as_str(),
+                params,
+                include_result,
+                include_previous,
+                line,
+                out,
+            ),
+            Command::Stop { name } => self.stop(name.as_str(), line, out),
             Command::At { moment } => self.at(moment, line, out),
         }
     }

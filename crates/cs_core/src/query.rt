@@ -25,7 +25,7 @@ use std::alloc::Global;
 use std::sync::ledger::Ledger;
 
 // Why a text is no query. `None` for want of memory.
-fn refusal(fault: &ParseFault) -> Option<Refusal<'_>>
+pub(crate) fn refusal(fault: &ParseFault) -> Option<Refusal<'_>>
     ensures { option_map refusal_seen result ≡ option_and_then why_none
         (reading_of fault.entry.now) }
 {

@@ -1,11 +1,9 @@
 //! The row of `mutate`: a transaction, in three parts. What reads and prepares it changes nothing;
 //! then all that needs memory is made; and what comes behind the installing can't fail.
-ghost use Rattle.std.specs.Prelude.{◌≡◌, ◌<◌, ◌≤◌, ◌^◌, OnOk, OnErr, IfOk, length, map, string_bytes, true, false};
-ghost use Rattle.std.specs.List.{list_any};
+ghost use Rattle.std.specs.Prelude.{◌≡◌, ◌++◌, ◌<◌, ◌≤◌, ◌^◌, OnOk, OnErr, IfOk, length, map, string_bytes, false};
 ghost use Rattle.indexmap.specs.IndexSet.{contains_text, spare};
 ghost use Rattle.cs_value.specs.Tree.{widest};
 ghost use Rattle.cs_value.specs.View.{tree};
-ghost use Rattle.cs_value.specs.Words.{as_list};
 ghost use Rattle.cs_view.specs.Changes.{After};
 ghost use Rattle.cs_view.specs.View.{edit, edits};
 ghost use Rattle.cs_docs.specs.Store.{docs as docs_of, prepared as changes_of};
@@ -14,19 +12,21 @@ ghost use Rattle.cs_io.specs.Lines.{longest_line};
 ghost use Rattle.cs_body.specs.View.{txn as plain};
 ghost use Rattle.cs_wire.specs.Commands.{mutate};
 ghost use Rattle.cs_reply.specs.Reply.{reply_tree, committed};
-ghost use Rattle.cs_reply.specs.View.{Appended, outcome as outcome_seen};
+ghost use Rattle.cs_reply.specs.View.{Appended, event, outcome as outcome_seen};
+ghost use Rattle.cs_listen.specs.Events.{events};
+ghost use Rattle.cs_listen.specs.Listeners.{listeners};
 ghost use Rattle.cs_machine.specs.Rows.{by_transaction, installed, outcome};
 ghost use Rattle.cs_machine.specs.State.{with_used};
-ghost use Rattle.cs_txn.specs.Within.{AreShort, without_patches};
-ghost use Rattle.cs_core.specs.Built.{built_row, has_patch, is_patch, some_patch};
+ghost use Rattle.cs_txn.specs.Within.{AreShort};
+ghost use Rattle.cs_core.specs.Built.{built_row};
 ghost use Rattle.cs_core.specs.Core.{state};
-ghost use Rattle.cs_core.specs.Does.{Does, Leaves};
+ghost use Rattle.cs_core.specs.Does.{Does, Leaves, heard_lines};
 
 use crate::machine::Core;
 use crate::refused::write_refused;
 use cs_body::{Txn, TxnFault, transactions_are_within};
 use cs_docs::Prepared;
-use cs_reply::{Operation, Outcome, Refusal, Reply};
+use cs_reply::{Event, Operation, Outcome, Refusal, Reply};
 use cs_txn::laws::{commits_keep_datasets, within_are_short};
 use cs_txn::prepare;
 use cs_value::{NoMemory, Steps, Txt, Val};
@@ -34,43 +34,6 @@ use cs_view::Change;
 use cs_view::laws::{changes_are_computed, changes_are_one_list};
 use std::alloc::Global;
 use std::sync::ledger::Ledger;
-
-fn is_patch(mutation: &Val) -> bool
-    ensures { result ≡ is_patch (tree mutation.now) }
-{
-    mutation.field("patch").is_some()
-}
-
-fn some_patch(mutations: &[Val]) -> bool
-    ensures { result ≡ list_any is_patch (map tree mutations.now) }
-{
-    for mutation in mutations {
-        if is_patch(mutation) {
-            return true;
-        }
-    }
-    false
-}
-
-// The same of what stands under `mutations`.
-fn lists_patch(mutations: &Val) -> bool
-    ensures { result ≡ some_patch (as_list (tree mutations.now)) }
-{
-    match mutations {
-        Val::List(mutations) => some_patch(mutations),
-        _ => false,
-    }
-}
-
-// Whether a mutation of the body is a patch.
-fn has_patch(body: &Val) -> bool
-    ensures { result ≡ has_patch (tree body.now) }
-{
-    match body.field("mutations") {
-        Some(mutations) => lists_patch(mutations),
-        None => false,
-    }
-}
 
 // What became of one document.
 fn outcome(change: &Change) -> Outcome<'_>
@@ -99,8 +62,24 @@ fn outcomes<'a>(alloc: Global, changes: &'a [Change]) -> Result<Vec<Outcome<'a>>
     Ok(outcomes)
 }
 
+// Each event as a line.
+fn write_heard(
+    alloc: Global,
+    events: &[Event<'_>],
+    line: u32,
+    out: &mut Vec<u8>,
+) -> Result<(), NoMemory>
+    ensures { OnOk result (out.new.items ≡ out.old.items ++ heard_lines line
+        (map event events.now)) }
+{
+    for heard in events {
+        Reply::Heard(*heard).write(alloc, line, out)?;
+    }
+    Ok(())
+}
+
 impl Core {
-    // A transaction, as far as it is built: patches are not.
+    // A transaction.
     pub(crate) fn mutate<L: Ledger>(
         &mut self,
         body: Val,
@@ -115,9 +94,6 @@ impl Core {
     {
         transactions_are_within();
         within_are_short();
-        if has_patch(&body) {
-            return self.refuse(Refusal::NotBuilt, line, out);
-        }
         match Txn::read(self.alloc, body, line) {
             Ok(txn) => self.transact(&txn, line, steps, out),
             Err(TxnFault::BadCommand) => self.refuse(Refusal::BadCommand, line, out),
@@ -136,7 +112,6 @@ impl Core {
     ) -> Result<(), NoMemory>
         requires few { length txn.now.mutations.items < 2 ^ 31 }
         requires short { AreShort (plain txn.now).actions }
-        requires unpatched { without_patches (plain txn.now).actions ≡ true }
         ensures does { OnOk result (Does out.old.items out.new.items (state self.new) line
             (by_transaction (state self.old) (plain txn.now))) }
         ensures leaves { OnErr result (Leaves self.old self.new) }
@@ -170,6 +145,7 @@ impl Core {
         ensures leaves { OnErr result (Leaves self.old self.new) }
     {
         self.write_committed(tx, prepared, line, out)?;
+        self.write_events(tx, prepared, line, out)?;
         let id = self.room_for(tx)?;
         self.docs.install(prepared)?;
         self.note(id);
@@ -193,6 +169,27 @@ impl Core {
             outcomes: outcomes.as_slice(),
         }
         .write(self.alloc, line, out)
+    }
+
+    // What the listeners hear of an accepted transaction.
+    fn write_events(
+        &self,
+        tx: &Txt,
+        prepared: &Prepared,
+        line: u32,
+        out: &mut Vec<u8>,
+    ) -> Result<(), NoMemory>
+        ensures { OnOk result (out.new.items ≡ out.old.items ++ heard_lines line
+            (events tx.now self.now.moment (changes_of prepared.now)
+            (listeners self.now.listeners))) }
+    {
+        let heard = self.listeners.events(
+            self.alloc,
+            tx.as_str(),
+            self.moment.as_str(),
+            prepared.changes(),
+        )?;
+        write_heard(self.alloc, heard.as_slice(), line, out)
     }
 
     // A copy of the id, and room for it among those of accepted transactions.

@@ -1,9 +1,8 @@
-use Rattle.std.proofs.Common.{◌≡◌, refl, sym, ◌∙◌, length, map, arith}
+use Rattle.std.proofs.Common.{◌≡◌, refl, length, map, arith}
 use Rattle.std.proofs.lemmas.List.{length-map}
 use Rattle.cs_value.specs.Tree.{widest}
 use Rattle.cs_value.specs.View.{tree}
 use Rattle.cs_body.specs.View.{txn, action}
-use Rattle.cs_core.proofs.Transacting.{unpatched}
 use Rattle.cs_core.proofs.machine.Core.mutate.Goals as goal
 
 pub transact-requires-clause-few : goal.transact-requires-clause-few
@@ -23,8 +22,3 @@ transact-requires-clause-short g c =
     c.in-Ok.ensures.read in
     c.within_are_short.ensures (widest (tree c.args.body)) x.actions
     (omega (arith, c.requires.short)) within.1
-
-pub transact-requires-clause-unpatched : goal.transact-requires-clause-unpatched
-transact-requires-clause-unpatched g c =
-    unpatched (tree c.args.body) c.args.line (txn c.in-Ok.txn)
-    (sym c.has_patch.ensures ∙ c.if-has_patch.false) c.in-Ok.ensures.read
