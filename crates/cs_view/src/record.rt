@@ -47,6 +47,13 @@ impl Record {
         }
     }
 
+    /// The keys, in the order in which they were added.
+    pub fn into_keys(self) -> Vec<Key>
+        ensures { result.items ≡ self }
+    {
+        self.keys
+    }
+
     /// Whether some key of the record is had by the document before or after some change. It takes
     /// no memory.
     pub fn touched(&self, changes: &[Change]) -> bool
