@@ -1,8 +1,8 @@
 //! Places in a value.
 use cs_value::Txt;
 
-/// A part of a place: one step into a value.
-#[derive(Drop)]
+/// A part of a place: one step into a value. In the order of parts, names come before positions.
+#[derive(Drop, PartialEq, Eq, PartialOrd, Ord)]
 pub enum Part {
     /// The attribute of the name, of an object.
     Name(Txt),
