@@ -4,10 +4,11 @@ mod Deep
 mod Examples
 pub mod Fixed
 mod Giving
+mod Holding
 mod Kept
+mod Looked
 mod Missing
 mod Named
-mod Outer
 mod Reading
 mod Seeing
 pub mod Stamped

@@ -1,6 +1,7 @@
 pub mod Asked
 pub mod Entries
 pub mod Faults
+pub mod Held
 pub mod Laws
 pub mod Operations
 pub mod Outcomes

@@ -60,7 +60,8 @@ impl<'p> ReadPatch<'p> {
     // The revision that a document must have is asked for first.
     fn check_revision(&self, alloc: Global, doc: &Doc) -> Result<(), PatchFault>
         ensures { MatchResult result
-            (λ _. revision_refusal (read_patch self.now).if_revision (rev_of (doc_of doc.now)) ≡ None)
+            (λ _. revision_refusal (read_patch self.now).if_revision
+            (rev_of (doc_of doc.now)) ≡ None)
             (IsPatchFault (λ r. revision_refusal (read_patch self.now).if_revision
             (rev_of (doc_of doc.now)) ≡ Some r)) }
     {

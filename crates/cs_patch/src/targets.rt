@@ -1,14 +1,13 @@
 //! The targets of a path.
 ghost use Rattle.std.specs.Prelude.{◌≡◌, ◌++◌, IfOk, OnOk, List, [], ◌∷◌, ℕ, cond, filter, map};
-ghost use Rattle.std.specs.List.{list_any};
 ghost use Rattle.cs_value.specs.View.{tree};
-ghost use Rattle.cs_alter.specs.Within.{is_inside as inside_of, reach};
+ghost use Rattle.cs_alter.specs.Within.{reach};
 ghost use Rattle.cs_patch.specs.Targets.{targets_from, target_by};
-ghost use Rattle.cs_patch.specs.Seen.{stands_of, way_of, seen, seen_of, outer_seen, is_absent, is_missing as missing_word};
+ghost use Rattle.cs_patch.specs.Seen.{stands_of, way_of, seen, seen_of, is_absent, is_missing as missing_word};
 ghost use Rattle.cs_jsonmatch.specs.View.{locations};
 ghost use Rattle.cs_jsonmatch.specs.declared.places.Part.TheVariants.{Name};
 
-use cs_alter::{copy_parts, is_inside, look};
+use cs_alter::{copy_parts, look};
 use cs_jsonmatch::{Part, Place};
 use cs_value::{NoMemory, Txt, Val};
 use std::alloc::Global;
@@ -110,20 +109,11 @@ pub(crate) fn targets(
     Ok(found)
 }
 
-// Whether a target is inside one of the targets.
-fn is_inside_some(target: &Target, targets: &[Target]) -> bool
-    ensures { result ≡ list_any (λ u. inside_of target.now.location.items u.location.items)
-        targets.now }
-{
-    for other in targets {
-        if is_inside(&target.location, &other.location) {
-            return true;
-        }
-    }
-    false
-}
-
-fn keep<'t>(keeps: bool, target: &'t Target, kept: &mut Vec<&'t Target>) -> Result<(), NoMemory>
+pub(crate) fn keep<'t>(
+    keeps: bool,
+    target: &'t Target,
+    kept: &mut Vec<&'t Target>,
+) -> Result<(), NoMemory>
     ensures { (ns : List (List ℕ)) → OnOk result (map (λ t. seen ns t.now) kept.new.items
         ≡ map (λ t. seen ns t.now) kept.old.items ++ cond keeps (seen ns target.now ∷ []) []) }
 {
@@ -131,21 +121,6 @@ fn keep<'t>(keeps: bool, target: &'t Target, kept: &mut Vec<&'t Target>) -> Resu
         kept.push(target)?;
     }
     Ok(())
-}
-
-// The targets that are inside no other one.
-pub(crate) fn outermost<'t>(
-    alloc: Global,
-    targets: &'t [Target],
-) -> Result<Vec<&'t Target>, NoMemory>
-    ensures { (ns : List (List ℕ)) → IfOk result
-        (λ kept. map (λ t. seen ns t.now) kept.items ≡ outer_seen (map (seen ns) targets.now)) }
-{
-    let mut kept = Vec::new(alloc);
-    for target in targets {
-        keep(!is_inside_some(target, targets), target, &mut kept)?;
-    }
-    Ok(kept)
 }
 
 fn is_missing(target: &Target) -> bool
