@@ -11,5 +11,5 @@ mod write;
 
 pub use alteration::{Alteration, Change, Gift, Insertion, Side};
 pub use lookup::look;
-pub use parts::{copy_part, copy_parts, is_inside};
+pub use parts::{copy_part, copy_parts};
 pub use write::{alter, remove};
