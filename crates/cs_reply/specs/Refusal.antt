@@ -9,8 +9,6 @@ pub data Refusal : Type 0 where
   too_deep : Refusal
   not_whole : Refusal
   bad_command : Refusal
-  -- a command in a form that is not built yet
-  not_built : Refusal
   -- a text is no query: the place where no token begins, brackets, syntax, or a name that is at
   -- fault
   bad_token : ℕ → Refusal
@@ -37,7 +35,6 @@ word_of not_json = codes "not-json"
 word_of too_deep = codes "too-deep"
 word_of not_whole = codes "not-whole"
 word_of bad_command = codes "bad-command"
-word_of not_built = codes "not-built"
 word_of (bad_token at) = codes "bad-token"
 word_of deep_query = codes "deep-query"
 word_of syntax = codes "syntax"
@@ -59,7 +56,6 @@ details_of not_json = []
 details_of too_deep = []
 details_of not_whole = []
 details_of bad_command = []
-details_of not_built = []
 details_of (bad_token at) = (codes "at", number at) ∷ []
 details_of deep_query = []
 details_of syntax = []

@@ -7,7 +7,7 @@ use Rattle.cs_reply.specs.Refusal as why
 use Rattle.cs_reply.specs.Reply as said
 use Rattle.cs_reply.specs.Stated as stated
 use Rattle.cs_reply.specs.declared.refusal.Refusal.{Refusal}
-use Rattle.cs_reply.specs.declared.refusal.Refusal.TheVariants.{NotJson, TooDeep, NotWhole, BadCommand, NotBuilt, BadToken, DeepQuery, Syntax, Unsupported, UnknownFunction, Arity, NoKey, NotListenable, NameUsed, FullSubscriptions, NoName, BadMoment, BadTx, TxUsed}
+use Rattle.cs_reply.specs.declared.refusal.Refusal.TheVariants.{NotJson, TooDeep, NotWhole, BadCommand, BadToken, DeepQuery, Syntax, Unsupported, UnknownFunction, Arity, NoKey, NotListenable, NameUsed, FullSubscriptions, NoName, BadMoment, BadTx, TxUsed}
 use Rattle.cs_reply.specs.declared.event.Event.{Event}
 use Rattle.cs_reply.specs.declared.event.Transition.{Transition}
 use Rattle.cs_reply.specs.declared.event.Transition.TheVariants as heard
@@ -15,7 +15,7 @@ use Rattle.cs_reply.specs.declared.reply.Operation.{Operation}
 use Rattle.cs_reply.specs.declared.reply.Operation.TheVariants.{Create, Update, Delete}
 use Rattle.cs_reply.specs.declared.reply.Outcome.{Outcome}
 use Rattle.cs_reply.specs.declared.reply.Reply.{Reply}
-use Rattle.cs_reply.specs.declared.reply.Reply.TheVariants.{Committed, Found, Welcome, Heard, Stopped, Set, Refused}
+use Rattle.cs_reply.specs.declared.reply.Reply.TheVariants.{Committed, Found, Live, Welcome, Heard, Stopped, Set, Refused}
 use Rattle.cs_reply.specs.declared.stated.Cause.{Cause}
 use Rattle.cs_reply.specs.declared.stated.Cause.TheVariants as line
 use Rattle.cs_reply.specs.declared.stated.Source.{Source}
@@ -28,7 +28,6 @@ refusal NotJson = why.not_json
 refusal TooDeep = why.too_deep
 refusal NotWhole = why.not_whole
 refusal BadCommand = why.bad_command
-refusal NotBuilt = why.not_built
 refusal (BadToken at) = why.bad_token at
 refusal DeepQuery = why.deep_query
 refusal Syntax = why.syntax
@@ -73,6 +72,7 @@ event e = record {
 abbrev pub reply : Reply → said.Reply
 reply (Committed tx outcomes) = said.committed tx.now (map outcome outcomes.now)
 reply (Found node) = said.found (node_tree node)
+reply (Live name answer) = said.live name.now (node_tree answer)
 reply (Welcome name) = said.welcome name.now
 reply (Heard e) = said.event (event e)
 reply (Stopped name) = said.stopped name.now

@@ -11,7 +11,7 @@ mod stated;
 mod tests;
 
 pub use event::{Event, Transition};
-pub use line::write_value;
+pub use line::{write_line, write_value};
 pub use refusal::Refusal;
 pub use reply::{Operation, Outcome, Reply};
 pub use stated::{Cause, Source, Stop};

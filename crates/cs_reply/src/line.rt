@@ -40,7 +40,7 @@ pub(crate) fn member<'a>(name: &'a str, node: Node<'a>) -> Member<'a>
 
 /// Appends the compact text of an object and a newline. The names ascend by their bytes. After
 /// `NoMemory` a part of it may have been appended.
-pub(crate) fn write_line(
+pub fn write_line(
     alloc: Global,
     members: Vec<Member<'_>>,
     out: &mut Vec<u8>,

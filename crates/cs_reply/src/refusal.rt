@@ -21,8 +21,6 @@ pub enum Refusal<'a> {
     NotWhole,
     /// It has not the keys and types of a command.
     BadCommand,
-    /// It is a command in a form that is not built yet.
-    NotBuilt,
     /// No token of a query begins at this byte of its text.
     BadToken { at: u32 },
     /// More than 48 brackets of a query are open at once.
@@ -136,7 +134,6 @@ impl Refusal<'_> {
             Refusal::TooDeep => plain(alloc, "too-deep", line, out),
             Refusal::NotWhole => plain(alloc, "not-whole", line, out),
             Refusal::BadCommand => plain(alloc, "bad-command", line, out),
-            Refusal::NotBuilt => plain(alloc, "not-built", line, out),
             Refusal::BadToken { at } => bad_token(alloc, at, line, out),
             Refusal::DeepQuery => plain(alloc, "deep-query", line, out),
             Refusal::Syntax => plain(alloc, "syntax", line, out),

@@ -45,6 +45,11 @@ fn writes_replies(rt: HostRuntime) -> Result<(), Fail> {
         written(alloc, Reply::Found(Node::Flag(true)))?.as_str(),
         "{\"line\":7,\"result\":true}\n"
     );
+    let answer = Node::Flag(false);
+    assert_eq!(rt;
+        written(alloc, Reply::Live { name: "a", answer })?.as_str(),
+        "{\"line\":7,\"live\":\"a\",\"result\":false}\n"
+    );
     assert_eq!(rt;
         written(alloc, Reply::Set("2024-03-01T00:00:00Z"))?.as_str(),
         "{\"at\":\"2024-03-01T00:00:00Z\",\"line\":7}\n"
