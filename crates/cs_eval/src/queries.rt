@@ -8,8 +8,8 @@ ghost use Rattle.cs_syntax.specs.Queries.{query as expression_of};
 ghost use Rattle.cs_syntax.specs.View.{expression, step as step_of};
 ghost use Rattle.cs_view.specs.Scopes.{scope};
 ghost use Rattle.cs_view.specs.View.{doc as document};
-ghost use Rattle.cs_plan.specs.Simple.{is_simple};
-ghost use Rattle.cs_meaning.specs.Hits.{is_hit, tail, cost};
+ghost use Rattle.cs_plan.specs.Simple.{is_simple, query_key};
+ghost use Rattle.cs_meaning.specs.Hits.{is_hit, hits, tail, cost};
 ghost use Rattle.cs_meaning.specs.Looked.{query_looked};
 ghost use Rattle.cs_meaning.specs.Operators.{is_true};
 ghost use Rattle.cs_parts.specs.Parts.{got};
@@ -17,11 +17,12 @@ ghost use Rattle.cs_meaning.specs.Values.{value as value_of, pipes_value, query_
 ghost use Rattle.cs_expr.specs.Starts.{enter_value};
 
 use cs_expr::{enter, eval as evaluate, holds, keep_lent, pipes};
+use cs_meaning::hits_have_key;
 use cs_parts::{Got, NoDocs, Source, head_filter, kinds, push};
 use cs_plan::{choose, simple};
 use cs_syntax::{Expr, Query, Step};
 use cs_value::{Fields, NoMemory, Steps, Val};
-use cs_view::{Doc, Record, Scope, View};
+use cs_view::{Doc, Key, Record, Scope, View};
 use std::alloc::Global;
 use std::sync::ledger::Ledger;
 
@@ -87,6 +88,65 @@ pub fn hit(alloc: Global, query: &Query, params: &Fields, doc: &Doc) -> Result<b
         &mut aside,
         &mut nothing,
     )
+}
+
+/// Copies of the documents of a view that make the filter of a simple query true, in the order of
+/// the dataset. No more documents are visited than have the key of the query.
+pub fn hits<V: View<L>, L: Ledger>(
+    alloc: Global,
+    query: &Query,
+    params: &Fields,
+    view: &V,
+    steps: &mut Steps<L>,
+) -> Result<Vec<Doc>, NoMemory>
+    requires { is_simple (expression_of query.now) ≡ true }
+    ensures hits { IfOk result (λ v. map document v.items
+        ≡ hits (expression_of query.now) (fields params.now) (V.docs view.now)) }
+    ensures visits { steps.new
+        ≤ steps.old + cost (expression_of query.now) (fields params.now) (V.docs view.now) }
+{
+    hits_have_key();
+    let key = key_of(alloc, query, params)?;
+    let places = View::select(view, alloc, &key)?;
+    let mut found = Vec::new(alloc);
+    for place in &places {
+        push_hit(alloc, query, params, view.at(*place, steps), &mut found)?;
+    }
+    Ok(found)
+}
+
+// Puts a copy of the document last, where it makes the filter true.
+fn push_hit(
+    alloc: Global,
+    query: &Query,
+    params: &Fields,
+    doc: &Doc,
+    found: &mut Vec<Doc>,
+) -> Result<(), NoMemory>
+    requires { is_simple (expression_of query.now) ≡ true }
+    ensures { OnOk result (map document found.new.items
+        ≡ map document found.old.items
+        ++ hits (expression_of query.now) (fields params.now) (document doc.now ∷ [])) }
+{
+    if hit(alloc, query, params, doc)? {
+        found.push(doc.copy(alloc)?)?;
+    }
+    Ok(())
+}
+
+// The key of a simple query.
+fn key_of(alloc: Global, query: &Query, params: &Fields) -> Result<Key, NoMemory>
+    requires { is_simple (expression_of query.now) ≡ true }
+    ensures { IfOk result (λ k. k ≡ query_key (expression_of query.now) (fields params.now)) }
+{
+    let root = Scope {
+        this: query.null(),
+        parent: None,
+    };
+    let Some((condition, _later)) = parts(query.expr()) else {
+        unreachable!()
+    };
+    choose(alloc, condition, &root, params)
 }
 
 /// What the steps behind the filter of a simple query make of the documents that make it true. It

@@ -8,7 +8,7 @@ use Rattle.cs_syntax.specs.Expression.{null_literal}
 use Rattle.cs_value.specs.Tree.{integer, null, no_pairs}
 use Rattle.cs_reply.specs.Refusal.{full_subscriptions}
 use Rattle.cs_reply.specs.Reply.{live}
-use Rattle.cs_machine.specs.Lives.{LiveQuery}
+use Rattle.cs_live.specs.Lives.{LiveQuery}
 use Rattle.cs_machine.specs.Refused.{refuse}
 use Rattle.cs_machine.specs.Replies.{said}
 use Rattle.cs_machine.specs.Rows.{row_live}

@@ -4,7 +4,7 @@ use Rattle.std.specs.List.{AllByRecursion}
 use Rattle.cs_value.specs.Tree.{Tree}
 use Rattle.cs_txn.specs.Laws.{CommitsKeepDatasets}
 use Rattle.cs_machine.specs.Laws.{IsHeld, RunsHoldDatasets, AnswersAreCurrent, RunsKeepAnswersCurrent}
-use Rattle.cs_machine.specs.Lives.{LiveQuery, value_of, all_refreshed}
+use Rattle.cs_live.specs.Lives.{LiveQuery, value_of, all_refreshed}
 use Rattle.cs_machine.specs.State.{State, begun}
 use Rattle.cs_machine.proofs.Lived.{each_with, each_without}
 use Rattle.cs_machine.proofs.Steps.{Cases, lines-keep}

@@ -4,7 +4,7 @@ use Rattle.std.specs.List.{filter}
 use Rattle.std.proofs.lemmas.Bool.{leb-false}
 use Rattle.cs_value.specs.Tree.{Tree}
 use Rattle.cs_machine.specs.Laws.{RunsStayWithinLimits}
-use Rattle.cs_machine.specs.Lives.{LiveQuery, all_refreshed, has_live_name, without_name, most_lives}
+use Rattle.cs_live.specs.Lives.{LiveQuery, all_refreshed, has_live_name, without_name, most_lives}
 use Rattle.cs_machine.specs.State.{State, begun, listens}
 use Rattle.cs_machine.proofs.Steps.{Cases, lines-keep}
 

@@ -1,7 +1,7 @@
 -- What holds of each live query where one is added or stopped.
 use Rattle.std.proofs.Common.{ℕ, List, [], ◌∷◌, ◌++◌, Bool, true, false, cond}
 use Rattle.std.specs.List.{AllByRecursion}
-use Rattle.cs_machine.specs.Lives.{LiveQuery, has_live_name, without_name}
+use Rattle.cs_live.specs.Lives.{LiveQuery, has_live_name, without_name}
 
 pub each_with : (P : LiveQuery → Type 0) (es : List LiveQuery) (l : LiveQuery)
     → AllByRecursion P es → P l → AllByRecursion P (es ++ l ∷ [])

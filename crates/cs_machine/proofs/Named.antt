@@ -6,7 +6,7 @@ use Rattle.cs_value.specs.Tree.{Tree}
 use Rattle.cs_view.proofs.Booleans.{or-left, or-right}
 use Rattle.cs_listen.specs.Events.{Listener}
 use Rattle.cs_machine.specs.Laws.{bearers, RunsNameOnce}
-use Rattle.cs_machine.specs.Lives.{LiveQuery, refreshed, all_refreshed, has_live_name, without_name, is_named}
+use Rattle.cs_live.specs.Lives.{LiveQuery, refreshed, all_refreshed, has_live_name, without_name, is_named}
 use Rattle.cs_machine.specs.State.{State, begun, listens, is_taken}
 use Rattle.cs_machine.proofs.Steps.{Cases, lines-keep}
 

@@ -8,7 +8,7 @@ use Rattle.cs_reply.specs.Reply as plain
 use Rattle.cs_listen.specs.Events.{events}
 use Rattle.cs_machine.specs.Fold.{Stepped}
 use Rattle.cs_machine.specs.Laws.{accepts, IdsAreUsedOnce, UsedIdsStayUsed}
-use Rattle.cs_machine.specs.Lives.{Said, news}
+use Rattle.cs_live.specs.Lives.{Said, news}
 use Rattle.cs_machine.specs.Replies.{said}
 use Rattle.cs_machine.specs.Rows.{live_reply, commit_replies}
 use Rattle.cs_machine.specs.State.{State, and_used}

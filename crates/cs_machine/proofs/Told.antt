@@ -10,7 +10,7 @@ use Rattle.cs_reply.specs.Reply as plain
 use Rattle.cs_listen.specs.Events.{events}
 use Rattle.cs_machine.specs.Fold.{Stepped}
 use Rattle.cs_machine.specs.Laws.{IsTold, LastAnswersAreTold}
-use Rattle.cs_machine.specs.Lives.{LiveQuery, value_of, is_stale, refreshed, all_refreshed, say, news}
+use Rattle.cs_live.specs.Lives.{LiveQuery, value_of, is_stale, refreshed, all_refreshed, say, news}
 use Rattle.cs_machine.specs.Refused.{refuse}
 use Rattle.cs_machine.specs.Replies.{Reply, said, not_done}
 use Rattle.cs_machine.specs.Rows.{live_reply, installed, commit_replies, lively, listening, without_named}

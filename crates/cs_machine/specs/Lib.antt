@@ -4,7 +4,6 @@ pub mod Examples
 pub mod Expected
 pub mod Fold
 pub mod Laws
-pub mod Lives
 pub mod Machine
 pub mod Refused
 pub mod Replies

@@ -8,7 +8,7 @@ use Rattle.cs_reply.specs.Reply as plain
 use Rattle.cs_listen.specs.Events.{Listener}
 use Rattle.cs_machine.specs.Replies.{said}
 use Rattle.cs_machine.specs.Fold.{Stepped}
-use Rattle.cs_machine.specs.Lives.{LiveQuery, is_named}
+use Rattle.cs_live.specs.Lives.{LiveQuery, is_named}
 
 -- the documents, ascending by their ids; the moment; which ids accepted transactions have; live
 -- queries and listeners in the order made

@@ -1,5 +1,5 @@
 -- Live queries as the plain machine holds them: this project's profile.
-use Rattle.std.specs.Prelude.{ℕ, List, [], ◌∷◌, cond, map, filter, Bool, not}
+use Rattle.std.specs.Prelude.{ℕ, List, [], ◌∷◌, cond, map, filter, Bool, not, Option, Some, None}
 use Rattle.std.specs.List.{list_any}
 use Rattle.std.specs.Str.{bytes_eq}
 use Rattle.cs_value.specs.Tree.{Tree, Pairs}
@@ -42,6 +42,10 @@ say e = (e.name, e.last)
 abbrev pub news : List Tree → List LiveQuery → List Said
 news docs es = map say (all_refreshed docs (filter (is_stale docs) es))
 
+-- the line of one of them, where it has one
+abbrev pub news_of : List Tree → LiveQuery → List Said
+news_of docs e = cond (is_stale docs e) (say (refreshed docs e) ∷ []) []
+
 abbrev pub has_live_name : List ℕ → LiveQuery → Bool
 has_live_name name e = bytes_eq name e.name
 
@@ -53,6 +57,11 @@ is_named name es = list_any (has_live_name name) es
 abbrev pub without_name : List ℕ → List LiveQuery → List LiveQuery
 without_name name [] = []
 without_name name (e ∷ es) = cond (has_live_name name e) es (e ∷ without_name name es)
+
+-- the last answer of the live query of the name, the first where there are several
+abbrev pub answer_of : List ℕ → List LiveQuery → Option Tree
+answer_of name [] = None
+answer_of name (e ∷ es) = cond (has_live_name name e) (Some e.last) (answer_of name es)
 
 -- a live query as it is made over a dataset
 abbrev pub made : List Tree → List ℕ → Expression → Pairs → LiveQuery

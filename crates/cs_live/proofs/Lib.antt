@@ -1,0 +1,5 @@
+mod Named
+mod News
+mod Places
+mod Refreshing
+mod Sames

@@ -1,0 +1,101 @@
+-- When entries fit a dataset: their last answers are the values over it, and what each keeps beside
+-- its answer belongs to it. This project's profile.
+use Rattle.std.specs.Prelude.{◌≡◌, ℕ, ◌<◌, ◌≤◌, length, List, true, false, IsTrue, Contains, ⊤}
+use Rattle.std.specs.List.{All, AllZip}
+use Rattle.cs_value.specs.Tree.{Tree, Pairs}
+use Rattle.cs_value.specs.View.{tree, fields}
+use Rattle.cs_syntax.specs.Expression.{Expression}
+use Rattle.cs_syntax.specs.Queries.{query}
+use Rattle.cs_view.specs.Changes.{Edit}
+use Rattle.cs_view.specs.Touched.{touched}
+use Rattle.cs_view.specs.declared.key.Key.{Key}
+use Rattle.cs_plan.specs.Simple.{is_simple}
+use Rattle.cs_meaning.specs.Hits.{hits}
+use Rattle.cs_meaning.specs.Looked.{query_looked}
+use Rattle.cs_meaning.specs.Values.{query_value}
+use Rattle.cs_live.specs.Rows.{rows as rows_of, IsAnswered}
+use Rattle.cs_live.specs.Lives.{LiveQuery, refreshed, is_named, most_lives}
+use Rattle.cs_live.specs.Entries.{query_of, params_of, last_of, live_query, entries}
+use Rattle.cs_live.specs.declared.entry.Entry.{Entry}
+use Rattle.cs_live.specs.declared.recorded.Recorded.{Recorded}
+use Rattle.cs_live.specs.declared.entry.Kept.{Kept}
+use Rattle.cs_live.specs.declared.entry.Kept.TheVariants.{ByRecord, InRows}
+use Rattle.cs_live.specs.declared.rows.Rows.{Rows}
+use Rattle.cs_live.specs.declared.live.Live.{Live}
+use Rattle.cs_live.specs.declared.live.LiveFault.{LiveFault}
+use Rattle.cs_live.specs.declared.live.LiveFault.TheVariants.{NameUsed, Full, NoMemory}
+
+-- the same keys, order and repeats aside
+pub record SameKeys (one other : List Key) : Type 0 where
+  pub there : (k : Key) → Contains one k → Contains other k
+  pub back : (k : Key) → Contains other k → Contains one k
+
+-- an answer that is kept by its record fits a dataset: it is the value over it, and the record has
+-- the keys that finding it looks up, and no other
+pub record FitsRecord (docs : List Tree) (r : Recorded) : Type 0 where
+  pub last : tree r.last ≡ query_value docs (fields r.params) (query r.query)
+  pub keys : SameKeys r.record (query_looked docs (fields r.params) (query r.query))
+
+-- one that is kept in rows fits a dataset: the query is simple, the rows are its hits, and the
+-- answer is what its tail makes of them
+pub record FitsRows (docs : List Tree) (r : Rows) : Type 0 where
+  pub simple : IsTrue (is_simple (query r.query))
+  pub rows : rows_of r ≡ hits (query r.query) (fields r.params) docs
+  pub answered : IsAnswered r
+
+abbrev pub FitsKept : List Tree → Kept → Type 0
+FitsKept docs (ByRecord r) = FitsRecord docs r
+FitsKept docs (InRows r) = FitsRows docs r
+
+abbrev pub FitsOne : List Tree → Entry → Type 0
+FitsOne docs e = FitsKept docs e.kept
+
+abbrev pub Fits : Live → List Tree → Type 0
+Fits l docs = All (FitsOne docs) (entries l)
+
+-- nothing is asked after the changes: no change touches the record, and rows never ask
+abbrev pub IsQuiet : List Edit → Kept → Type 0
+IsQuiet cs (ByRecord r) = touched r.record cs ≡ false
+IsQuiet cs (InRows r) = ⊤
+
+-- an answer is kept as it was, by its record or in rows, and an untouched record is kept
+abbrev pub KeepsRecord : List Edit → Kept → Kept → Type 0
+KeepsRecord cs (ByRecord a) (ByRecord b) = touched a.record cs ≡ false → b.record ≡ a.record
+KeepsRecord cs (ByRecord a) (InRows b) = ⊥
+KeepsRecord cs (InRows a) (ByRecord b) = ⊥
+KeepsRecord cs (InRows a) (InRows b) = ⊤
+
+-- what is kept is the answer to this query with these parameters over a dataset, and fits it
+pub record Answers (docs : List Tree) (q : Expression) (ps : Pairs) (k : Kept) : Type 0 where
+  pub query : query_of k ≡ q
+  pub params : params_of k ≡ ps
+  pub last : last_of k ≡ query_value docs ps q
+  pub fits : FitsKept docs k
+
+-- what a commit does to how one answer is kept
+pub record RefreshesKept (docs : List Tree) (cs : List Edit) (old new : Kept) : Type 0 where
+  pub answers : Answers docs (query_of old) (params_of old) new
+  pub records : KeepsRecord cs old new
+
+-- and what it does to one entry
+pub record Refreshes (docs : List Tree) (cs : List Edit) (old new : Entry) : Type 0 where
+  pub live : live_query new ≡ refreshed docs (live_query old)
+  pub fits : FitsOne docs new
+  pub records : KeepsRecord cs old.kept new.kept
+
+-- nothing is asked after the changes for any entry
+abbrev pub IsUntouched : Live → List Edit → Type 0
+IsUntouched l cs = All (λ e. IsQuiet cs e.kept) (entries l)
+
+abbrev pub KeepsRecords : Live → Live → List Edit → Type 0
+KeepsRecords old new cs = AllZip (λ a b. KeepsRecord cs a.kept b.kept) (entries old) (entries new)
+
+-- the name is free, and there is room for one more
+abbrev pub HasRoom : List ℕ → List LiveQuery → Type 0
+HasRoom name es = (is_named name es ≡ false) × (length es < most_lives)
+
+-- why a live query of the name is not added: the first cause that holds
+abbrev pub IsCause : LiveFault → List ℕ → List LiveQuery → Type 0
+IsCause NameUsed name es = is_named name es ≡ true
+IsCause Full name es = (is_named name es ≡ false) × (most_lives ≤ length es)
+IsCause NoMemory name es = HasRoom name es

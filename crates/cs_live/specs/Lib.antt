@@ -1,0 +1,4 @@
+pub mod Entries
+pub mod Fits
+pub mod Lives
+pub mod Rows

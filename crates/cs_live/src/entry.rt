@@ -1,0 +1,183 @@
+//! A live query with its last answer, and what is said of it.
+ghost use Rattle.std.specs.Prelude.{◌≡◌, ◌≤◌, ◌+◌, ◌++◌, true, not, map, IfOk, OnOk};
+ghost use Rattle.cs_value.specs.Same.{same_tree};
+ghost use Rattle.cs_value.specs.View.{tree, fields};
+ghost use Rattle.cs_syntax.specs.Queries.{query as query_of};
+ghost use Rattle.cs_view.specs.Changes.{are_changes, LeadTo, Before};
+ghost use Rattle.cs_view.specs.View.{edits};
+ghost use Rattle.cs_plan.specs.Simple.{is_simple};
+ghost use Rattle.cs_meaning.specs.Hits.{cost};
+ghost use Rattle.cs_live.specs.Entries.{live_query, last_of, said};
+ghost use Rattle.cs_live.specs.Fits.{Answers, FitsKept, FitsOne, IsQuiet, Refreshes, RefreshesKept};
+ghost use Rattle.cs_live.specs.Lives.{has_live_name, is_stale, made, news_of, say};
+
+use crate::recorded::Recorded;
+use crate::rows::Rows;
+use cs_plan::simple;
+use cs_syntax::Query;
+use cs_value::{Fields, NoMemory, Steps, Txt, Val};
+use cs_view::{Change, View};
+use std::alloc::Global;
+use std::sync::ledger::Ledger;
+
+/// How a last answer is kept.
+#[derive(Drop)]
+pub(crate) enum Kept {
+    /// With the keys that finding it looked up: it is found anew after changes that touch one.
+    ByRecord(Recorded),
+    /// With the documents behind it, of a simple query.
+    InRows(Rows),
+}
+
+/// A live query with its last answer.
+#[derive(Drop)]
+pub(crate) struct Entry {
+    pub(crate) name: Txt,
+    pub(crate) kept: Kept,
+}
+
+/// What is said of a live query: its name and its answer.
+#[derive(Drop)]
+pub struct LiveLine {
+    /// The name of the live query.
+    pub name: Txt,
+    /// Its answer.
+    pub answer: Val,
+}
+
+impl Kept {
+    // The value of the query over the view, kept in rows where the query is simple, and by its
+    // record otherwise. For a simple query no more documents are visited than have its key.
+    fn make<V: View<L>, L: Ledger>(
+        alloc: Global,
+        query: Query,
+        params: Fields,
+        view: &V,
+        steps: &mut Steps<L>,
+    ) -> Result<Kept, NoMemory>
+        ensures answers { IfOk result (λ kept. Answers (V.docs view.now) (query_of query)
+            (fields params) kept) }
+        ensures visits { is_simple (query_of query) ≡ true
+            → steps.new ≤ steps.old + cost (query_of query) (fields params) (V.docs view.now) }
+    {
+        if simple(&query) {
+            return Ok(Kept::InRows(Rows::build(alloc, query, params, view, steps)?));
+        }
+        Ok(Kept::ByRecord(Recorded::build(alloc, query, params, view, steps)?))
+    }
+
+    /// The last answer.
+    pub(crate) fn last(&self) -> &Val
+        ensures { tree result.now ≡ last_of self.now }
+    {
+        match self {
+            Kept::ByRecord(kept) => &kept.last,
+            Kept::InRows(kept) => &kept.answer,
+        }
+    }
+
+    // Brings the answer to the dataset after the changes: whether it is another tree now.
+    fn refresh<V: View<L>, L: Ledger>(
+        &mut self,
+        alloc: Global,
+        view: &V,
+        changes: &[Change],
+        steps: &mut Steps<L>,
+    ) -> Result<bool, NoMemory>
+        requires changes { are_changes (edits changes.now) ≡ true }
+        requires led { LeadTo (V.docs view.now) (edits changes.now) }
+        requires fits { FitsKept (Before (V.docs view.now) (edits changes.now)) self.old }
+        ensures refreshed { OnOk result
+            (RefreshesKept (V.docs view.now) (edits changes.now) self.old self.new) }
+        ensures stale { IfOk result (λ b. b ≡ not (same_tree (last_of self.new) (last_of self.old))) }
+        ensures quiet { IsQuiet (edits changes.now) self.old → steps.new ≡ steps.old }
+    {
+        match self {
+            Kept::ByRecord(kept) => kept.refresh(alloc, view, changes, steps),
+            Kept::InRows(kept) => kept.refresh(alloc, view, changes),
+        }
+    }
+}
+
+impl Entry {
+    /// The live query with its value over the view as its answer. The answer of a simple query is
+    /// kept in rows, and then no more documents are visited than have the key of the query.
+    pub(crate) fn make<V: View<L>, L: Ledger>(
+        alloc: Global,
+        name: Txt,
+        query: Query,
+        params: Fields,
+        view: &V,
+        steps: &mut Steps<L>,
+    ) -> Result<Entry, NoMemory>
+        ensures made { IfOk result (λ e. live_query e
+            ≡ made (V.docs view.now) name (query_of query) (fields params)) }
+        ensures fits { IfOk result (λ e. FitsOne (V.docs view.now) e) }
+        ensures visits { is_simple (query_of query) ≡ true
+            → steps.new ≤ steps.old + cost (query_of query) (fields params) (V.docs view.now) }
+    {
+        let kept = Kept::make(alloc, query, params, view, steps)?;
+        Ok(Entry { name, kept })
+    }
+
+    /// Whether the live query has the name.
+    pub(crate) fn is_named(&self, name: &str) -> bool
+        ensures { result ≡ has_live_name name.now (live_query self.now) }
+    {
+        name == self.name.as_str()
+    }
+
+    /// A copy of its name and of its answer.
+    pub(crate) fn line(&self, alloc: Global) -> Result<LiveLine, NoMemory>
+        ensures { IfOk result (λ line. said line ≡ say (live_query self.now)) }
+    {
+        let name = Txt::copy_of(alloc, self.name.as_str())?;
+        let answer = self.kept.last().copy(alloc)?;
+        Ok(LiveLine { name, answer })
+    }
+
+    // Brings the entry to the dataset after the changes: whether its answer is another tree now.
+    fn refresh<V: View<L>, L: Ledger>(
+        &mut self,
+        alloc: Global,
+        view: &V,
+        changes: &[Change],
+        steps: &mut Steps<L>,
+    ) -> Result<bool, NoMemory>
+        requires changes { are_changes (edits changes.now) ≡ true }
+        requires led { LeadTo (V.docs view.now) (edits changes.now) }
+        requires fits { FitsOne (Before (V.docs view.now) (edits changes.now)) self.old }
+        ensures refreshed { OnOk result
+            (Refreshes (V.docs view.now) (edits changes.now) self.old self.new) }
+        ensures stale { IfOk result (λ b. b ≡ is_stale (V.docs view.now) (live_query self.old)) }
+        ensures quiet { IsQuiet (edits changes.now) self.old.kept → steps.new ≡ steps.old }
+    {
+        let stale = self.kept.refresh(alloc, view, changes, steps)?;
+        Ok(stale)
+    }
+
+    /// Brings the entry to the dataset after the changes, and puts its line last where its answer is
+    /// another tree now.
+    pub(crate) fn refresh_into<V: View<L>, L: Ledger>(
+        &mut self,
+        alloc: Global,
+        lines: &mut Vec<LiveLine>,
+        view: &V,
+        changes: &[Change],
+        steps: &mut Steps<L>,
+    ) -> Result<(), NoMemory>
+        requires changes { are_changes (edits changes.now) ≡ true }
+        requires led { LeadTo (V.docs view.now) (edits changes.now) }
+        requires fits { FitsOne (Before (V.docs view.now) (edits changes.now)) self.old }
+        ensures refreshed { OnOk result
+            (Refreshes (V.docs view.now) (edits changes.now) self.old self.new) }
+        ensures lines { OnOk result (map said lines.new.items
+            ≡ map said lines.old.items ++ news_of (V.docs view.now) (live_query self.old)) }
+        ensures quiet { IsQuiet (edits changes.now) self.old.kept → steps.new ≡ steps.old }
+    {
+        if self.refresh(alloc, view, changes, steps)? {
+            lines.push(self.line(alloc)?)?;
+        }
+        Ok(())
+    }
+}

@@ -1,0 +1,11 @@
+//! Live queries: their last answers, kept as documents change.
+#![tactic(auto)]
+
+mod entry;
+mod live;
+mod recorded;
+mod rows;
+mod same;
+
+pub use entry::LiveLine;
+pub use live::{Live, LiveFault, MOST_LIVES};

@@ -1,0 +1,198 @@
+//! The live queries of a store.
+ghost use Rattle.std.specs.Prelude.{◌≡◌, ◌++◌, ◌∷◌, ◌≤◌, ◌+◌, [], List, IfOk, OnOk, OnErr, IfErr, true, false, map, option_map};
+ghost use Rattle.cs_value.specs.Tree.{Tree};
+ghost use Rattle.cs_value.specs.View.{tree, fields};
+ghost use Rattle.cs_syntax.specs.Queries.{query as query_of};
+ghost use Rattle.cs_view.specs.Changes.{are_changes, LeadTo, Before};
+ghost use Rattle.cs_view.specs.View.{edits};
+ghost use Rattle.cs_plan.specs.Simple.{is_simple};
+ghost use Rattle.cs_meaning.specs.Hits.{cost};
+ghost use Rattle.cs_live.specs.Entries.{entries, lives, said, IsPlace};
+ghost use Rattle.cs_live.specs.Fits.{Fits, IsUntouched, KeepsRecords, HasRoom, IsCause};
+ghost use Rattle.cs_live.specs.Lives.{all_refreshed, answer_of, is_named, made, news, say, without_name};
+
+use crate::entry::{Entry, LiveLine};
+use cs_syntax::Query;
+use cs_value::{Fields, NoMemory, NoName, Steps, Txt, Val};
+use cs_view::{Change, View};
+use std::alloc::Global;
+use std::sync::ledger::Ledger;
+
+/// Why a live query is not added.
+#[derive(Clone, Copy, Debug, Drop, PartialEq, Eq)]
+pub enum LiveFault {
+    /// A live query has the name.
+    NameUsed,
+    /// 1,024 live queries stand.
+    Full,
+    /// The allocator had no memory to give.
+    NoMemory,
+}
+
+/// How many live queries may stand.
+pub const MOST_LIVES: u32 = 1024;
+
+/// The live queries of a store, in the order made, with their last answers.
+#[derive(Drop)]
+pub struct Live {
+    alloc: Global,
+    entries: Vec<Entry>,
+}
+
+impl Live {
+    /// No live query.
+    pub fn new(alloc: Global) -> Live
+        ensures lives { lives result ≡ [] }
+        ensures fits { (docs : List Tree) → Fits result docs }
+    {
+        Live {
+            alloc,
+            entries: Vec::new(alloc),
+        }
+    }
+
+    // The place of the live query of the name.
+    fn place(&self, name: &str) -> Option<usize>
+        ensures { IsPlace name.now (entries self.now) result }
+    {
+        for i in 0..self.entries.len() {
+            if self.entries[i].is_named(name) {
+                return Some(i);
+            }
+        }
+        None
+    }
+
+    /// Whether a live query has the name.
+    pub fn has(&self, name: &str) -> bool
+        ensures { result ≡ is_named name.now (lives self.now) }
+    {
+        self.place(name).is_some()
+    }
+
+    /// The last answer of the live query of the name. `None` exactly where none has it.
+    pub fn answer(&self, name: &Txt) -> Option<&Val>
+        ensures { option_map (λ v. tree v.now) result ≡ answer_of name.now (lives self.now) }
+    {
+        match self.place(name.as_str()) {
+            Some(place) => Some(self.entries[place].kept.last()),
+            None => None,
+        }
+    }
+
+    /// Takes out the live query of the name; the others stay in their order. `NoName` exactly where
+    /// none has the name; nothing is changed then.
+    pub fn remove(&mut self, name: &str) -> Result<(), NoName>
+        ensures removed { OnOk result (lives self.new ≡ without_name name.now (lives self.old)) }
+        ensures had { OnOk result (is_named name.now (lives self.old) ≡ true) }
+        ensures none { OnErr result (is_named name.now (lives self.old) ≡ false) }
+        ensures unchanged { OnErr result (entries self.new ≡ entries self.old) }
+        ensures fits { (docs : List Tree) → Fits self.old docs → Fits self.new docs }
+    {
+        match self.place(name) {
+            Some(place) => {
+                drop(self.entries.remove(place));
+                Ok(())
+            }
+            None => Err(NoName),
+        }
+    }
+
+    // Whether a live query of the name can be added, or the first cause why not.
+    fn find_room(&self, name: &str) -> Result<(), LiveFault>
+        ensures room { OnOk result (HasRoom name.now (lives self.now)) }
+        ensures cause { IfErr result (λ fault. IsCause fault name.now (lives self.now)) }
+    {
+        if self.has(name) {
+            return Err(LiveFault::NameUsed);
+        }
+        if self.entries.len() >= MOST_LIVES as usize {
+            return Err(LiveFault::Full);
+        }
+        Ok(())
+    }
+
+    /// One live query more, the last, with its value over the view as its answer, and the line that
+    /// says it. The first fault that holds is told: that a live query has the name, that 1,024
+    /// stand. After a fault the live queries are as before.
+    pub fn add<V: View<L>, L: Ledger>(
+        &mut self,
+        name: Txt,
+        query: Query,
+        params: Fields,
+        view: &V,
+        steps: &mut Steps<L>,
+    ) -> Result<LiveLine, LiveFault>
+        ensures room { OnOk result (HasRoom name (lives self.old)) }
+        ensures added { OnOk result (lives self.new ≡ lives self.old
+            ++ made (V.docs view.now) name (query_of query) (fields params) ∷ []) }
+        ensures line { IfOk result (λ line. said line
+            ≡ say (made (V.docs view.now) name (query_of query) (fields params))) }
+        ensures fits { OnOk result (Fits self.old (V.docs view.now)
+            → Fits self.new (V.docs view.now)) }
+        ensures cause { IfErr result (λ fault. IsCause fault name (lives self.old)) }
+        ensures unchanged { OnErr result (entries self.new ≡ entries self.old) }
+        ensures visits { is_simple (query_of query) ≡ true
+            → steps.new ≤ steps.old + cost (query_of query) (fields params) (V.docs view.now) }
+    {
+        self.find_room(name.as_str())?;
+        match self.enter(name, query, params, view, steps) {
+            Ok(line) => Ok(line),
+            Err(NoMemory) => Err(LiveFault::NoMemory),
+        }
+    }
+
+    // One live query more, where there is room.
+    fn enter<V: View<L>, L: Ledger>(
+        &mut self,
+        name: Txt,
+        query: Query,
+        params: Fields,
+        view: &V,
+        steps: &mut Steps<L>,
+    ) -> Result<LiveLine, NoMemory>
+        ensures added { OnOk result (lives self.new ≡ lives self.old
+            ++ made (V.docs view.now) name (query_of query) (fields params) ∷ []) }
+        ensures line { IfOk result (λ line. said line
+            ≡ say (made (V.docs view.now) name (query_of query) (fields params))) }
+        ensures fits { OnOk result (Fits self.old (V.docs view.now)
+            → Fits self.new (V.docs view.now)) }
+        ensures unchanged { OnErr result (entries self.new ≡ entries self.old) }
+        ensures visits { is_simple (query_of query) ≡ true
+            → steps.new ≤ steps.old + cost (query_of query) (fields params) (V.docs view.now) }
+    {
+        let entry = Entry::make(self.alloc, name, query, params, view, steps)?;
+        let line = entry.line(self.alloc)?;
+        self.entries.push(entry)?;
+        Ok(line)
+    }
+
+    /// After a commit of the changes: one line for each live query whose answer is another tree
+    /// now, in the order made. The view is the dataset after the changes, and the live queries fit
+    /// the one before them. Where no change touches a record, nothing is asked of the view. After
+    /// `NoMemory` some answers are those before the changes, and some those after.
+    pub fn after_commit<V: View<L>, L: Ledger>(
+        &mut self,
+        view: &V,
+        changes: &[Change],
+        steps: &mut Steps<L>,
+    ) -> Result<Vec<LiveLine>, NoMemory>
+        requires changes { are_changes (edits changes.now) ≡ true }
+        requires led { LeadTo (V.docs view.now) (edits changes.now) }
+        requires fits { Fits self.old (Before (V.docs view.now) (edits changes.now)) }
+        ensures lines { IfOk result (λ lines. map said lines.items
+            ≡ news (V.docs view.now) (lives self.old)) }
+        ensures lives { OnOk result (lives self.new
+            ≡ all_refreshed (V.docs view.now) (lives self.old)) }
+        ensures fits { OnOk result (Fits self.new (V.docs view.now)) }
+        ensures records { OnOk result (KeepsRecords self.old self.new (edits changes.now)) }
+        ensures quiet { IsUntouched self.old (edits changes.now) → steps.new ≡ steps.old }
+    {
+        let alloc = self.alloc;
+        let mut lines = Vec::new(alloc);
+        for entry in self.entries.iter_mut() {
+            entry.refresh_into(alloc, &mut lines, view, changes, steps)?;
+        }
+        Ok(lines)
+    }
+}
