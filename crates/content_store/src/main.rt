@@ -4,6 +4,8 @@
 ghost use Rattle.std.specs.Prelude.{◌≡◌, ◌<◌};
 
 #[cfg(test)]
+mod live_tests;
+#[cfg(test)]
 mod load_tests;
 #[cfg(test)]
 mod query_tests;

@@ -1,5 +1,7 @@
 mod Listening
+mod Living
 mod Noting
 mod Replying
+mod Tallies
 mod Told
 mod Transacting

@@ -1,19 +1,19 @@
--- What listeners hear of an accepted transaction.
-use Rattle.std.proofs.Common.{◌≡◌, ap, ◌∙◌, sym, arith, ◌<◌, ℕ, List, ◌∷◌, ◌++◌, Bool, length, map, suc, ◌+◌, get_or, drop}
-use Rattle.std.proofs.lemmas.List.{append-nil, append_assoc}
-use Rattle.std.proofs.Common.{drop-cons}
+-- What an accepted transaction has written.
+use Rattle.std.proofs.Common.{◌≡◌, refl, ap, ◌∙◌, sym, arith, ◌<◌, ℕ, List, [], ◌∷◌, ◌++◌, length, map, suc, ◌+◌, get_or, drop, drop-cons}
+use Rattle.std.proofs.lemmas.List.{append_assoc}
 use Rattle.cs_value.specs.Tree.{Tree}
 use Rattle.cs_view.specs.Changes.{Edit}
-use Rattle.cs_reply.specs.Reply.{welcome, stopped}
+use Rattle.cs_gen.specs.declared.tally.Tally.{Tally}
+use Rattle.cs_live.specs.Lives.{news}
 use Rattle.cs_reply.specs.Reply as plain
-use Rattle.cs_reply.specs.View.{Appended, event}
-use Rattle.cs_reply.specs.declared.event.Event.{Event as CodeEvent}
-use Rattle.cs_listen.specs.Events.{Listener, events}
-use Rattle.cs_machine.specs.Replies.{said, numbered, reply_lines}
-use Rattle.cs_machine.specs.Rows.{outcome, installed}
-use Rattle.cs_machine.specs.State.{State, with_docs, with_used}
-use Rattle.cs_core.specs.Core.{seen}
-use Rattle.cs_core.specs.Does.{Does, heard_lines}
+use Rattle.cs_reply.specs.View.{Appended}
+use Rattle.cs_listen.specs.Events.{events}
+use Rattle.cs_machine.specs.Rows.{outcome, installed, live_reply}
+use Rattle.cs_machine.specs.State.{State}
+use Rattle.cs_core.specs.Core.{state, IsUsable}
+use Rattle.cs_core.specs.Does.{Does, IsTallyOf, heard_lines, lines_of, live_lines}
+use Rattle.cs_core.specs.declared.machine.Core.{Core}
+use Rattle.cs_core.proofs.Tallies.{tally_of}
 
 next : {A : Type 0} (xs : List A) (i : ℕ) (x : A) → i < length xs → x ≡ get_or xs i x
     → drop i xs ≡ x ∷ drop (i + 1) xs
@@ -22,34 +22,52 @@ next xs i x inside is =
     drop-cons xs i x inside
     ∙ (ap (λ z. z ∷ drop (suc i) xs) (sym is) ∙ ap (λ j. x ∷ drop j xs) e)
 
--- one event more was written
-pub told_one : (n : ℕ) (before now : List ℕ) (es : List CodeEvent) (i : ℕ) (e : CodeEvent)
-    → i < length es
-    → e ≡ get_or es i e
-    → Appended before now (plain.reply_tree n (plain.event (event e)))
-    → now ++ heard_lines n (map event (drop (i + 1) es))
-    ≡ before ++ heard_lines n (map event (drop i es))
-told_one n before now es i e inside is more =
-    let rest = heard_lines n (map event (drop (i + 1) es)) in
-    let line = plain.written_line (plain.reply_tree n (plain.event (event e))) in
+-- one reply more was written
+pub told_one : {A B : Type 0} (seen : A → B) (reply : B → plain.Reply) (n : ℕ)
+    (before now : List ℕ) (xs : List A) (i : ℕ) (x : A)
+    → i < length xs
+    → x ≡ get_or xs i x
+    → Appended before now (plain.reply_tree n (reply (seen x)))
+    → now ++ lines_of n (map reply (map seen (drop (i + 1) xs)))
+    ≡ before ++ lines_of n (map reply (map seen (drop i xs)))
+told_one seen reply n before now xs i x inside is more =
+    let rest = lines_of n (map reply (map seen (drop (i + 1) xs))) in
+    let line = plain.written_line (plain.reply_tree n (reply (seen x))) in
     ap (λ v. v ++ rest) more
     ∙ (append_assoc before line rest
-    ∙ ap (λ v. before ++ heard_lines n (map event v)) (sym (next es i e inside is)))
+    ∙ ap (λ v. before ++ lines_of n (map reply (map seen v))) (sym (next xs i x inside is)))
+
+lines-append : (n : ℕ) (rs qs : List plain.Reply)
+    → lines_of n (rs ++ qs) ≡ lines_of n rs ++ lines_of n qs
+lines-append n [] qs = refl
+lines-append n (r ∷ rs) qs =
+    let line = plain.written_line (plain.reply_tree n r) in
+    ap (λ v. line ++ v) (lines-append n rs qs)
+    ∙ sym (append_assoc line (lines_of n rs) (lines_of n qs))
 
 -- what an accepted transaction says and leaves
-pub says_installed : (before mid written : List ℕ) (s : State) (n : ℕ) (ds after : List Tree)
-    (moment : List ℕ) (is_used : List ℕ → Bool) (ls : List Listener) (tx : List ℕ) (cs : List Edit)
-    → s ≡ with_used tx (with_docs after (seen ds moment is_used ls))
+pub says_installed : (before mid told written : List ℕ) (tally : Tally) (core : Core) (s : State)
+    (n : ℕ) (tx : List ℕ) (after : List Tree) (cs : List Edit)
+    → state core ≡ (installed s tx after cs).state
+    → IsUsable core
     → Appended before mid (plain.reply_tree n (plain.committed tx (map outcome cs)))
-    → written ≡ mid ++ heard_lines n (events tx moment cs ls)
-    → Does before written s n (installed (seen ds moment is_used ls) tx after cs)
-says_installed before mid written s n ds after moment is_used ls tx cs is h g =
-    let es = events tx moment cs ls in
+    → told ≡ mid ++ heard_lines n (events tx s.moment cs s.listeners)
+    → written ≡ told ++ live_lines n (news after s.lives)
+    → IsTallyOf tally (length (events tx s.moment cs s.listeners)) (length (news after s.lives))
+    → Does before written tally core n (installed s tx after cs)
+says_installed before mid told written tally core s n tx after cs is usable h g k t =
+    let es = events tx s.moment cs s.listeners in
+    let ns = news after s.lives in
     let line = plain.written_line (plain.reply_tree n (plain.committed tx (map outcome cs))) in
+    let heard = heard_lines n es in
+    let answers = live_lines n ns in
     record {
-      written = g ∙ ap (λ v. v ++ heard_lines n es) h
-          ∙ append_assoc before line (heard_lines n es)
-          ∙ ap (λ v. before ++ (line ++ reply_lines (numbered n (map said v))))
-          (sym (append-nil (map plain.event es)));
+      written = k ∙ ap (λ v. v ++ answers) (g ∙ ap (λ v. v ++ heard) h)
+          ∙ append_assoc (before ++ line) heard answers
+          ∙ append_assoc before line (heard ++ answers)
+          ∙ ap (λ v. before ++ (line ++ v))
+          (sym (lines-append n (map plain.event es) (map live_reply ns)));
+      tallied = tally_of tally tx (map outcome cs) es ns t;
       state_is = is;
+      usable = usable;
     }

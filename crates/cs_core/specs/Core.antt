@@ -1,23 +1,40 @@
 -- What contracts see of the machine.
-use Rattle.std.specs.Prelude.{ℕ, List, [], Bool}
+use Rattle.std.specs.Prelude.{◌≡◌, ℕ, List, Bool, false}
 use Rattle.indexmap.specs.IndexSet.{contains_text}
 use Rattle.cs_value.specs.Tree.{Tree}
 use Rattle.cs_docs.specs.Store.{docs}
+use Rattle.cs_live.specs.Entries.{lives}
+use Rattle.cs_live.specs.Fits.{Fits}
+use Rattle.cs_live.specs.Lives.{LiveQuery}
 use Rattle.cs_listen.specs.Events.{Listener}
 use Rattle.cs_listen.specs.Listeners.{listeners}
 use Rattle.cs_machine.specs.State.{State}
 use Rattle.cs_core.specs.declared.machine.Core.{Core}
 
--- A state without live queries: what is built so far leads to no other.
-abbrev pub seen : List Tree → List ℕ → (List ℕ → Bool) → List Listener → State
-seen documents moment is_used listening =
+abbrev pub seen :
+    List Tree → List ℕ → (List ℕ → Bool) → List LiveQuery → List Listener → State
+seen documents moment is_used living listening =
     record {
       docs = documents;
       moment = moment;
       is_used = is_used;
-      lives = [];
+      lives = living;
       listeners = listening;
     }
 
 abbrev pub state : Core → State
-state c = seen (docs c.docs) c.moment (contains_text c.used) (listeners c.listeners)
+state c = seen (docs c.docs) c.moment (contains_text c.used) (lives c.live) (listeners c.listeners)
+
+-- the live queries fit the documents: their answers are their values, and what is kept beside these
+-- is what finding them looked up
+abbrev pub IsFitting : Core → Type 0
+IsFitting c = Fits c.live (docs c.docs)
+
+-- where the machine is not spent, its live queries fit its documents
+abbrev pub IsSound : Core → Type 0
+IsSound c = c.spent ≡ false → IsFitting c
+
+-- it is not spent, and its live queries fit
+pub record IsUsable (c : Core) : Type 0 where
+  pub unspent : c.spent ≡ false
+  pub fitting : IsFitting c

@@ -1,4 +1,2 @@
-pub mod Built
 pub mod Core
 pub mod Does
-pub mod Told

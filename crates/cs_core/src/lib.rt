@@ -2,10 +2,10 @@
 #![tactic(auto)]
 
 mod listen;
+mod live;
 mod machine;
 mod moment;
 mod query;
-mod refused;
 mod transact;
 
 pub use machine::{Core, CoreFault, Replies};

@@ -1,19 +1,23 @@
 //! The rows of `listen` and `stop`: who hears of the changes of transactions.
-ghost use Rattle.std.specs.Prelude.{◌≡◌, ◌<◌, ◌^◌, OnOk, OnErr, Bool, length};
+ghost use Rattle.std.specs.Prelude.{◌≡◌, ◌<◌, ◌^◌, IfOk, OnErr, Bool, Some, false, length};
 ghost use Rattle.cs_value.specs.Tree.{Pairs};
 ghost use Rattle.cs_value.specs.View.{fields};
 ghost use Rattle.cs_syntax.specs.Expression.{Expression};
 ghost use Rattle.cs_syntax.specs.Queries.{query as expression_of};
 ghost use Rattle.cs_plain.specs.Plain.{listened_filter};
-ghost use Rattle.cs_listen.specs.Listeners.{NotAdded, listeners};
-ghost use Rattle.cs_machine.specs.Rows.{row_listen, row_stop, by_filter};
-ghost use Rattle.cs_core.specs.Core.{state};
-ghost use Rattle.cs_core.specs.Does.{Does, Leaves};
+ghost use Rattle.cs_plain.specs.Predicates.{filter as filter_of};
+ghost use Rattle.cs_listen.specs.Listeners.{NotTaken, listeners};
+ghost use Rattle.cs_live.specs.Lives.{is_named};
+ghost use Rattle.cs_machine.specs.Rows.{row_listen, row_stop, by_filter, without_named};
+ghost use Rattle.cs_core.specs.Core.{state, IsUsable};
+ghost use Rattle.cs_core.specs.Does.{Does, IsKept};
 
-use crate::machine::Core;
-use crate::query::refusal;
+use crate::machine::{Core, ONE_REPLY};
+use cs_gen::Tally;
 use cs_listen::{ListenFault, MOST_LISTENERS};
 use cs_parse::parse;
+use cs_plain::Plain;
+use cs_refusal::no_query;
 use cs_reply::{Refusal, Reply};
 use cs_syntax::Query;
 use cs_value::{Fields, NoMemory, Txt};
@@ -29,15 +33,16 @@ impl Core {
         include_previous: bool,
         line: u32,
         out: &mut Vec<u8>,
-    ) -> Result<(), NoMemory>
-        requires { length text.now < 2 ^ 32 }
-        ensures does { OnOk result (Does out.old.items out.new.items (state self.new) line
+    ) -> Result<Tally, NoMemory>
+        requires short { length text.now < 2 ^ 32 }
+        requires usable { IsUsable self.old }
+        ensures does { IfOk result (λ tally. Does out.old.items out.new.items tally self.new line
             (row_listen (state self.old) name text.now (fields params) include_result
             include_previous)) }
-        ensures leaves { OnErr result (Leaves self.old self.new) }
+        ensures kept { OnErr result (IsKept self.old self.new) }
     {
         match parse(self.alloc, text) {
-            Ok(query) => self.welcome(
+            Ok(query) => self.hear_query(
                 name,
                 query,
                 params,
@@ -46,16 +51,15 @@ impl Core {
                 line,
                 out,
             ),
-            Err(fault) => match refusal(&fault) {
+            Err(fault) => match no_query(&fault) {
                 Some(why) => self.refuse(why, line, out),
                 None => Err(NoMemory),
             },
         }
     }
 
-    // A listener with a query. Its reply is written first, since nothing that needs memory may come
-    // behind the change, and taken back where it is refused.
-    fn welcome(
+    // A listener with a query, where a listener may have it and no live query has the name.
+    fn hear_query(
         &mut self,
         name: Txt,
         query: Query,
@@ -64,20 +68,58 @@ impl Core {
         include_previous: bool,
         line: u32,
         out: &mut Vec<u8>,
-    ) -> Result<(), NoMemory>
-        ensures does { OnOk result (Does out.old.items out.new.items (state self.new) line
+    ) -> Result<Tally, NoMemory>
+        requires usable { IsUsable self.old }
+        ensures does { IfOk result (λ tally. Does out.old.items out.new.items tally self.new line
             (by_filter (state self.old) name (fields params) include_result include_previous
             (listened_filter (expression_of query)))) }
-        ensures leaves { OnErr result (Leaves self.old self.new) }
+        ensures kept { OnErr result (IsKept self.old self.new) }
+    {
+        let Ok(predicate) = Plain::from_query(query) else {
+            return self.refuse(Refusal::NotListenable, line, out);
+        };
+        if self.live.has(name.as_str()) {
+            let name = name.as_str();
+            return self.refuse(Refusal::NameUsed { name }, line, out);
+        }
+        self.welcome(
+            name,
+            predicate,
+            params,
+            include_result,
+            include_previous,
+            line,
+            out,
+        )
+    }
+
+    // A listener whose name no live query has. Its reply is written first, since nothing that needs
+    // memory may come behind the change, and taken back where it is refused.
+    fn welcome(
+        &mut self,
+        name: Txt,
+        predicate: Plain,
+        params: Fields,
+        include_result: bool,
+        include_previous: bool,
+        line: u32,
+        out: &mut Vec<u8>,
+    ) -> Result<Tally, NoMemory>
+        requires usable { IsUsable self.old }
+        requires free { is_named name (state self.old).lives ≡ false }
+        ensures does { IfOk result (λ tally. Does out.old.items out.new.items tally self.new line
+            (by_filter (state self.old) name (fields params) include_result include_previous
+            (Some (filter_of predicate)))) }
+        ensures kept { OnErr result (IsKept self.old self.new) }
     {
         let named = Txt::copy_of(self.alloc, name.as_str())?;
         let begun = out.len();
         Reply::Welcome(named.as_str()).write(self.alloc, line, out)?;
         match self
             .listeners
-            .add(name, query, params, include_result, include_previous)
+            .add_predicate(name, predicate, params, include_result, include_previous)
         {
-            Ok(()) => Ok(()),
+            Ok(()) => Ok(ONE_REPLY),
             Err(fault) => {
                 out.truncate(begun);
                 self.turn_away(fault, named.as_str(), line, out)
@@ -92,14 +134,16 @@ impl Core {
         name: &str,
         line: u32,
         out: &mut Vec<u8>,
-    ) -> Result<(), NoMemory>
-        ensures { (q : Expression) (ps : Pairs) (a b : Bool)
-            → NotAdded name.now q (listeners self.now.listeners) fault
-            → OnOk result (Does out.old.items out.new.items (state self.now) line
-            (by_filter (state self.now) name.now ps a b (listened_filter q))) }
+    ) -> Result<Tally, NoMemory>
+        requires usable { IsUsable self.now }
+        requires fault { NotTaken name.now (listeners self.now.listeners) fault }
+        requires free { is_named name.now (state self.now).lives ≡ false }
+        ensures { (f : Expression) (ps : Pairs) (a b : Bool)
+            → IfOk result (λ tally. Does out.old.items out.new.items tally self.now line
+            (by_filter (state self.now) name.now ps a b (Some f))) }
     {
         match fault {
-            ListenFault::NotListenable => self.refuse(Refusal::NotListenable, line, out),
+            ListenFault::NotListenable => unreachable!(),
             ListenFault::NameUsed => self.refuse(Refusal::NameUsed { name }, line, out),
             ListenFault::Full => {
                 let limit = MOST_LISTENERS;
@@ -109,19 +153,36 @@ impl Core {
         }
     }
 
-    // Stops the listener of the name.
-    pub(crate) fn stop(&mut self, name: &str, line: u32, out: &mut Vec<u8>) -> Result<(), NoMemory>
-        ensures does { OnOk result (Does out.old.items out.new.items (state self.new) line
+    // Stops the live query or the listener of the name.
+    pub(crate) fn stop(
+        &mut self,
+        name: &str,
+        line: u32,
+        out: &mut Vec<u8>,
+    ) -> Result<Tally, NoMemory>
+        requires usable { IsUsable self.old }
+        ensures does { IfOk result (λ tally. Does out.old.items out.new.items tally self.new line
             (row_stop (state self.old) name.now)) }
-        ensures leaves { OnErr result (Leaves self.old self.new) }
+        ensures kept { OnErr result (IsKept self.old self.new) }
     {
-        if !self.listeners.has(name) {
+        if !self.live.has(name) && !self.listeners.has(name) {
             return self.refuse(Refusal::NoName { name }, line, out);
         }
         Reply::Stopped(name).write(self.alloc, line, out)?;
+        self.forget(name);
+        Ok(ONE_REPLY)
+    }
+
+    // Neither a live query nor a listener has the name any more.
+    fn forget(&mut self, name: &str)
+        requires usable { IsUsable self.old }
+        ensures state { state self.new ≡ without_named name.now (state self.old) }
+        ensures usable { IsUsable self.new }
+    {
+        self.forget_live(name);
         match self.listeners.remove(name) {
-            Ok(()) => Ok(()),
-            Err(_none) => unreachable!(),
+            Ok(()) => {}
+            Err(_none) => {}
         }
     }
 }

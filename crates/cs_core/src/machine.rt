@@ -1,5 +1,5 @@
 //! The machine: what the lines so far have left, and its step.
-ghost use Rattle.std.specs.Prelude.{◌≡◌, ◌≤◌, IfOk, OnOk, OnErr, IsOk, length, [], true};
+ghost use Rattle.std.specs.Prelude.{◌≡◌, ◌≤◌, IfOk, IfErr, OnOk, OnErr, IsOk, length, [], true, false};
 ghost use Rattle.cs_io.specs.Lines.{longest_line};
 ghost use Rattle.cs_value.specs.View.{tree};
 ghost use Rattle.cs_json.specs.Reading.{outcome};
@@ -10,24 +10,26 @@ ghost use Rattle.cs_docs.specs.Store.{docs as docs_of};
 ghost use Rattle.cs_reply.specs.View.{refusal};
 ghost use Rattle.cs_wire.specs.Blank.{is_blank};
 ghost use Rattle.cs_machine.specs.Machine.{deepest_line};
-ghost use Rattle.cs_core.specs.Core.{state};
-ghost use Rattle.cs_core.specs.Does.{Does, Leaves};
+ghost use Rattle.cs_gen.specs.Tally.{IsTally};
+ghost use Rattle.cs_core.specs.Core.{state, IsSound, IsUsable};
+ghost use Rattle.cs_core.specs.Does.{Does, IsKept, Leaves, LeavesAfter, step_writes, step_state, step_replies};
 ghost use Rattle.cs_wire.specs.Rows.{command};
-ghost use Rattle.cs_machine.specs.Machine.{by_command, heard};
-ghost use Rattle.cs_core.specs.Built.{built_row, step, step_writes, step_state};
+ghost use Rattle.cs_machine.specs.Machine.{by_command, heard, step};
 ghost use Rattle.cs_machine.specs.Refused.{refuse};
+ghost use Rattle.cs_machine.specs.Rows.{row};
 ghost use Rattle.cs_machine.specs.State.{begun};
 
 use cs_docs::Docs;
+use cs_gen::Tally;
 use cs_io::Line;
 use cs_json::{JsonFault, ValueReader};
 use cs_listen::Listeners;
+use cs_live::Live;
 use cs_reply::{Refusal, Reply};
 use cs_value::{NoMemory, Steps, Txt, Val};
 use cs_wire::{BadCommand, Command, commands_are_within, is_blank};
 use indexmap::IndexSet;
 use std::alloc::Global;
-use std::marker::Model;
 use std::sync::ledger::Ledger;
 
 // How many levels of lists and objects a line may nest.
@@ -36,44 +38,66 @@ const DEEPEST_LINE: u32 = 64;
 // The moment at which every run begins.
 const FIRST_MOMENT: &str = "1970-01-01T00:00:00Z";
 
+// The tally of one reply, by what it says.
+pub(crate) const ONE_REPLY: Tally = Tally {
+    replies: 1,
+    events: 0,
+    live: 0,
+    refused: 0,
+};
+
+pub(crate) const ONE_ANSWER: Tally = Tally {
+    replies: 1,
+    events: 0,
+    live: 1,
+    refused: 0,
+};
+
+pub(crate) const ONE_REFUSAL: Tally = Tally {
+    replies: 1,
+    events: 0,
+    live: 0,
+    refused: 1,
+};
+
 /// Why a step has no replies.
 #[derive(Clone, Copy, Debug, Drop, PartialEq, Eq)]
 pub enum CoreFault {
     /// The allocator had no memory to give.
     NoMemory,
-}
-
-impl From<NoMemory> for CoreFault {
-    fn from(_refused: NoMemory) -> CoreFault {
-        CoreFault::NoMemory
-    }
+    /// The machine is spent: at an earlier line there was no memory for the answers of live queries
+    /// behind a transaction that was installed.
+    Spent,
 }
 
 /// The replies to one line.
 #[derive(Drop)]
 pub struct Replies {
     bytes: Vec<u8>,
-}
-
-impl Model for Replies {
-    ghost use Rattle.std.specs.Prelude.{List, ℕ};
-
-    ghost Value = { List ℕ };
-
-    ghost view = { λ r. r.bytes.items };
+    tally: Tally,
 }
 
 impl Replies {
     /// The reply lines, each with its newline. A blank line has none.
     pub fn bytes(&self) -> &[u8]
-        ensures { result.now ≡ self.now }
+        ensures { result.now ≡ self.now.bytes.items }
     {
         self.bytes.as_slice()
+    }
+
+    /// How many replies they are, by their kinds.
+    pub fn tally(&self) -> Tally
+        ensures { result ≡ self.now.tally }
+    {
+        self.tally
     }
 }
 
 /// The machine: the documents that the lines so far have left, the moment, the ids of accepted
-/// transactions in the order in which they were, and the listeners.
+/// transactions in the order in which they were, the live queries and the listeners.
+///
+/// A machine is spent where a transaction's documents were installed and there was no memory then
+/// for what its live queries answer. It can't be used on, and every step says so.
 #[derive(Drop)]
 pub struct Core {
     pub(crate) alloc: Global,
@@ -81,13 +105,16 @@ pub struct Core {
     pub(crate) docs: Docs,
     pub(crate) moment: Txt,
     pub(crate) used: IndexSet<String>,
+    pub(crate) live: Live,
     pub(crate) listeners: Listeners,
+    pub(crate) spent: bool,
 }
 
 impl Core {
     /// A machine with these documents, at the first moment, and with nothing else.
     pub fn new(alloc: Global, docs: Docs) -> Result<Core, NoMemory>
-        ensures { IfOk result (λ core. state core ≡ begun (docs_of docs)) }
+        ensures begun { IfOk result (λ core. state core ≡ begun (docs_of docs)) }
+        ensures usable { IfOk result (λ core. IsUsable core) }
     {
         Ok(Core {
             alloc,
@@ -95,7 +122,9 @@ impl Core {
             docs,
             moment: Txt::copy_of(alloc, FIRST_MOMENT)?,
             used: IndexSet::new(alloc),
+            live: Live::new(alloc),
             listeners: Listeners::new(alloc),
+            spent: false,
         })
     }
 
@@ -107,25 +136,40 @@ impl Core {
     }
 
     /// One step of the machine: the replies to the line, as the plain machine gives them, and its
-    /// state afterwards. A blank line has no replies and takes no memory. After
-    /// [`CoreFault::NoMemory`] the machine is as before. The line is one that [`cs_io::Lines`]
-    /// gives, so it has at most 16,777,216 bytes.
+    /// state afterwards. A blank line has no replies and takes no memory. The line is one that
+    /// [`cs_io::Lines`] gives, so it has at most 16,777,216 bytes.
+    ///
+    /// After [`CoreFault::NoMemory`] the machine is as before; or it is spent, which only the line
+    /// of an accepted transaction leads to, and its documents are those after the transaction.
+    /// [`CoreFault::Spent`] comes exactly where the machine was spent before; nothing changes then.
     pub fn step<L: Ledger>(
         &mut self,
         line: &Line,
         steps: &mut Steps<L>,
     ) -> Result<Replies, CoreFault>
-        requires { length line.now.bytes.items ≤ longest_line }
-        ensures replies { IfOk result (λ replies. replies ≡ step_writes (state self.old)
-            line.now.number line.now.bytes.items) }
+        requires short { length line.now.bytes.items ≤ longest_line }
+        requires sound { IsSound self.old }
+        ensures replies { IfOk result (λ replies. replies.bytes.items
+            ≡ step_writes (state self.old) line.now.number line.now.bytes.items) }
+        ensures tally { IfOk result (λ replies. IsTally replies.tally
+            (step_replies (state self.old) line.now.number line.now.bytes.items)) }
         ensures state { OnOk result (state self.new ≡ step_state (state self.old) line.now.number
             line.now.bytes.items) }
-        ensures leaves { OnErr result (Leaves self.old self.new) }
-        ensures blank { is_blank line.now.bytes.items ≡ true → IsOk result }
+        ensures unspent { OnOk result ((self.old.spent ≡ false) × (self.new.spent ≡ false)) }
+        ensures sound { IsSound self.new }
+        ensures leaves { IfErr result (λ fault. LeavesAfter fault self.old self.new
+            (step (state self.old) line.now.number line.now.bytes.items)) }
+        ensures blank { self.old.spent ≡ false → is_blank line.now.bytes.items ≡ true
+            → IsOk result }
     {
+        if self.spent {
+            return Err(CoreFault::Spent);
+        }
         let mut bytes = Vec::new(self.alloc);
-        self.reply_to(line, steps, &mut bytes)?;
-        Ok(Replies { bytes })
+        match self.reply_to(line, steps, &mut bytes) {
+            Ok(tally) => Ok(Replies { bytes, tally }),
+            Err(NoMemory) => Err(CoreFault::NoMemory),
+        }
     }
 
     // The replies to the line are appended.
@@ -134,15 +178,17 @@ impl Core {
         line: &Line,
         steps: &mut Steps<L>,
         out: &mut Vec<u8>,
-    ) -> Result<(), NoMemory>
-        requires { length line.now.bytes.items ≤ longest_line }
-        ensures does { OnOk result (Does out.old.items out.new.items (state self.new)
+    ) -> Result<Tally, NoMemory>
+        requires short { length line.now.bytes.items ≤ longest_line }
+        requires usable { IsUsable self.old }
+        ensures does { IfOk result (λ tally. Does out.old.items out.new.items tally self.new
             line.now.number (step (state self.old) line.now.number line.now.bytes.items)) }
-        ensures leaves { OnErr result (Leaves self.old self.new) }
+        ensures leaves { OnErr result (Leaves self.old self.new
+            (step (state self.old) line.now.number line.now.bytes.items)) }
         ensures blank { is_blank line.now.bytes.items ≡ true → IsOk result }
     {
         if is_blank(line.bytes.as_slice()) {
-            return Ok(());
+            return Ok(Tally::new());
         }
         self.hear(line.number, line.bytes.as_slice(), steps, out)
     }
@@ -153,11 +199,13 @@ impl Core {
         why: Refusal<'_>,
         line: u32,
         out: &mut Vec<u8>,
-    ) -> Result<(), NoMemory>
-        ensures { OnOk result (Does out.old.items out.new.items (state self.now) line
+    ) -> Result<Tally, NoMemory>
+        requires usable { IsUsable self.now }
+        ensures { IfOk result (λ tally. Does out.old.items out.new.items tally self.now line
             (refuse (state self.now) (refusal why.entry))) }
     {
-        Reply::Refused(why).write(self.alloc, line, out)
+        Reply::Refused(why).write(self.alloc, line, out)?;
+        Ok(ONE_REFUSAL)
     }
 
     // A line that is not blank.
@@ -167,11 +215,13 @@ impl Core {
         line: &[u8],
         steps: &mut Steps<L>,
         out: &mut Vec<u8>,
-    ) -> Result<(), NoMemory>
-        requires { length line.now ≤ longest_line }
-        ensures does { OnOk result (Does out.old.items out.new.items (state self.new) number
-            (heard built_row (state self.old) number (outcome deepest_line line.now))) }
-        ensures leaves { OnErr result (Leaves self.old self.new) }
+    ) -> Result<Tally, NoMemory>
+        requires short { length line.now ≤ longest_line }
+        requires usable { IsUsable self.old }
+        ensures does { IfOk result (λ tally. Does out.old.items out.new.items tally self.new number
+            (heard row (state self.old) number (outcome deepest_line line.now))) }
+        ensures leaves { OnErr result (Leaves self.old self.new
+            (heard row (state self.old) number (outcome deepest_line line.now))) }
     {
         match self.reader.read(line, DEEPEST_LINE) {
             Ok(val) => self.command(val, number, steps, out),
@@ -189,11 +239,13 @@ impl Core {
         line: u32,
         steps: &mut Steps<L>,
         out: &mut Vec<u8>,
-    ) -> Result<(), NoMemory>
+    ) -> Result<Tally, NoMemory>
         requires short { widest (tree val) ≤ longest_line }
-        ensures does { OnOk result (Does out.old.items out.new.items (state self.new) line
-            (by_command built_row (state self.old) line (command (tree val)))) }
-        ensures leaves { OnErr result (Leaves self.old self.new) }
+        requires usable { IsUsable self.old }
+        ensures does { IfOk result (λ tally. Does out.old.items out.new.items tally self.new line
+            (by_command row (state self.old) line (command (tree val)))) }
+        ensures leaves { OnErr result (Leaves self.old self.new
+            (by_command row (state self.old) line (command (tree val)))) }
     {
         commands_are_within();
         match Command::read(self.alloc, val) {
@@ -202,29 +254,29 @@ impl Core {
         }
     }
 
-    // A command, as far as it is built: each row of the table has an arm.
+    // A command: each row of the table has an arm.
     fn run<L: Ledger>(
         &mut self,
         command: Command,
         line: u32,
         steps: &mut Steps<L>,
         out: &mut Vec<u8>,
-    ) -> Result<(), NoMemory>
+    ) -> Result<Tally, NoMemory>
         requires short { IsWithin longest_line (request command) }
-        ensures does { OnOk result (Does out.old.items out.new.items (state self.new) line
-            (built_row (state self.old) line (request command))) }
-        ensures leaves { OnErr result (Leaves self.old self.new) }
+        requires usable { IsUsable self.old }
+        ensures does { IfOk result (λ tally. Does out.old.items out.new.items tally self.new line
+            (row (state self.old) line (request command))) }
+        ensures leaves { OnErr result (Leaves self.old self.new
+            (row (state self.old) line (request command))) }
     {
         match command {
             Command::Mutate { body } => self.mutate(body, line, steps, out),
             Command::Query { text, params } => {
                 self.query(text.as_str(), &params, line, steps, out)
             }
-            Command::Live {
-                name: _,
-                text: _,
-                params: _,
-            } => self.refuse(Refusal::NotBuilt, line, out),
+            Command::Live { name, text, params } => {
+                self.live(name, text.as_str(), params, line, steps, out)
+            }
             Command::Listen {
                 name,
                 text,

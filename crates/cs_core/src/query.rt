@@ -1,51 +1,28 @@
 //! The row of `query`: the value of a query over the documents as they are.
-ghost use Rattle.std.specs.Prelude.{◌≡◌, ◌<◌, ◌^◌, OnOk, length, option_map, option_and_then};
+ghost use Rattle.std.specs.Prelude.{◌≡◌, ◌<◌, ◌^◌, IfOk, OnOk, length};
 ghost use Rattle.cs_value.specs.View.{fields};
 ghost use Rattle.cs_syntax.specs.Queries.{query as expression_of};
-ghost use Rattle.cs_parse.specs.Verdict.{reading_of};
 ghost use Rattle.cs_parts.specs.Parts.{got};
 ghost use Rattle.cs_meaning.specs.Values.{query_value};
 ghost use Rattle.cs_docs.specs.Store.{docs as docs_of};
 ghost use Rattle.cs_reply.specs.Reply.{reply_tree, found as found_reply};
-ghost use Rattle.cs_reply.specs.View.{refusal as refusal_seen, Appended};
-ghost use Rattle.cs_core.specs.Core.{state};
+ghost use Rattle.cs_reply.specs.View.{Appended};
+ghost use Rattle.cs_core.specs.Core.{state, IsUsable};
 ghost use Rattle.cs_core.specs.Does.{Does};
-ghost use Rattle.cs_machine.specs.Causes.{why_none};
 ghost use Rattle.cs_machine.specs.Rows.{row_query};
 
-use crate::machine::Core;
+use crate::machine::{Core, ONE_REPLY};
 use cs_eval::{Got, eval};
+use cs_gen::Tally;
 use cs_json::Node;
-use cs_parse::{ParseFault, parse};
-use cs_reply::{Refusal, Reply};
+use cs_parse::parse;
+use cs_refusal::no_query;
+use cs_reply::Reply;
 use cs_syntax::Query;
 use cs_value::{Fields, NoMemory, Steps};
 use cs_view::Record;
 use std::alloc::Global;
 use std::sync::ledger::Ledger;
-
-// Why a text is no query. `None` for want of memory.
-pub(crate) fn refusal(fault: &ParseFault) -> Option<Refusal<'_>>
-    ensures { option_map refusal_seen result ≡ option_and_then why_none
-        (reading_of fault.entry.now) }
-{
-    match fault {
-        ParseFault::BadToken { at } => Some(Refusal::BadToken { at: *at }),
-        ParseFault::TooDeep => Some(Refusal::DeepQuery),
-        ParseFault::Syntax => Some(Refusal::Syntax),
-        ParseFault::Unsupported { name } => Some(Refusal::Unsupported {
-            name: name.as_str(),
-        }),
-        ParseFault::UnknownFunction { name } => Some(Refusal::UnknownFunction {
-            name: name.as_str(),
-        }),
-        ParseFault::Arity { name } => Some(Refusal::Arity {
-            name: name.as_str(),
-        }),
-        ParseFault::NoKey => Some(Refusal::NoKey),
-        ParseFault::NoMemory => None,
-    }
-}
 
 // What a query found, written from its borrowed parts.
 fn write_found(alloc: Global, found: Got<'_>, line: u32, out: &mut Vec<u8>) -> Result<(), NoMemory>
@@ -68,14 +45,18 @@ impl Core {
         line: u32,
         steps: &mut Steps<L>,
         out: &mut Vec<u8>,
-    ) -> Result<(), NoMemory>
-        requires { length text.now < 2 ^ 32 }
-        ensures { OnOk result (Does out.old.items out.new.items (state self.now) line
+    ) -> Result<Tally, NoMemory>
+        requires short { length text.now < 2 ^ 32 }
+        requires usable { IsUsable self.now }
+        ensures { IfOk result (λ tally. Does out.old.items out.new.items tally self.now line
             (row_query (state self.now) text.now (fields params.now))) }
     {
         match parse(self.alloc, text) {
-            Ok(query) => self.find(&query, params, line, steps, out),
-            Err(fault) => match refusal(&fault) {
+            Ok(query) => {
+                self.find(&query, params, line, steps, out)?;
+                Ok(ONE_REPLY)
+            }
+            Err(fault) => match no_query(&fault) {
                 Some(why) => self.refuse(why, line, out),
                 None => Err(NoMemory),
             },

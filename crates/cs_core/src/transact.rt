@@ -1,37 +1,42 @@
-//! The row of `mutate`: a transaction, in three parts. What reads and prepares it changes nothing;
-//! then all that needs memory is made; and what comes behind the installing can't fail.
-ghost use Rattle.std.specs.Prelude.{◌≡◌, ◌++◌, ◌<◌, ◌≤◌, ◌^◌, OnOk, OnErr, IfOk, length, map, string_bytes, false};
+//! The row of `mutate`: a transaction, in three parts. What reads and prepares it changes nothing.
+//! Then all is made that needs memory before the documents are installed. Last come the answers of
+//! live queries: where there is no memory for these, the machine is spent.
+ghost use Rattle.std.specs.Prelude.{◌≡◌, ◌++◌, ◌<◌, ◌≤◌, ◌^◌, OnOk, OnErr, IfOk, length, map, string_bytes, false, true};
 ghost use Rattle.indexmap.specs.IndexSet.{contains_text, spare};
 ghost use Rattle.cs_value.specs.Tree.{widest};
 ghost use Rattle.cs_value.specs.View.{tree};
-ghost use Rattle.cs_view.specs.Changes.{After};
+ghost use Rattle.cs_view.specs.Changes.{After, Before, LeadTo, are_changes};
 ghost use Rattle.cs_view.specs.View.{edit, edits};
 ghost use Rattle.cs_docs.specs.Store.{docs as docs_of, prepared as changes_of};
 ghost use Rattle.cs_docs.specs.Verdict.{AreTaken};
 ghost use Rattle.cs_io.specs.Lines.{longest_line};
 ghost use Rattle.cs_body.specs.View.{txn as plain};
-ghost use Rattle.cs_wire.specs.Commands.{mutate};
+ghost use Rattle.cs_live.specs.Entries.{lives, said};
+ghost use Rattle.cs_live.specs.Fits.{Fits};
+ghost use Rattle.cs_live.specs.Lives.{all_refreshed, news};
 ghost use Rattle.cs_reply.specs.Reply.{reply_tree, committed};
 ghost use Rattle.cs_reply.specs.View.{Appended, event, outcome as outcome_seen};
 ghost use Rattle.cs_listen.specs.Events.{events};
 ghost use Rattle.cs_listen.specs.Listeners.{listeners};
-ghost use Rattle.cs_machine.specs.Rows.{by_transaction, installed, outcome};
-ghost use Rattle.cs_machine.specs.State.{with_used};
+ghost use Rattle.cs_machine.specs.Rows.{row_mutate, by_transaction, installed, outcome};
+ghost use Rattle.cs_machine.specs.State.{with_lives, with_used};
 ghost use Rattle.cs_txn.specs.Within.{AreShort};
-ghost use Rattle.cs_core.specs.Built.{built_row};
-ghost use Rattle.cs_core.specs.Core.{state};
-ghost use Rattle.cs_core.specs.Does.{Does, Leaves, heard_lines};
+ghost use Rattle.cs_core.specs.Core.{state, IsUsable};
+ghost use Rattle.cs_core.specs.Does.{Does, Leaves, IsTallyOf, heard_lines, live_lines};
 
-use crate::machine::Core;
-use crate::refused::write_refused;
+use crate::live::write_answer;
+use crate::machine::{Core, ONE_REFUSAL};
 use cs_body::{Txn, TxnFault, transactions_are_within};
 use cs_docs::Prepared;
+use cs_gen::Tally;
+use cs_live::LiveLine;
+use cs_refusal::write_refused;
 use cs_reply::{Event, Operation, Outcome, Refusal, Reply};
 use cs_txn::laws::{commits_keep_datasets, within_are_short};
 use cs_txn::prepare;
 use cs_value::{NoMemory, Steps, Txt, Val};
 use cs_view::Change;
-use cs_view::laws::{changes_are_computed, changes_are_one_list};
+use cs_view::laws::{changes_are_computed, changes_are_one_list, changes_lead_on_and_back};
 use std::alloc::Global;
 use std::sync::ledger::Ledger;
 
@@ -78,6 +83,46 @@ fn write_heard(
     Ok(())
 }
 
+// Each answer of a live query as a line.
+fn write_answers(
+    alloc: Global,
+    answers: &[LiveLine],
+    line: u32,
+    out: &mut Vec<u8>,
+) -> Result<(), NoMemory>
+    ensures { OnOk result (out.new.items ≡ out.old.items ++ live_lines line
+        (map said answers.now)) }
+{
+    for answer in answers {
+        write_answer(alloc, answer, line, out)?;
+    }
+    Ok(())
+}
+
+// A number of replies. More than 32 bits hold are taken for want of memory.
+fn count(n: u64) -> Result<u32, NoMemory>
+    ensures { IfOk result (λ count. count ≡ n) }
+{
+    match u32::try_from(n) {
+        Ok(count) => Ok(count),
+        Err(_) => Err(NoMemory),
+    }
+}
+
+// The tally of the reply to an accepted transaction, so many events, and so many answers of live
+// queries.
+fn tally(events: u32, live: u32) -> Result<Tally, NoMemory>
+    ensures { IfOk result (λ tally. IsTallyOf tally events live) }
+{
+    let replies = count(u64::from(events) + u64::from(live) + 1)?;
+    Ok(Tally {
+        replies,
+        events,
+        live,
+        refused: 0,
+    })
+}
+
 impl Core {
     // A transaction.
     pub(crate) fn mutate<L: Ledger>(
@@ -86,11 +131,13 @@ impl Core {
         line: u32,
         steps: &mut Steps<L>,
         out: &mut Vec<u8>,
-    ) -> Result<(), NoMemory>
+    ) -> Result<Tally, NoMemory>
         requires short { widest (tree body) ≤ longest_line }
-        ensures does { OnOk result (Does out.old.items out.new.items (state self.new) line
-            (built_row (state self.old) line (mutate (tree body)))) }
-        ensures leaves { OnErr result (Leaves self.old self.new) }
+        requires usable { IsUsable self.old }
+        ensures does { IfOk result (λ tally. Does out.old.items out.new.items tally self.new line
+            (row_mutate (state self.old) line (tree body))) }
+        ensures leaves { OnErr result (Leaves self.old self.new
+            (row_mutate (state self.old) line (tree body))) }
     {
         transactions_are_within();
         within_are_short();
@@ -109,12 +156,14 @@ impl Core {
         line: u32,
         steps: &mut Steps<L>,
         out: &mut Vec<u8>,
-    ) -> Result<(), NoMemory>
+    ) -> Result<Tally, NoMemory>
         requires few { length txn.now.mutations.items < 2 ^ 31 }
         requires short { AreShort (plain txn.now).actions }
-        ensures does { OnOk result (Does out.old.items out.new.items (state self.new) line
+        requires usable { IsUsable self.old }
+        ensures does { IfOk result (λ tally. Does out.old.items out.new.items tally self.new line
             (by_transaction (state self.old) (plain txn.now))) }
-        ensures leaves { OnErr result (Leaves self.old self.new) }
+        ensures leaves { OnErr result (Leaves self.old self.new
+            (by_transaction (state self.old) (plain txn.now))) }
     {
         commits_keep_datasets();
         changes_are_computed();
@@ -124,32 +173,45 @@ impl Core {
             return self.refuse(Refusal::TxUsed { id }, line, out);
         }
         match prepare(self.alloc, &self.docs, &self.docs, txn, &self.moment, steps) {
-            Ok(prepared) => self.accept(&txn.id, &prepared, line, out),
-            Err(refusal) => write_refused(self.alloc, &refusal, line, out),
+            Ok(prepared) => self.accept(&txn.id, &prepared, line, steps, out),
+            Err(refusal) => {
+                write_refused(self.alloc, &refusal, line, out)?;
+                Ok(ONE_REFUSAL)
+            }
         }
     }
 
-    // An accepted transaction: its reply, and what it leaves.
-    fn accept(
+    // An accepted transaction: its replies, and what it leaves.
+    fn accept<L: Ledger>(
         &mut self,
         tx: &Txt,
         prepared: &Prepared,
         line: u32,
+        steps: &mut Steps<L>,
         out: &mut Vec<u8>,
-    ) -> Result<(), NoMemory>
+    ) -> Result<Tally, NoMemory>
         requires taken { AreTaken (docs_of self.old.docs) (changes_of prepared.now) }
         requires unused { contains_text self.old.used tx.now ≡ false }
-        ensures does { OnOk result (Does out.old.items out.new.items (state self.new) line
+        requires usable { IsUsable self.old }
+        ensures does { IfOk result (λ tally. Does out.old.items out.new.items tally self.new line
             (installed (state self.old) tx.now
             (After (docs_of self.old.docs) (changes_of prepared.now)) (changes_of prepared.now))) }
-        ensures leaves { OnErr result (Leaves self.old self.new) }
+        ensures leaves { OnErr result (Leaves self.old self.new (installed (state self.old) tx.now
+            (After (docs_of self.old.docs) (changes_of prepared.now)) (changes_of prepared.now))) }
     {
         self.write_committed(tx, prepared, line, out)?;
-        self.write_events(tx, prepared, line, out)?;
+        let events = self.write_events(tx, prepared, line, out)?;
         let id = self.room_for(tx)?;
         self.docs.install(prepared)?;
         self.note(id);
-        Ok(())
+        changes_lead_on_and_back();
+        match self.tell_live(prepared.changes(), events, line, steps, out) {
+            Ok(tally) => Ok(tally),
+            Err(NoMemory) => {
+                self.spent = true;
+                Err(NoMemory)
+            }
+        }
     }
 
     // The reply to an accepted transaction.
@@ -171,17 +233,19 @@ impl Core {
         .write(self.alloc, line, out)
     }
 
-    // What the listeners hear of an accepted transaction.
+    // What the listeners hear of an accepted transaction, and how many events that are.
     fn write_events(
         &self,
         tx: &Txt,
         prepared: &Prepared,
         line: u32,
         out: &mut Vec<u8>,
-    ) -> Result<(), NoMemory>
-        ensures { OnOk result (out.new.items ≡ out.old.items ++ heard_lines line
+    ) -> Result<u32, NoMemory>
+        ensures lines { OnOk result (out.new.items ≡ out.old.items ++ heard_lines line
             (events tx.now self.now.moment (changes_of prepared.now)
             (listeners self.now.listeners))) }
+        ensures count { IfOk result (λ count. count ≡ length (events tx.now self.now.moment
+            (changes_of prepared.now) (listeners self.now.listeners))) }
     {
         let heard = self.listeners.events(
             self.alloc,
@@ -189,7 +253,37 @@ impl Core {
             self.moment.as_str(),
             prepared.changes(),
         )?;
-        write_heard(self.alloc, heard.as_slice(), line, out)
+        write_heard(self.alloc, heard.as_slice(), line, out)?;
+        count(heard.len() as u64)
+    }
+
+    // What live queries answer after the changes that were installed, behind the reply and so many
+    // events. After `NoMemory` the live queries fit no documents any more.
+    fn tell_live<L: Ledger>(
+        &mut self,
+        changes: &[Change],
+        events: u32,
+        line: u32,
+        steps: &mut Steps<L>,
+        out: &mut Vec<u8>,
+    ) -> Result<Tally, NoMemory>
+        requires changes { are_changes (edits changes.now) ≡ true }
+        requires led { LeadTo (docs_of self.old.docs) (edits changes.now) }
+        requires fits { Fits self.old.live (Before (docs_of self.old.docs) (edits changes.now)) }
+        ensures lines { OnOk result (out.new.items ≡ out.old.items ++ live_lines line
+            (news (docs_of self.old.docs) (lives self.old.live))) }
+        ensures tally { IfOk result (λ tally. IsTallyOf tally events
+            (length (news (docs_of self.old.docs) (lives self.old.live)))) }
+        ensures state { OnOk result (state self.new
+            ≡ with_lives (all_refreshed (docs_of self.old.docs) (lives self.old.live))
+            (state self.old)) }
+        ensures fits { OnOk result (Fits self.new.live (docs_of self.new.docs)) }
+        ensures docs { self.new.docs ≡ self.old.docs }
+        ensures spent { self.new.spent ≡ self.old.spent }
+    {
+        let answers = self.live.after_commit(&self.docs, changes, steps)?;
+        write_answers(self.alloc, answers.as_slice(), line, out)?;
+        tally(events, count(answers.len() as u64)?)
     }
 
     // A copy of the id, and room for it among those of accepted transactions.
@@ -197,6 +291,7 @@ impl Core {
         ensures copy { IfOk result (λ id. string_bytes id ≡ tx.now) }
         ensures room { OnOk result (1 ≤ spare self.new.used) }
         ensures same { state self.new ≡ state self.old }
+        ensures usable { IsUsable self.old → IsUsable self.new }
     {
         let id = String::from_str(self.alloc, tx.as_str())?;
         self.used.reserve(1)?;
@@ -206,7 +301,10 @@ impl Core {
     // The id is that of an accepted transaction, for which there is room.
     fn note(&mut self, id: String)
         requires { 1 ≤ spare self.old.used }
-        ensures { state self.new ≡ with_used (string_bytes id) (state self.old) }
+        ensures state { state self.new ≡ with_used (string_bytes id) (state self.old) }
+        ensures docs { self.new.docs ≡ self.old.docs }
+        ensures live { self.new.live ≡ self.old.live }
+        ensures spent { self.new.spent ≡ self.old.spent }
     {
         match self.used.insert(id) {
             Ok(_new) => {}

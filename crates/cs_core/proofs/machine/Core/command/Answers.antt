@@ -5,5 +5,6 @@ use Rattle.cs_wire.specs.View.{request}
 use Rattle.cs_core.proofs.Replying.{within_more}
 use Rattle.cs_core.proofs.machine.Core.command.Goals as goal
 
-pub run-requires : goal.run-requires
-run-requires g c = record { short = within_more (widest (tree c.args.val)) longest_line (request c.in-Ok.command) c.requires.short (c.commands_are_within.ensures (tree c.args.val) (request c.in-Ok.command) c.in-Ok.ensures) }
+pub run-requires-clause-short : goal.run-requires-clause-short
+run-requires-clause-short g c =
+    within_more (widest (tree c.args.val)) longest_line (request c.in-Ok.command) c.requires.short (c.commands_are_within.ensures (tree c.args.val) (request c.in-Ok.command) c.in-Ok.ensures)

@@ -1,5 +1,5 @@
 use Rattle.std.proofs.Common.{refl}
-use Rattle.std.proofs.lemmas.Result.{on_ok_weaker}
+use Rattle.std.proofs.lemmas.Result.{IfOk-weaker}
 use Rattle.cs_parse.specs.Verdict.{reading_of}
 use Rattle.cs_meaning.specs.Values.{query_value}
 use Rattle.cs_reply.specs.Reply.{found}
@@ -14,13 +14,16 @@ use Rattle.cs_core.proofs.machine.Core.query.Goals as goal
 pub returns-in-Ok : goal.returns-in-Ok
 returns-in-Ok g c =
     let s = state c.args.self.now in
+    let value = query_value s.docs (fields c.args.params.now) (expression_of c.in-Ok.query) in
     let next = λ (e : Expression). answered s (found (query_value s.docs (fields c.args.params.now) e)) in
     let is = read_text s c.args.text.now next (expression_of c.in-Ok.query) c.in-Ok.ensures in
-    on_ok_weaker c.find.result (λ h. does_as c.args.out.now.items c.find.new.out.items s c.args.line _ _ is (says _ _ s s c.args.line (found (query_value s.docs (fields c.args.params.now) (expression_of c.in-Ok.query))) refl h)) c.find.ensures
+    does_as _ _ _ c.args.self.now c.args.line _ _ is
+    (says _ _ _ c.args.self.now s c.args.line (found value) refl c.requires.usable
+    (record { replies = refl; events = refl; live = refl; refused = refl }) c.in_ok-find-in-Ok.ensures)
 
 pub returns-in-Some : goal.returns-in-Some
 returns-in-Some g c =
     let s = state c.args.self.now in
     let next = λ (e : Expression). answered s (found (query_value s.docs (fields c.args.params.now) e)) in
     let is = refused_text s c.args.text.now next (reading_of c.in-Err.fault) _ c.in-Err.ensures c.in-Some.ensures in
-    on_ok_weaker c.refuse.result (λ h. does_as c.args.out.now.items c.refuse.new.out.items s c.args.line _ _ is h) c.refuse.ensures
+    IfOk-weaker c.refuse.result _ _ (λ t h. does_as _ _ t c.args.self.now c.args.line _ _ is h) c.refuse.ensures

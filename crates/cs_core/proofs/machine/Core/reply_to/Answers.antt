@@ -1,17 +1,33 @@
-use Rattle.std.proofs.Common.{rules}
-use Rattle.std.proofs.lemmas.Result.{on_ok_weaker}
+use Rattle.std.proofs.Common.{rules, ap, sym, ◌∙◌, List, ℕ}
+use Rattle.std.proofs.lemmas.Result.{IfOk-weaker, on_err_weaker}
+use Rattle.cs_json.specs.Reading.{outcome}
+use Rattle.cs_machine.specs.Machine.{deepest_line, heard}
+use Rattle.cs_machine.specs.Rows.{row}
 use Rattle.cs_core.specs.Core.{state}
-use Rattle.cs_core.proofs.Replying.{silent, does_as, step_blank, step_heard}
+use Rattle.cs_core.proofs.Replying.{silent, does_as, leaves_as, step_blank, step_heard}
 use Rattle.cs_core.proofs.machine.Core.reply_to.Goals as goal
 
 pub returns-then-is_blank-clause-does : goal.returns-then-is_blank-clause-does
 returns-then-is_blank-clause-does g c =
-    let s = state c.args.self.now in
-    let bytes = c.args.line.now.bytes.items in
-    does_as c.args.out.now.items c.args.out.now.items s c.args.line.now.number _ _ (step_blank s c.args.line.now.number bytes (search rules)) (silent c.args.out.now.items s c.args.line.now.number)
+    let core = c.args.self.now in
+    let n = c.args.line.now.number in
+    let is = step_blank (state core) n c.args.line.now.bytes.items (search rules) in
+    does_as _ _ _ core n _ _ is (silent _ _ core n c.requires.usable (search rules))
 
 pub returns-clause-does : goal.returns-clause-does
 returns-clause-does g c =
+    let n = c.args.line.now.number in
     let s = state c.args.self.now in
-    let bytes = c.args.line.now.bytes.items in
-    on_ok_weaker c.hear.result (λ h. does_as c.args.out.now.items c.hear.new.out.items (state c.hear.new.self) c.args.line.now.number _ _ (step_heard s c.args.line.now.number bytes (search rules)) h) (search rules)
+    let is = step_heard s n c.args.line.now.bytes.items (search rules)
+    ∙ ap (λ (l : List ℕ). heard row s n (outcome deepest_line l)) (sym c.as_slice-2.ensures.value) in
+    IfOk-weaker c.hear.result _ _ (λ t h. does_as _ _ t c.hear.new.self n _ _ is h)
+    c.hear.ensures.does
+
+pub returns-clause-leaves : goal.returns-clause-leaves
+returns-clause-leaves g c =
+    let n = c.args.line.now.number in
+    let s = state c.args.self.now in
+    let is = step_heard s n c.args.line.now.bytes.items (search rules)
+    ∙ ap (λ (l : List ℕ). heard row s n (outcome deepest_line l)) (sym c.as_slice-2.ensures.value) in
+    on_err_weaker c.hear.result (λ h. leaves_as c.args.self.now c.hear.new.self _ _ is h)
+    c.hear.ensures.leaves

@@ -6,9 +6,9 @@ use Rattle.cs_value.specs.Tree.{Tree, Pairs, object}
 use Rattle.cs_value.specs.View.{fields}
 use Rattle.cs_reply.specs.Fields.{number}
 use Rattle.cs_reply.specs.View.{Appended}
-use Rattle.cs_core.specs.Told.{with_index}
-use Rattle.cs_core.proofs.Told.{told_more, whole_reply}
-use Rattle.cs_core.proofs.refused.write_refused.Goals as goal
+use Rattle.cs_refusal.specs.Told.{with_index}
+use Rattle.cs_refusal.proofs.Told.{told_more, whole_reply}
+use Rattle.cs_refusal.proofs.refused.write_refused.Goals as goal
 
 pub returns : goal.returns
 returns c =

@@ -7,16 +7,14 @@ ghost use Rattle.cs_parse.specs.Verdict.{reading_of};
 ghost use Rattle.cs_reply.specs.Fields.{pairs_with, number};
 ghost use Rattle.cs_txn.specs.View.{IsReadSo};
 ghost use Rattle.cs_machine.specs.Causes.{of_document, of_path};
-ghost use Rattle.cs_core.specs.Told.{IsOfReading, Says, IsWritten, with_index};
+ghost use Rattle.cs_refusal.specs.Told.{IsOfReading, Says, IsWritten, with_index};
 
+use cs_docs::MOST_DOCUMENTS;
 use cs_parse::ParseFault;
 use cs_reply::write_value;
 use cs_txn::{Refusal, Why, put_text};
 use cs_value::{Fields, NoMemory, Txt, Val};
 use std::alloc::Global;
-
-// The most documents that a store holds, as a reply tells it.
-const MOST_DOCUMENTS: u32 = 1_048_576;
 
 // Puts a number under the name.
 fn put_number(alloc: Global, reply: &mut Fields, name: &str, n: u32) -> Result<(), NoMemory>
@@ -152,7 +150,9 @@ fn cause(alloc: Global, why: &Why) -> Result<Fields, NoMemory>
         Why::DeepDocument => plain(alloc, "deep-document"),
         Why::NotDocuments => plain(alloc, "not-documents"),
         Why::Diff => with_text(alloc, "unsupported", "name", "diffMatchPatch"),
-        Why::FullDocuments => with_number(alloc, "full-documents", "limit", MOST_DOCUMENTS),
+        Why::FullDocuments => {
+            with_number(alloc, "full-documents", "limit", MOST_DOCUMENTS as u32)
+        },
         Why::Dangling { from, to } => with_texts(
             alloc,
             "dangling",
@@ -197,7 +197,7 @@ fn put_index(alloc: Global, reply: &mut Fields, index: Option<u32>) -> Result<()
 
 /// Appends the reply to the line of the number, whose transaction is refused. After `NoMemory`,
 /// which also comes where the refusal is want of memory, a part of it may have been appended.
-pub(crate) fn write_refused(
+pub fn write_refused(
     alloc: Global,
     refusal: &Refusal,
     line: u32,

@@ -1,0 +1,70 @@
+-- The names of live queries and listeners.
+use Rattle.std.proofs.Common.{◌≡◌, refl, sym, ap, ◌∙◌, ℕ, List, [], ◌∷◌, ◌++◌, Bool, true, false, ◌||◌}
+use Rattle.std.proofs.lemmas.Slice.Eq.{bytes_eq-Decides}
+use Rattle.cs_view.proofs.Booleans.{or-left, or-right}
+use Rattle.cs_live.specs.Fits.{HasRoom}
+use Rattle.cs_live.specs.Lives.{LiveQuery, has_live_name, is_named, made, without_name}
+use Rattle.cs_value.specs.Tree.{Tree, Pairs}
+use Rattle.cs_syntax.specs.Expression.{Expression}
+use Rattle.cs_reply.specs.Refusal.{name_used}
+use Rattle.cs_machine.specs.Fold.{Stepped}
+use Rattle.cs_machine.specs.Refused.{refuse}
+use Rattle.cs_machine.specs.Rows.{subscribing}
+use Rattle.cs_machine.specs.State.{State, is_taken, with_lives}
+use Rattle.cs_core.specs.Core.{seen}
+use Rattle.cs_listen.specs.Events.{Listener}
+use Rattle.cs_listen.specs.Listeners.{has_name, is_listening, without}
+
+-- where none has the name, none goes
+pub none_goes : (name : List ℕ) (es : List LiveQuery) → is_named name es ≡ false
+    → without_name name es ≡ es
+none_goes name [] h = refl
+none_goes name (e ∷ es) h =
+    rw (or-left (has_live_name name e) _ h)
+    (ap (λ l. e ∷ l) (none_goes name es (or-right (has_live_name name e) _ h)))
+
+-- the last goes, where it alone has the name
+pub last_goes : (name : List ℕ) (es : List LiveQuery) (e : LiveQuery) → is_named name es ≡ false
+    → has_live_name name e ≡ true
+    → without_name name (es ++ e ∷ []) ≡ es
+last_goes name [] e h has = rw has refl
+last_goes name (x ∷ xs) e h has =
+    rw (or-left (has_live_name name x) _ h)
+    (ap (λ l. x ∷ l) (last_goes name xs e (or-right (has_live_name name x) _ h) has))
+
+-- where no listener has the name, none goes
+pub none_leaves : (name : List ℕ) (ls : List Listener) → is_listening name ls ≡ false
+    → without name ls ≡ ls
+none_leaves name [] h = refl
+none_leaves name (l ∷ ls) h =
+    rw (or-left (has_name name l) _ h)
+    (ap (λ x. l ∷ x) (none_leaves name ls (or-right (has_name name l) _ h)))
+
+or-true : (b : Bool) → b || true ≡ true
+or-true true = refl
+or-true false = refl
+
+-- where a listener has the name, none other is made
+pub taken_by_listener : (s : State) (name text : List ℕ) (count : ℕ) (next : Stepped State)
+    → text ≡ name
+    → is_listening text s.listeners ≡ true
+    → subscribing s name count next ≡ refuse s (name_used text)
+taken_by_listener s name text count next same has =
+    let taken : is_taken text s ≡ true =
+    ap (λ b. is_named text s.lives || b) has ∙ or-true (is_named text s.lives) in
+    ap (λ n. subscribing s n count next) (sym same) ∙ rw taken refl
+
+-- a live query that was made last is taken back
+pub taken_back : (ds : List Tree) (moment : List ℕ) (is_used : List ℕ → Bool)
+    (ls : List Listener) (old new : List LiveQuery) (name text : List ℕ) (q : Expression)
+    (params : Pairs)
+    → new ≡ old ++ made ds name q params ∷ []
+    → HasRoom name old
+    → text ≡ name
+    → with_lives (without_name text new) (seen ds moment is_used new ls)
+    ≡ seen ds moment is_used old ls
+taken_back ds moment is_used ls old new name text q params added room same =
+    ap (λ living. seen ds moment is_used living ls)
+    (ap (without_name text) added
+    ∙ ap (λ n. without_name n (old ++ made ds name q params ∷ [])) same
+    ∙ last_goes name old (made ds name q params) room.0 ((bytes_eq-Decides name name).1 refl))

@@ -1,0 +1,121 @@
+//! The row of `live`: a query whose answer is told anew where a transaction changes it.
+ghost use Rattle.std.specs.Prelude.{◌≡◌, ◌<◌, ◌^◌, IfOk, OnOk, OnErr, length};
+ghost use Rattle.cs_value.specs.View.{fields};
+ghost use Rattle.cs_syntax.specs.Queries.{query as expression_of};
+ghost use Rattle.cs_live.specs.Entries.{said};
+ghost use Rattle.cs_live.specs.Lives.{made, without_name};
+ghost use Rattle.cs_reply.specs.Reply.{reply_tree};
+ghost use Rattle.cs_reply.specs.View.{Appended};
+ghost use Rattle.cs_machine.specs.Rows.{row_live, subscribing, lively, live_reply};
+ghost use Rattle.cs_machine.specs.State.{with_lives};
+ghost use Rattle.cs_core.specs.Core.{state, IsUsable};
+ghost use Rattle.cs_core.specs.Does.{Does, IsKept};
+
+use crate::machine::{Core, ONE_ANSWER};
+use cs_gen::Tally;
+use cs_json::Node;
+use cs_live::{LiveFault, LiveLine, MOST_LIVES};
+use cs_parse::parse;
+use cs_refusal::no_query;
+use cs_reply::{Refusal, Reply};
+use cs_syntax::Query;
+use cs_value::{Fields, NoMemory, Steps, Txt};
+use std::alloc::Global;
+use std::sync::ledger::Ledger;
+
+// The answer of a live query.
+pub(crate) fn write_answer(
+    alloc: Global,
+    answer: &LiveLine,
+    line: u32,
+    out: &mut Vec<u8>,
+) -> Result<(), NoMemory>
+    ensures { OnOk result (Appended out.old.items out.new.items (reply_tree line
+        (live_reply (said answer.now)))) }
+{
+    let name = answer.name.as_str();
+    let node = Node::Value(&answer.answer);
+    Reply::Live { name, answer: node }.write(alloc, line, out)
+}
+
+impl Core {
+    // A live query, where the text is a query.
+    pub(crate) fn live<L: Ledger>(
+        &mut self,
+        name: Txt,
+        text: &str,
+        params: Fields,
+        line: u32,
+        steps: &mut Steps<L>,
+        out: &mut Vec<u8>,
+    ) -> Result<Tally, NoMemory>
+        requires short { length text.now < 2 ^ 32 }
+        requires usable { IsUsable self.old }
+        ensures does { IfOk result (λ tally. Does out.old.items out.new.items tally self.new line
+            (row_live (state self.old) name text.now (fields params))) }
+        ensures kept { OnErr result (IsKept self.old self.new) }
+    {
+        match parse(self.alloc, text) {
+            Ok(query) => self.subscribe(name, query, params, line, steps, out),
+            Err(fault) => match no_query(&fault) {
+                Some(why) => self.refuse(why, line, out),
+                None => Err(NoMemory),
+            },
+        }
+    }
+
+    // A live query, where no listener has its name.
+    fn subscribe<L: Ledger>(
+        &mut self,
+        name: Txt,
+        query: Query,
+        params: Fields,
+        line: u32,
+        steps: &mut Steps<L>,
+        out: &mut Vec<u8>,
+    ) -> Result<Tally, NoMemory>
+        requires usable { IsUsable self.old }
+        ensures does { IfOk result (λ tally. Does out.old.items out.new.items tally self.new line
+            (subscribing (state self.old) name (length (state self.old).lives)
+            (lively (state self.old) (made (state self.old).docs name (expression_of query)
+            (fields params))))) }
+        ensures kept { OnErr result (IsKept self.old self.new) }
+    {
+        if self.listeners.has(name.as_str()) {
+            let name = name.as_str();
+            return self.refuse(Refusal::NameUsed { name }, line, out);
+        }
+        let named = Txt::copy_of(self.alloc, name.as_str())?;
+        match self.live.add(name, query, params, &self.docs, steps) {
+            Ok(first) => match write_answer(self.alloc, &first, line, out) {
+                Ok(()) => Ok(ONE_ANSWER),
+                Err(NoMemory) => {
+                    self.forget_live(named.as_str());
+                    Err(NoMemory)
+                }
+            },
+            Err(LiveFault::NameUsed) => {
+                let name = named.as_str();
+                self.refuse(Refusal::NameUsed { name }, line, out)
+            }
+            Err(LiveFault::Full) => {
+                let limit = MOST_LIVES;
+                self.refuse(Refusal::FullSubscriptions { limit }, line, out)
+            }
+            Err(LiveFault::NoMemory) => Err(NoMemory),
+        }
+    }
+
+    // The live query of the name stands no more, where one does.
+    pub(crate) fn forget_live(&mut self, name: &str)
+        requires usable { IsUsable self.old }
+        ensures state { state self.new ≡ with_lives (without_name name.now (state self.old).lives)
+            (state self.old) }
+        ensures usable { IsUsable self.new }
+    {
+        match self.live.remove(name) {
+            Ok(()) => {}
+            Err(_none) => {}
+        }
+    }
+}
