@@ -1,11 +1,14 @@
 -- The machine over one line more.
-use Rattle.std.proofs.Common.{◌≡◌, ◌∙◌, ap, sym, refl, ℕ, zero, suc, List, [], ◌∷◌, ◌++◌, take, drop, length, ◌+◌, ◌≤◌, append_assoc, arith}
-use Rattle.std.proofs.lemmas.List.{append-nil}
+use Rattle.std.proofs.Common.{◌≡◌, ◌∙◌, ap, sym, refl, ℕ, zero, suc, List, [], ◌∷◌, ◌++◌, take, drop, length, ◌+◌, ◌≤◌, append_assoc, map, arith}
+use Rattle.std.proofs.lemmas.List.{append-nil, map-append}
 use Rattle.std.proofs.lemmas.Grind.{flat_map-append}
-use Rattle.cs_machine.specs.Replies.{reply_line, reply_lines, numbered}
+use Rattle.cs_reply.specs.Reply as plain
+use Rattle.cs_machine.specs.Replies.{Reply, reply_line, reply_lines, numbered}
 use Rattle.cs_machine.specs.Fold.{Step, replies}
 use Rattle.cs_machine.specs.Fold as fold
-use Rattle.cs_core.specs.Built.{step, step_writes, step_state, state_after, written}
+use Rattle.cs_machine.specs.Expected.{counted}
+use Rattle.cs_machine.specs.Machine.{step, state_after, written}
+use Rattle.cs_core.specs.Does.{step_writes, step_state, step_replies}
 use Rattle.cs_machine.specs.State.{State}
 
 -- the list after k elements begins with x
@@ -56,3 +59,19 @@ pub written_push : (s : State) (n : ℕ) (lines : List (List ℕ)) (line : List 
 written_push s n lines line =
     let last = numbered (n + length lines) (step (state_after s n lines) (n + length lines) line).replies in
     written_append s n lines (line ∷ []) ∙ ap (λ v. written s n lines ++ reply_lines v) (append-nil last)
+
+-- the replies to lines, as they are counted
+abbrev pub counted_replies : State → ℕ → List (List ℕ) → List plain.Reply
+counted_replies s n lines = map (λ r. counted r.1) (replies step s n lines)
+
+counted_numbered : (n : ℕ) (rs : List Reply) → map (λ r. counted r.1) (numbered n rs) ≡ map counted rs
+counted_numbered n [] = refl
+counted_numbered n (r ∷ rs) = ap (λ v. counted r ∷ v) (counted_numbered n rs)
+
+pub counted_push : (s : State) (n : ℕ) (lines : List (List ℕ)) (line : List ℕ) → counted_replies s n (lines ++ line ∷ []) ≡ counted_replies s n lines ++ step_replies (state_after s n lines) (n + length lines) line
+counted_push s n lines line =
+    let k = n + length lines in
+    let last = (step (state_after s n lines) k line).replies in
+    ap (map (λ r. counted r.1)) (replies_append step s n lines (line ∷ []) ∙ ap (λ v. replies step s n lines ++ v) (append-nil (numbered k last)))
+    ∙ map-append (λ r. counted r.1) (replies step s n lines) (numbered k last)
+    ∙ ap (λ v. counted_replies s n lines ++ v) (counted_numbered k last)

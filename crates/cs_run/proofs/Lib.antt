@@ -1,4 +1,4 @@
 mod Folding
+mod Generating
 mod Headlines
 mod Playing
-mod Wording

@@ -11,7 +11,8 @@ use Rattle.cs_io.specs.declared.lines.LineFault.{LineFault}
 use Rattle.cs_io.specs.declared.lines.LineFault.TheVariants.{Read, TooLong, TooMuch}
 use Rattle.cs_io.specs.Laws.{given_lines}
 use Rattle.std.specs.Io.KnownBytes.{Keeps}
-use Rattle.cs_core.specs.Built.{written, state_after, step_state, step_writes}
+use Rattle.cs_machine.specs.Machine.{written, state_after}
+use Rattle.cs_core.specs.Does.{step_state, step_writes}
 use Rattle.cs_machine.specs.State.{State}
 use Rattle.cs_machine.specs.Expected.{bad_input, feed_ends, last_line, script_ends}
 use Rattle.cs_run.specs.Expected.{script_writes, first_replies}

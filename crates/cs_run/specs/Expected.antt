@@ -1,4 +1,4 @@
--- What a script has the program write so far, and how a run ends: this project's profile.
+-- What a script has the program write, and how a run ends: this project's profile.
 use Rattle.std.specs.Prelude.{◌≡◌, ℕ, ◌≤◌, List, length, take, Option}
 use Rattle.std.specs.Io.KnownBytes.{Appends}
 use Rattle.cs_io.specs.Causes.{Rose}
@@ -8,11 +8,11 @@ use Rattle.cs_reply.specs.Stated.{Stop}
 use Rattle.cs_machine.specs.Expected.{Ending, done, bad_usage, bad_data, bad_input, stop_ends}
 use Rattle.cs_machine.specs.Expected as machine
 use Rattle.cs_machine.specs.State.{State}
-use Rattle.cs_core.specs.Built.{step, written}
+use Rattle.cs_machine.specs.Machine.{step, written}
 use Rattle.cs_run.specs.declared.status.Status.{Status}
 use Rattle.cs_run.specs.declared.status.Status.TheVariants.{Done, Usage, ReadFault, Data, Input, WriteFault, OpenFault}
 
--- what a script has the machine write from a state, as far as it is built
+-- what a script has the machine write from a state
 abbrev pub script_writes : State → List ℕ → List ℕ
 script_writes = machine.script_writes step
 

@@ -1,4 +1,5 @@
--- What a run writes so far, from its words and the files: this project's profile.
+-- What a run writes, how it ends and what it asks for, by its words and the bytes of the files:
+-- this project's profile.
 use Rattle.std.specs.Prelude.{◌≡◌, ◌⊎◌, ℕ, ◌-◌, cond, ◌==◌, List, [], ◌∷◌, map, length, take, drop, Option, None, Some, ⊤, MatchOption}
 use Rattle.std.specs.Io.KnownBytes.{Appends}
 use Rattle.cs_io.specs.Bytes.{AppendsPartOf}
@@ -6,30 +7,39 @@ use Rattle.cs_io.specs.Causes.{Rose}
 use Rattle.cs_io.specs.Lines.{whole_lines}
 use Rattle.cs_io.specs.Names.{Files, file_bytes}
 use Rattle.cs_io.specs.declared.library.Asked.{Asked}
-use Rattle.cs_machine.specs.Expected.{Task, no_task, play, expected_by, expected_end, usage_line, Start, begins, stops, start_with}
-use Rattle.cs_core.specs.Built.{step, written}
+use Rattle.cs_gen.specs.Generated.{generated}
+use Rattle.cs_machine.specs.Expected.{Task, no_task, play, generate, expected, expected_end, summary_of, usage_line, Start, begins, stops, start_with}
+use Rattle.cs_machine.specs.Machine.{step, written}
+use Rattle.cs_args.specs.Words.{takes_words, data_of, script_of, gen_of}
 use Rattle.cs_run.specs.Expected.{status_of, WroteReplies}
-use Rattle.cs_run.specs.Words.{takes_words, data_of, script_of, names_of}
 use Rattle.cs_run.specs.declared.status.Status.{Status}
 use Rattle.cs_run.specs.declared.status.Status.TheVariants.{Done, ReadFault, Usage, Data, Input, WriteFault, NoMemory, OpenFault}
 
+-- ---- what is asked for
+-- words that are taken ask for a generated script, or for one to be played
+abbrev pub asked_by : Option ℕ → List (List ℕ) → Task
+asked_by (Some documents) words = generate documents
+asked_by None words = play (data_of words) (script_of words)
+
 -- what the words ask for
 abbrev pub task_of : List (List ℕ) → Task
-task_of words = cond (takes_words words) (play (data_of words) (script_of words)) no_task
+task_of words = cond (takes_words words) (asked_by (gen_of words) words) no_task
 
--- what the run of the machine is to write, as far as it is built, and its status
-abbrev pub expected : List (List ℕ) → Files → List ℕ
-expected words files = expected_by step (task_of words) files
+-- how a run ends where nothing of the outside fails and memory is ample
+abbrev pub expected_status : Task → Files → Status
+expected_status task files = status_of (expected_end task files)
 
-abbrev pub expected_status : List (List ℕ) → Files → Status
-expected_status words files = status_of (expected_end (task_of words) files)
+-- ---- the names
+abbrev pub and_then_name : Option (List ℕ) → List ℕ → List (List ℕ)
+and_then_name None script = script ∷ []
+and_then_name (Some name) script = name ∷ script ∷ []
 
--- where a run begins whose words are taken, and the script that it plays
-abbrev pub start : List (List ℕ) → Files → Start
-start words files = start_with (data_of words) files
-
-abbrev pub script : List (List ℕ) → Files → List ℕ
-script words files = file_bytes files (script_of words)
+-- the names that a task asks for: where a script is played, the data file's, where one is given,
+-- and then the script's
+abbrev pub names_of : Task → List (List ℕ)
+names_of no_task = []
+names_of (play name script) = and_then_name name script
+names_of (generate documents) = []
 
 -- what a list got
 abbrev pub added : {X : Type 0} → List X → List X → List X
@@ -49,6 +59,7 @@ last_number (a ∷ b ∷ rest) = last_number (b ∷ rest)
 abbrev pub script_number : List (List ℕ) → List Asked → Option ℕ
 script_number names asked = cond (length asked == length names) (last_number asked) None
 
+-- ---- what is written of a script that is played
 -- nothing is left under the number
 abbrev pub IsEmptied : (ℕ → Option (List ℕ)) → Option ℕ → Type 0
 IsEmptied left number = MatchOption number ⊥ (λ n. left n ≡ Some [])
@@ -74,32 +85,60 @@ abbrev pub WritesLines : Start → Option (List ℕ) → Option (List ℕ) → L
 WritesLines (begins s) old new bytes = Appends old new [] ⊎ WroteReplies s old new bytes
 WritesLines (stops stop) old new bytes = Appends old new []
 
+-- ---- by what is asked for
+-- the script that was played was read to its end
+abbrev pub IsReadWhole : Task → List Asked → (ℕ → Option (List ℕ)) → Type 0
+IsReadWhole no_task asked left = ⊤
+IsReadWhole (play name script) asked left =
+    IsEmptied left (script_number (and_then_name name script) asked)
+IsReadWhole (generate documents) asked left = ⊤
+
+-- what was written when a read failed, which none does but where a script is played
+abbrev pub WritesReadSoFar : Task → Option (List ℕ) → Option (List ℕ) → Files → List Asked
+    → (ℕ → Option (List ℕ)) → Type 0
+WritesReadSoFar no_task old new files asked left = ⊥
+WritesReadSoFar (play name script) old new files asked left =
+    WritesSoFar (script_number (and_then_name name script) asked) left (start_with name files)
+    (file_bytes files script) old new
+WritesReadSoFar (generate documents) old new files asked left = ⊥
+
+-- the same when an open failed
+abbrev pub WritesUnopened : Task → Option (List ℕ) → Option (List ℕ) → Type 0
+WritesUnopened no_task old new = ⊥
+WritesUnopened (play name script) old new = Appends old new []
+WritesUnopened (generate documents) old new = ⊥
+
+-- what was written when memory was short: nothing, but where a script is played
+abbrev pub WritesShort : Task → Option (List ℕ) → Option (List ℕ) → Files → Type 0
+WritesShort no_task old new files = Appends old new []
+WritesShort (play name script) old new files =
+    WritesLines (start_with name files) old new (file_bytes files script)
+WritesShort (generate documents) old new files = Appends old new []
+
+-- ---- the headline
 -- what was written, by how the run ended
-abbrev pub RunWrites : Status → List (List ℕ) → Option (List ℕ) → Option (List ℕ) → Files
-    → List Asked → (ℕ → Option (List ℕ)) → Type 0
-RunWrites Done words old new files asked left = (expected_status words files ≡ Done)
-    × Appends old new (expected words files) × IsEmptied left (script_number (names_of words) asked)
-RunWrites Usage words old new files asked left = (expected_status words files ≡ Usage)
-    × Appends old new (expected words files)
-RunWrites Data words old new files asked left = (expected_status words files ≡ Data)
-    × Appends old new (expected words files)
-RunWrites Input words old new files asked left = (expected_status words files ≡ Input)
-    × Appends old new (expected words files)
-RunWrites ReadFault words old new files asked left =
-    WritesSoFar (script_number (names_of words) asked) left (start words files)
-    (script words files) old new
-RunWrites OpenFault words old new files asked left = Appends old new []
-RunWrites WriteFault words old new files asked left = AppendsPartOf old new (expected words files)
-RunWrites NoMemory words old new files asked left = AppendsPartOf old new (expected words files)
-    × cond (takes_words words) (WritesLines (start words files) old new (script words files))
-    (Appends old new [])
+abbrev pub RunWrites : Status → Task → Option (List ℕ) → Option (List ℕ) → Files → List Asked
+    → (ℕ → Option (List ℕ)) → Type 0
+RunWrites Done task old new files asked left = (expected_status task files ≡ Done)
+    × Appends old new (expected task files) × IsReadWhole task asked left
+RunWrites Usage task old new files asked left = (expected_status task files ≡ Usage)
+    × Appends old new (expected task files)
+RunWrites Data task old new files asked left = (expected_status task files ≡ Data)
+    × Appends old new (expected task files)
+RunWrites Input task old new files asked left = (expected_status task files ≡ Input)
+    × Appends old new (expected task files)
+RunWrites ReadFault task old new files asked left = WritesReadSoFar task old new files asked left
+RunWrites OpenFault task old new files asked left = WritesUnopened task old new
+RunWrites WriteFault task old new files asked left = AppendsPartOf old new (expected task files)
+RunWrites NoMemory task old new files asked left = AppendsPartOf old new (expected task files)
+    × WritesShort task old new files
 
 -- the same, where the library tells its bytes
-abbrev pub ToldRun : Status → List (List ℕ) → Option (List ℕ) → Option (List ℕ) → Option Files
-    → List Asked → (ℕ → Option (List ℕ)) → Type 0
-ToldRun status words old new None asked left = ⊤
-ToldRun status words old new (Some files) asked left =
-    RunWrites status words old new files asked left
+abbrev pub ToldRun : Status → Task → Option (List ℕ) → Option (List ℕ) → Option Files → List Asked
+    → (ℕ → Option (List ℕ)) → Type 0
+ToldRun status task old new None asked left = ⊤
+ToldRun status task old new (Some files) asked left =
+    RunWrites status task old new files asked left
 
 -- how a run ends whose words are refused, and what it writes, whether or not the library tells its
 -- bytes
@@ -113,10 +152,25 @@ RefusedWrites Input old new = ⊥
 RefusedWrites ReadFault old new = ⊥
 RefusedWrites OpenFault old new = ⊥
 
+-- the summary of the generated script of so many documents
+abbrev pub summary : ℕ → List ℕ
+summary documents = summary_of step (generated documents)
+
+-- how a run over such a script ends, and what it writes, whether or not the library tells its bytes
+abbrev pub GeneratedWrites : ℕ → Status → Option (List ℕ) → Option (List ℕ) → Type 0
+GeneratedWrites documents Done old new = Appends old new (summary documents)
+GeneratedWrites documents WriteFault old new = AppendsPartOf old new (summary documents)
+GeneratedWrites documents NoMemory old new = Appends old new []
+GeneratedWrites documents Usage old new = ⊥
+GeneratedWrites documents Data old new = ⊥
+GeneratedWrites documents Input old new = ⊥
+GeneratedWrites documents ReadFault old new = ⊥
+GeneratedWrites documents OpenFault old new = ⊥
+
 -- where nothing of the outside failed in the call, the run ends as it should, or for want of memory
-abbrev pub IsComplete : Status → List (List ℕ) → Option Files
+abbrev pub IsComplete : Status → Task → Option Files
     → (opens opens' reads reads' writes writes' : ℕ) → Type 0
-IsComplete status words None opens opens' reads reads' writes writes' = ⊤
-IsComplete status words (Some files) opens opens' reads reads' writes writes' =
+IsComplete status task None opens opens' reads reads' writes writes' = ⊤
+IsComplete status task (Some files) opens opens' reads reads' writes writes' =
     (Rose opens opens' → ⊥) → (Rose reads reads' → ⊥) → (Rose writes writes' → ⊥)
-    → (status ≡ expected_status words files) ⊎ (status ≡ NoMemory)
+    → (status ≡ expected_status task files) ⊎ (status ≡ NoMemory)

@@ -1,4 +1,3 @@
 pub mod Expected
 pub mod Headline
 pub mod Script
-pub mod Words

@@ -14,7 +14,7 @@ use Rattle.cs_machine.specs.Expected.{done, bad_input, Start, begins, stops, sta
 use Rattle.cs_run.specs.Expected.{script_writes, stop_status, WroteReplies}
 use Rattle.cs_run.specs.Headline.{taken_of}
 use Rattle.cs_load.specs.Loading.{AsksFor, stop_of}
-use Rattle.cs_core.specs.Built.{written}
+use Rattle.cs_machine.specs.Machine.{written}
 use Rattle.cs_machine.specs.State.{State, begun}
 use Rattle.cs_load.specs.declared.fault.LoadFault.{LoadFault}
 use Rattle.cs_load.specs.declared.fault.LoadFault.TheVariants as fault

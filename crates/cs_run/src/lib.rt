@@ -1,9 +1,9 @@
 //! The top call: the words of a command line, the data file, and the lines of a script.
 #![tactic(auto)]
 
+mod generate;
 mod status;
 mod top;
-mod words;
 
 pub use cs_core::{Core, CoreFault, Replies};
 pub use cs_docs::Docs;

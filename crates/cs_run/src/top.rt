@@ -1,5 +1,6 @@
-//! The top call: the words, the data file, and the lines of the script.
-ghost use Rattle.std.specs.Prelude.{◌≡◌, ◌≢◌, ◌≤◌, OnOk, IfOk, IfErr, length, true, false, Option, option_map};
+//! The top call: the words, and then the data file and the lines of the script, or a generated
+//! script.
+ghost use Rattle.std.specs.Prelude.{◌≡◌, ◌≢◌, ◌≤◌, ℕ, OnOk, IfOk, IfErr, length, true, false, Option, option_map};
 ghost use Rattle.std.specs.Io.KnownBytes.{Appends};
 ghost use Rattle.cs_docs.specs.Store.{docs as docs_of};
 ghost use Rattle.cs_io.specs.Causes.{Rose};
@@ -7,17 +8,19 @@ ghost use Rattle.cs_io.specs.Lines.{longest_line};
 ghost use Rattle.cs_io.specs.Names.{is_open};
 ghost use Rattle.cs_reply.specs.Stated.{stated_line};
 ghost use Rattle.cs_reply.specs.View.{stop as stop_seen, cause as cause_seen};
-ghost use Rattle.cs_core.specs.Core.{state};
+ghost use Rattle.cs_core.specs.Core.{state, IsSound};
+ghost use Rattle.cs_core.specs.Does.{step_writes, step_state};
 ghost use Rattle.cs_run.specs.Expected.{Causes, stop_status};
-ghost use Rattle.cs_run.specs.Headline.{ToldRun, Asks, RefusedWrites, IsComplete, added};
+ghost use Rattle.cs_run.specs.Headline.{ToldRun, Asks, RefusedWrites, GeneratedWrites, IsComplete, added, names_of, task_of};
 ghost use Rattle.cs_load.specs.Loading.{LoadHasCause, cause_of, stop_of};
-ghost use Rattle.cs_core.specs.Built.{step_writes, step_state};
 ghost use Rattle.cs_run.specs.Script.{Stated, States, LineStops, ToldWrites, ToldStarts, AsksNamed, DataEnds};
+ghost use Rattle.cs_machine.specs.Expected.{play, generate};
 ghost use Rattle.cs_machine.specs.State.{begun};
-ghost use Rattle.cs_run.specs.Words.{takes_words, names_of};
+ghost use Rattle.cs_args.specs.Words.{takes_words, most_generated};
 
+use crate::generate::summarize;
 use crate::status::Status;
-use crate::words::{WordsFault, read_words};
+use cs_args::{Task, WordsFault, read_words};
 use cs_core::Core;
 use cs_docs::Docs;
 use cs_io::{Library, Line, LineFault, Lines, Sink, write_whole};
@@ -63,7 +66,8 @@ fn end_stopped<K: Sink>(alloc: Global, sink: &mut K, stop: &Stop<'_>) -> Status
         (stated_line (stop_seen stop.now)) (K.taken sink.old) (K.taken sink.new) }
     ensures later { K.faults sink.old ≤ K.faults sink.new }
     ensures cause { result ≡ Status.WriteFault → Rose (K.faults sink.old) (K.faults sink.new) }
-    ensures ends { (result ≢ Status.OpenFault) × (result ≢ Status.ReadFault) × (result ≢ Status.Usage) }
+    ensures ends { (result ≢ Status.OpenFault) × (result ≢ Status.ReadFault)
+        × (result ≢ Status.Usage) }
 {
     match stop.line(alloc) {
         Ok(line) => answer(sink, line.as_slice(), stop_status(stop)),
@@ -78,11 +82,13 @@ fn run_line<K: Sink, L: Ledger>(
     sink: &mut K,
     steps: &mut Steps<L>,
 ) -> Result<(), Status>
-    requires { length line.now.bytes.items ≤ longest_line }
+    requires short { length line.now.bytes.items ≤ longest_line }
+    requires sound { IsSound core.old }
     ensures writes { OnOk result (Appends (K.taken sink.old) (K.taken sink.new)
         (step_writes (state core.old) line.now.number line.now.bytes.items)) }
     ensures state { OnOk result (state core.new ≡ step_state (state core.old) line.now.number
         line.now.bytes.items) }
+    ensures sound { IsSound core.new }
     ensures stops { IfErr result (λ status. LineStops status (K.taken sink.old) (K.taken sink.new)
         (step_writes (state core.old) line.now.number line.now.bytes.items)) }
     ensures later { K.faults sink.old ≤ K.faults sink.new }
@@ -224,41 +230,26 @@ fn run_script<Lb: Library, K: Sink, L: Ledger>(
     }
 }
 
-/// Runs the program: the words of its command line, of which the first is the program's name, over
-/// the library's files, with what is due written to the sink. `steps` counts the visits of
-/// documents.
-///
-/// The words are `--data NAME` and `--script NAME`, each at most once; the script's name is `-`
-/// where none is given. The data file is loaded before the script is opened, and each line of the
-/// script is read, run and answered before the next one is asked for. [`Status`] says how the run
-/// ended and what was written.
-pub fn run<Lb: Library, K: Sink, L: Ledger>(
+// Plays the script of a name, over the data file of a name where one is given.
+fn play_files<Lb: Library, K: Sink, L: Ledger>(
     alloc: Global,
-    words: &[Txt],
+    file: Option<&str>,
+    script: &str,
     library: &mut Lb,
     sink: &mut K,
     steps: &mut Steps<L>,
 ) -> Status
-    ensures writes { ToldRun result words.now (K.taken sink.old) (K.taken sink.new)
-        (Lb.files library.old) (added (Lb.asked library.old) (Lb.asked library.new))
-        (Lb.left library.new) }
+    ensures writes { ToldRun result (play (option_map (λ n. n.now) file.entry) script.now)
+        (K.taken sink.old) (K.taken sink.new) (Lb.files library.old)
+        (added (Lb.asked library.old) (Lb.asked library.new)) (Lb.left library.new) }
     ensures causes { Causes result (Lb.open_faults library.old) (Lb.open_faults library.new)
         (Lb.read_faults library.old) (Lb.read_faults library.new) (K.faults sink.old)
         (K.faults sink.new) }
-    ensures names { Asks (Lb.asked library.old) (Lb.asked library.new) (names_of words.now) }
-    ensures usage { result ≡ Status.Usage → takes_words words.now ≡ false }
-    ensures refused { takes_words words.now ≡ false → RefusedWrites result (K.taken sink.old)
-        (K.taken sink.new) }
-    ensures completes { IsComplete result words.now (Lb.files library.old)
-        (Lb.open_faults library.old) (Lb.open_faults library.new) (Lb.read_faults library.old)
-        (Lb.read_faults library.new) (K.faults sink.old) (K.faults sink.new) }
+    ensures names { Asks (Lb.asked library.old) (Lb.asked library.new)
+        (names_of (play (option_map (λ n. n.now) file.entry) script.now)) }
+    ensures usage { result ≢ Status.Usage }
 {
-    let read = match read_words(alloc, words) {
-        Ok(read) => read,
-        Err(WordsFault::Refused) => return answer(sink, USAGE, Status::Usage),
-        Err(WordsFault::NoMemory) => return Status::NoMemory,
-    };
-    let docs = match load_named(alloc, library, read.data) {
+    let docs = match load_named(alloc, library, file) {
         Ok(docs) => docs,
         Err(fault) => {
             let status = refuse_data(alloc, sink, &fault);
@@ -266,8 +257,70 @@ pub fn run<Lb: Library, K: Sink, L: Ledger>(
             return status;
         }
     };
-    match library.open(read.script) {
+    match library.open(script) {
         Ok(number) => run_script(alloc, number, docs, library, sink, steps),
         Err(_) => Status::OpenFault,
+    }
+}
+
+// Plays the generated script of so many documents, and writes the summary alone.
+fn sum_up<K: Sink, L: Ledger>(
+    alloc: Global,
+    documents: u32,
+    sink: &mut K,
+    steps: &mut Steps<L>,
+) -> Status
+    requires few { documents ≤ most_generated }
+    ensures writes { GeneratedWrites documents result (K.taken sink.old) (K.taken sink.new) }
+    ensures later { K.faults sink.old ≤ K.faults sink.new }
+    ensures cause { result ≡ Status.WriteFault → Rose (K.faults sink.old) (K.faults sink.new) }
+{
+    match summarize(alloc, documents, steps) {
+        Ok(line) => answer(sink, line.as_slice(), Status::Done),
+        Err(_) => Status::NoMemory,
+    }
+}
+
+/// Runs the program: the words of its command line, of which the first is the program's name, over
+/// the library's files, with what is due written to the sink. `steps` counts the visits of
+/// documents.
+///
+/// The words are `--data NAME`, `--script NAME` and `--gen N`, each at most once; the script's name
+/// is `-` where none is given. The data file is loaded before the script is opened, and each line
+/// of the script is read, run and answered before the next one is asked for. With `--gen`, a whole
+/// number from 0 to 100,000, no name is asked for: the generated script of so many documents is
+/// played, and its summary written in the place of its replies. [`Status`] says how the run ended
+/// and what was written.
+pub fn run<Lb: Library, K: Sink, L: Ledger>(
+    alloc: Global,
+    words: &[Txt],
+    library: &mut Lb,
+    sink: &mut K,
+    steps: &mut Steps<L>,
+) -> Status
+    ensures writes { ToldRun result (task_of words.now) (K.taken sink.old) (K.taken sink.new)
+        (Lb.files library.old) (added (Lb.asked library.old) (Lb.asked library.new))
+        (Lb.left library.new) }
+    ensures causes { Causes result (Lb.open_faults library.old) (Lb.open_faults library.new)
+        (Lb.read_faults library.old) (Lb.read_faults library.new) (K.faults sink.old)
+        (K.faults sink.new) }
+    ensures names { Asks (Lb.asked library.old) (Lb.asked library.new)
+        (names_of (task_of words.now)) }
+    ensures usage { result ≡ Status.Usage → takes_words words.now ≡ false }
+    ensures refused { takes_words words.now ≡ false → RefusedWrites result (K.taken sink.old)
+        (K.taken sink.new) }
+    ensures generated { (n : ℕ) → task_of words.now ≡ generate n → GeneratedWrites n result
+        (K.taken sink.old) (K.taken sink.new) }
+    ensures completes { IsComplete result (task_of words.now) (Lb.files library.old)
+        (Lb.open_faults library.old) (Lb.open_faults library.new) (Lb.read_faults library.old)
+        (Lb.read_faults library.new) (K.faults sink.old) (K.faults sink.new) }
+{
+    match read_words(alloc, words) {
+        Ok(Task::Play { data: file, script }) => play_files(
+            alloc, file, script, library, sink, steps,
+        ),
+        Ok(Task::Generate { documents }) => sum_up(alloc, documents, sink, steps),
+        Err(WordsFault::Refused) => answer(sink, USAGE, Status::Usage),
+        Err(WordsFault::NoMemory) => Status::NoMemory,
     }
 }

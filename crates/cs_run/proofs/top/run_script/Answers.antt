@@ -11,11 +11,12 @@ pub turns-init : goal.turns-init
 turns-init g c = record {
   opened = c.requires;
   in_step = grind arith;
+  sound = λ _. c.in-Ok.ensures.usable.fitting;
   which = grind arith;
   within = grind arith;
   writes_later = grind arith;
   calls = search rules;
-  played = λ script told. rw told (begins (begun (docs c.args.docs)) script (g.K.Sink.taken c.args.sink.now) (state c.in-Ok.core) c.new-lines.result c.in-Ok.ensures (grind arith) (grind arith) (grind arith));
+  played = λ script told. rw told (begins (begun (docs c.args.docs)) script (g.K.Sink.taken c.args.sink.now) (state c.in-Ok.core) c.new-lines.result c.in-Ok.ensures.begun (grind arith) (grind arith) (grind arith));
 }
 
 pub returns-in-Err-clause-writes : goal.returns-in-Err-clause-writes
@@ -35,6 +36,7 @@ turns-preserved g c =
     record {
       opened = rw c.next.ensures.calls.same_asked c.turns.invariant.opened;
       in_step = grind arith;
+      sound = c.run_line.ensures.sound;
       which = grind arith;
       within = omega (arith, next.given, next.within);
       writes_later = omega (arith, c.turns.invariant.writes_later, c.run_line.ensures.later);

@@ -2,7 +2,7 @@ use Rattle.std.proofs.Common.{◌≡◌, ◌≤◌, ◌-◌, List, ℕ, Some, tr
 use Rattle.cs_io.specs.Lines.{largest_source}
 use Rattle.cs_io.specs.Names.{is_open}
 use Rattle.cs_io.specs.Reader.{OnlyReads, InStep}
-use Rattle.cs_core.specs.Core.{state}
+use Rattle.cs_core.specs.Core.{state, IsSound}
 use Rattle.cs_machine.specs.State.{begun}
 use Rattle.cs_docs.specs.Store.{docs}
 use Rattle.cs_run.proofs.Playing.{Played}
@@ -12,6 +12,7 @@ abbrev pub invariant-turns : goal.invariant-turns
 invariant-turns g l = record {
   opened : is_open (g.Lb.Library.asked l.library) l.number ≡ true;
   in_step : InStep l.lines (g.Lb.Library.left l.library l.number);
+  sound : IsSound l.core;
   which : l.lines.which ≡ l.number;
   within : l.lines.given ≤ largest_source;
   writes_later : g.K.Sink.faults l.initial.sink ≤ g.K.Sink.faults l.sink;
