@@ -1,3 +1,4 @@
+mod Keyed
 mod Named
 mod News
 mod Places

@@ -22,6 +22,7 @@ use Rattle.cs_plan.specs.Simple.{is_simple}
 use Rattle.cs_live.specs.Lives.{is_stale}
 use Rattle.cs_live.specs.Entries.{live_query, last_of}
 use Rattle.cs_live.specs.Fits.{FitsRecord, FitsRows, Refreshes, RefreshesKept}
+use Rattle.cs_live.specs.Keys.{keys_of}
 use Rattle.cs_live.specs.Rows.{rows, is_row, IsAnswered, AsksTheSame}
 use Rattle.cs_live.specs.declared.recorded.Recorded.{Recorded}
 use Rattle.cs_live.specs.declared.entry.Kept.TheVariants.{ByRecord, InRows}
@@ -31,10 +32,10 @@ use Rattle.cs_live.specs.declared.entry.Entry.{Entry}
 -- a record that no change touches fits the dataset after the changes as it fitted the one before
 still_fits : LookedSettlesValue → UntouchedSelectsTheSame → ChangesLeadBackAndOn
     → (docs : List Tree) (cs : List Edit) → ascending docs ≡ true → are_changes cs ≡ true → LeadTo docs cs
-    → (r : Recorded) → touched r.record cs ≡ false → FitsRecord (Before docs cs) r → FitsRecord docs r
+    → (r : Recorded) → touched (keys_of r.keys) cs ≡ false → FitsRecord (Before docs cs) r → FitsRecord docs r
 still_fits settles untouched back docs cs h changes leads r quiet fits =
     let on = back docs cs h changes leads in
-    let stays : (k : Key) → Contains r.record k → Sel k (Before docs cs) ≡ Sel k docs = λ k at. untouched docs cs h changes r.record quiet k at ∙ ap (Sel k) on.0 in
+    let stays : (k : Key) → Contains (keys_of r.keys) k → Sel k (Before docs cs) ≡ Sel k docs = λ k at. untouched docs cs h changes (keys_of r.keys) quiet k at ∙ ap (Sel k) on.0 in
     let settled = settles (query r.query) (fields r.params) (null ∷ []) (Before docs cs) docs (λ k at. stays k (fits.keys.back k at)) in
     record {
       last = fits.last ∙ settled.0;
@@ -46,7 +47,7 @@ still_fits settles untouched back docs cs h changes leads r quiet fits =
 
 pub untouched-refreshed : LookedSettlesValue → UntouchedSelectsTheSame → ChangesLeadBackAndOn
     → (docs : List Tree) (cs : List Edit) → ascending docs ≡ true → are_changes cs ≡ true → LeadTo docs cs
-    → (r : Recorded) → touched r.record cs ≡ false → FitsRecord (Before docs cs) r → RefreshesKept docs cs (ByRecord r) (ByRecord r)
+    → (r : Recorded) → touched (keys_of r.keys) cs ≡ false → FitsRecord (Before docs cs) r → RefreshesKept docs cs (ByRecord r) (ByRecord r)
 untouched-refreshed settles untouched back docs cs h changes leads r quiet fits =
     let now = still_fits settles untouched back docs cs h changes leads r quiet fits in
     record { answers = record { query = refl; params = refl; last = now.last; fits = now }; records = λ _. refl }

@@ -13,6 +13,7 @@ use Rattle.cs_plan.specs.Simple.{is_simple}
 use Rattle.cs_meaning.specs.Hits.{hits}
 use Rattle.cs_meaning.specs.Looked.{query_looked}
 use Rattle.cs_meaning.specs.Values.{query_value}
+use Rattle.cs_live.specs.Keys.{keys_of}
 use Rattle.cs_live.specs.Rows.{rows as rows_of, IsAnswered}
 use Rattle.cs_live.specs.Lives.{LiveQuery, refreshed, is_named, most_lives}
 use Rattle.cs_live.specs.Entries.{query_of, params_of, last_of, live_query, entries}
@@ -30,11 +31,11 @@ pub record SameKeys (one other : List Key) : Type 0 where
   pub there : (k : Key) → Contains one k → Contains other k
   pub back : (k : Key) → Contains other k → Contains one k
 
--- an answer that is kept by its record fits a dataset: it is the value over it, and the record has
--- the keys that finding it looks up, and no other
+-- an answer that is kept by its record fits a dataset: it is the value over it, and the keys are
+-- those that finding it looks up, and no other
 pub record FitsRecord (docs : List Tree) (r : Recorded) : Type 0 where
   pub last : tree r.last ≡ query_value docs (fields r.params) (query r.query)
-  pub keys : SameKeys r.record (query_looked docs (fields r.params) (query r.query))
+  pub keys : SameKeys (keys_of r.keys) (query_looked docs (fields r.params) (query r.query))
 
 -- one that is kept in rows fits a dataset: the query is simple, the rows are its hits, and the
 -- answer is what its tail makes of them
@@ -53,14 +54,15 @@ FitsOne docs e = FitsKept docs e.kept
 abbrev pub Fits : Live → List Tree → Type 0
 Fits l docs = All (FitsOne docs) (entries l)
 
--- nothing is asked after the changes: no change touches the record, and rows never ask
+-- nothing is asked after the changes: no change touches the keys, and rows never ask
 abbrev pub IsQuiet : List Edit → Kept → Type 0
-IsQuiet cs (ByRecord r) = touched r.record cs ≡ false
+IsQuiet cs (ByRecord r) = touched (keys_of r.keys) cs ≡ false
 IsQuiet cs (InRows r) = ⊤
 
--- an answer is kept as it was, by its record or in rows, and an untouched record is kept
+-- an answer is kept as it was, by its record or in rows, and untouched keys are kept
 abbrev pub KeepsRecord : List Edit → Kept → Kept → Type 0
-KeepsRecord cs (ByRecord a) (ByRecord b) = touched a.record cs ≡ false → b.record ≡ a.record
+KeepsRecord cs (ByRecord a) (ByRecord b) =
+    touched (keys_of a.keys) cs ≡ false → keys_of b.keys ≡ keys_of a.keys
 KeepsRecord cs (ByRecord a) (InRows b) = ⊥
 KeepsRecord cs (InRows a) (ByRecord b) = ⊥
 KeepsRecord cs (InRows a) (InRows b) = ⊤

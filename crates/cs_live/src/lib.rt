@@ -2,6 +2,7 @@
 #![tactic(auto)]
 
 mod entry;
+mod keys;
 mod live;
 mod recorded;
 mod rows;

@@ -7,8 +7,10 @@ ghost use Rattle.cs_view.specs.Changes.{are_changes, LeadTo, Before};
 ghost use Rattle.cs_view.specs.Touched.{touched};
 ghost use Rattle.cs_view.specs.View.{edits};
 ghost use Rattle.cs_live.specs.Fits.{Answers, FitsRecord, RefreshesKept};
+ghost use Rattle.cs_live.specs.Keys.{keys_of};
 ghost use Rattle.cs_live.specs.declared.entry.Kept.{Kept};
 
+use crate::keys::Keys;
 use crate::same::is_same;
 use cs_eval::{eval, looked_settles_value};
 use cs_syntax::Query;
@@ -24,7 +26,7 @@ pub(crate) struct Recorded {
     pub(crate) query: Query,
     pub(crate) params: Fields,
     pub(crate) last: Val,
-    pub(crate) record: Record,
+    pub(crate) keys: Keys,
 }
 
 impl Recorded {
@@ -41,16 +43,17 @@ impl Recorded {
     {
         let mut record = Record::new(alloc);
         let last = eval(alloc, &query, &params, view, &mut record, steps)?.into_val(alloc)?;
+        let keys = Keys::of(alloc, record)?;
         Ok(Recorded {
             query,
             params,
             last,
-            record,
+            keys,
         })
     }
 
     /// Brings the answer to the dataset after the changes: whether it is another tree now. Where no
-    /// change touches the record, all stays as it is and nothing is asked of the view.
+    /// change touches the keys, all stays as it is and nothing is asked of the view.
     pub(crate) fn refresh<V: View<L>, L: Ledger>(
         &mut self,
         alloc: Global,
@@ -65,10 +68,10 @@ impl Recorded {
             (Kept.ByRecord self.old) (Kept.ByRecord self.new)) }
         ensures stale { IfOk result
             (λ b. b ≡ not (same_tree (tree self.new.last) (tree self.old.last))) }
-        ensures quiet { touched self.old.record (edits changes.now) ≡ false
+        ensures quiet { touched (keys_of self.old.keys) (edits changes.now) ≡ false
             → steps.new ≡ steps.old }
     {
-        if !self.record.touched(changes) {
+        if !self.keys.touched(changes) {
             looked_settles_value();
             untouched_selects_the_same();
             changes_lead_back_and_on();
@@ -78,8 +81,9 @@ impl Recorded {
         let answer = eval(alloc, &self.query, &self.params, view, &mut record, steps)?.into_val(
             alloc,
         )?;
+        let keys = Keys::of(alloc, record)?;
         let stale = !is_same(&answer, &self.last);
-        self.record = record;
+        self.keys = keys;
         self.last = answer;
         Ok(stale)
     }

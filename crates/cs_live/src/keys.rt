@@ -1,0 +1,87 @@
+//! The keys that finding an answer looked up, kept so that a change finds its id among them.
+ghost use Rattle.std.specs.Prelude.{◌≡◌, ◌++◌, ◌∷◌, ◌||◌, [], true, IfOk, OnOk, is_some};
+ghost use Rattle.std.specs.List.{list_any};
+ghost use Rattle.cs_view.specs.Changes.{are_changes, is_of_id};
+ghost use Rattle.cs_view.specs.Touched.{touched, touches};
+ghost use Rattle.cs_view.specs.View.{edit, edits};
+ghost use Rattle.cs_live.specs.Fits.{SameKeys};
+ghost use Rattle.cs_live.specs.Keys.{ids_of, keys_of};
+
+use cs_value::{NoMemory, OrderedMap};
+use cs_view::{Change, Key, Record};
+use std::alloc::Global;
+
+/// The keys that finding an answer looked up: ids, each once, apart from the others, so that a
+/// change finds its id among them.
+#[derive(Drop)]
+pub(crate) struct Keys {
+    ids: OrderedMap<()>,
+    others: Record,
+}
+
+impl Keys {
+    /// The keys of the record.
+    pub(crate) fn of(alloc: Global, looked: Record) -> Result<Keys, NoMemory>
+        ensures { IfOk result (λ keys. SameKeys (keys_of keys) looked) }
+    {
+        let mut keys = Keys {
+            ids: OrderedMap::new(alloc),
+            others: Record::new(alloc),
+        };
+        for key in looked.into_keys() {
+            keys.add(key)?;
+        }
+        Ok(keys)
+    }
+
+    // Adds the key; an id that is there stays as it is.
+    fn add(&mut self, key: Key) -> Result<(), NoMemory>
+        ensures { OnOk result (SameKeys (keys_of self.new) (keys_of self.old ++ key ∷ [])) }
+    {
+        match key {
+            Key::Id(id) => {
+                self.ids.insert(id, ())?;
+                Ok(())
+            }
+            other => self.others.add(other),
+        }
+    }
+
+    /// Whether some key is had by the document before or after some change. It takes no memory.
+    pub(crate) fn touched(&self, changes: &[Change]) -> bool
+        requires { are_changes (edits changes.now) ≡ true }
+        ensures { result ≡ touched (keys_of self.now) (edits changes.now) }
+    {
+        self.has_some_id(changes) || self.others.touched(changes)
+    }
+
+    // Whether some id is had by the document before or after some change.
+    fn has_some_id(&self, changes: &[Change]) -> bool
+        requires { are_changes (edits changes.now) ≡ true }
+        ensures { result ≡ touched (ids_of self.now) (edits changes.now) }
+    {
+        for change in changes {
+            if self.has_id(change) {
+                return true;
+            }
+        }
+        false
+    }
+
+    // Whether some id is had by the document before or after the change: these have its id, and so
+    // one of them has to stand, and its id to be there.
+    fn has_id(&self, change: &Change) -> bool
+        requires before { is_of_id (edit change.now).0 (edit change.now).1.0 ≡ true }
+        requires after { is_of_id (edit change.now).0 (edit change.now).1.1 ≡ true }
+        ensures { result ≡ list_any (λ key. touches key (edit change.now)) (ids_of self.now) }
+    {
+        stands(change) && self.ids.get(change.id.as_str()).is_some()
+    }
+}
+
+// Whether a document stands before the change or after it.
+fn stands(change: &Change) -> bool
+    ensures { result ≡ (is_some change.now.before || is_some change.now.after) }
+{
+    change.before.is_some() || change.after.is_some()
+}
