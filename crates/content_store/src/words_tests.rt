@@ -1,5 +1,5 @@
 //! Command lines, and what each asks for.
-use crate::tests::{Outside, PLAIN, played};
+use crate::tests::{Outside, PLAIN, ends, played};
 use cs_run::Status;
 use std::alloc::Global;
 use std::test::Fail;
@@ -35,7 +35,7 @@ const ASK_FOR_MORE: [&str; 14] = [
     "content_store --data help",
 ];
 
-const REFUSED: [&str; 35] = [
+const REFUSED: [&str; 42] = [
     "content_store --data= ",
     "content_store --data x --data y",
     "content_store --data=x --data=x",
@@ -47,9 +47,16 @@ const REFUSED: [&str; 35] = [
     "content_store --data --script x",
     "content_store --data -x",
     "content_store --data -- x",
-    "content_store --gen 5",
-    "content_store --gen=5",
-    "content_store --data x --gen 5",
+    "content_store --gen",
+    "content_store --gen=",
+    "content_store --gen x",
+    "content_store --gen 1.0",
+    "content_store --gen=-1",
+    "content_store --gen -0",
+    "content_store --gen 100001",
+    "content_store --gen 18446744073709551616",
+    "content_store --gen 1 --gen 1",
+    "content_store --Gen 1",
     "content_store --other",
     "content_store --other=x",
     "content_store x",
@@ -71,6 +78,34 @@ const REFUSED: [&str; 35] = [
     "content_store --version",
     "content_store -V",
     "content_store help",
+];
+
+// Lines that ask for a generated script, and the summary that is written.
+const SUMMED_UP: [(&str, &str); 6] = [
+    (
+        "content_store --gen 20",
+        "{\"documents\":20,\"events\":2,\"lines\":25,\"live\":2,\"refused\":2,\"replies\":28}\n",
+    ),
+    (
+        "content_store --gen 0",
+        "{\"documents\":0,\"events\":0,\"lines\":3,\"live\":1,\"refused\":0,\"replies\":3}\n",
+    ),
+    (
+        "content_store --gen=-0",
+        "{\"documents\":0,\"events\":0,\"lines\":3,\"live\":1,\"refused\":0,\"replies\":3}\n",
+    ),
+    (
+        "content_store --gen=+3",
+        "{\"documents\":3,\"events\":1,\"lines\":7,\"live\":2,\"refused\":1,\"replies\":9}\n",
+    ),
+    (
+        "content_store --gen 3 --data x --script y",
+        "{\"documents\":3,\"events\":1,\"lines\":7,\"live\":2,\"refused\":1,\"replies\":9}\n",
+    ),
+    (
+        "content_store --gen 007",
+        "{\"documents\":7,\"events\":1,\"lines\":11,\"live\":2,\"refused\":1,\"replies\":13}\n",
+    ),
 ];
 
 // How the run of a line ends, where there are a data file `data` and a script `-`.
@@ -103,6 +138,18 @@ fn asks_for_what_is_not_there(rt: HostRuntime) -> Result<(), Fail> {
 fn refuses_other_words(rt: HostRuntime) -> Result<(), Fail> {
     for line in &REFUSED {
         assert_eq!(rt; ended(rt.alloc(), line)?, Status::Usage, "of {line}");
+    }
+    Ok(())
+}
+
+#[test]
+fn sums_up_generated_scripts(rt: HostRuntime) -> Result<(), Fail> {
+    for (line, wanted) in &SUMMED_UP {
+        let outside = Outside {
+            words: line,
+            ..PLAIN
+        };
+        ends(&rt, rt.alloc(), outside, Status::Done, wanted, line)?;
     }
     Ok(())
 }
