@@ -15,7 +15,7 @@ use Rattle.cs_shelf.specs.Places.{found}
 use Rattle.cs_shelf.proofs.Standing.{at-documents}
 use Rattle.cs_docs.specs.Store.{docs, place_at, ArePlacesSteady}
 use Rattle.cs_docs.specs.declared.docs.Docs.{Docs}
-use Rattle.cs_index.specs.Codes.{Seed, is_among}
+use Rattle.cs_codes.specs.Codes.{Seed, is_among}
 use Rattle.cs_index.specs.Entries.{same_entry, entry, has_entry, side_codes, is_put, is_put_at, puts, parts, all_put, all_parted, AreEntriesOf}
 use Rattle.cs_index.specs.Picking.{entering}
 use Rattle.cs_index.specs.declared.entry.Entry.{Entry}

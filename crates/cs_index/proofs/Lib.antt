@@ -1,5 +1,4 @@
 pub mod Applied
-pub mod Listed
 pub mod Marks
 pub mod Nearest
 pub mod Picked

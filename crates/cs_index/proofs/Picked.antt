@@ -18,13 +18,13 @@ use Rattle.cs_shelf.specs.Places.{Store, Order, found, tree_at, trees_at, IsSoun
 use Rattle.cs_shelf.proofs.Standing.{Entry as PlaceEntry, at-documents, sound_entries, at_of, ascending_of, some-trees, ascending-documents}
 use Rattle.cs_docs.specs.Store.{docs, place_at, doc_at}
 use Rattle.cs_docs.specs.declared.docs.Docs.{Docs}
-use Rattle.cs_index.specs.Codes.{Seed, is_among, key_code}
+use Rattle.cs_codes.specs.Codes.{Seed, is_among, key_code}
 use Rattle.cs_index.specs.Entries.{entry_cmp, same_entry, entry, has_entry, AreEntriesOf, side_codes}
-use Rattle.cs_index.specs.Kept.{IsKept}
+use Rattle.cs_codes.specs.Kept.{IsKept}
 use Rattle.cs_index.specs.Picking.{where_has, wanted, or_else, pick, picked, under}
 use Rattle.cs_index.specs.declared.entry.Entry.{Entry}
 use Rattle.cs_index.proofs.Applied.{same_parts}
-use Rattle.cs_index.proofs.Listed.{listed}
+use Rattle.cs_codes.proofs.Listed.{listed}
 
 pub pick_none : (d : Docs) (k : Key) (y i : List ℕ) (o : Option ℕ) → wanted d k i ≡ None → o ≡ cond (same_id y i) (or_else (wanted d k y) o) o
 pick_none d k y i o h = by_test (same_id y i) refl where

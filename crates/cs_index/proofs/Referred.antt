@@ -17,7 +17,7 @@ use Rattle.cs_docs.specs.Store.{docs, place_at, doc_at}
 use Rattle.cs_docs.specs.Suspects.{lesser}
 use Rattle.cs_docs.specs.declared.docs.Docs.{Docs}
 use Rattle.cs_docs.proofs.Filters.{keep, first_at, first_lesser, filter_same, members}
-use Rattle.cs_index.specs.Codes.{Seed, ref_code, is_among}
+use Rattle.cs_codes.specs.Codes.{Seed, ref_code, is_among}
 use Rattle.cs_index.specs.Entries.{entry_cmp, entry, AreEntriesOf, side_codes}
 use Rattle.cs_index.specs.Picking.{under}
 use Rattle.cs_index.specs.Referring.{refers, same_referrer, least}

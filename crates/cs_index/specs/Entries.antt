@@ -10,7 +10,7 @@ use Rattle.cs_view.specs.Changes.{Edit}
 use Rattle.cs_view.specs.Dataset.{At}
 use Rattle.cs_docs.specs.Store.{docs, place_at}
 use Rattle.cs_docs.specs.declared.docs.Docs.{Docs}
-use Rattle.cs_index.specs.Codes.{Seed, codes, is_among}
+use Rattle.cs_codes.specs.Codes.{Seed, codes, is_among}
 use Rattle.cs_index.specs.declared.entry.Entry.{Entry}
 use Rattle.cs_index.specs.contracts.entry.EntryOrd.TheImpl as entry_order
 

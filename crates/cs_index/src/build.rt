@@ -3,13 +3,13 @@ ghost use Rattle.std.specs.Prelude.{◌≡◌, [], None, Some, OnOk};
 ghost use Rattle.cs_view.specs.Document.{id_of};
 ghost use Rattle.cs_view.specs.View.{doc as document};
 ghost use Rattle.cs_docs.specs.Store.{docs as dataset};
-ghost use Rattle.cs_index.specs.Codes.{codes, is_among};
+ghost use Rattle.cs_codes.specs.Codes.{codes, is_among};
 ghost use Rattle.cs_index.specs.Entries.{is_put, puts, Gain, GainAll};
 ghost use Rattle.cs_index.specs.Picking.{entering};
 
 use crate::entry::Entry;
 use crate::put::{put_codes, set_of};
-use crate::walk::codes_of;
+use cs_codes::codes_of;
 use cs_docs::Docs;
 use cs_value::NoMemory;
 use cs_view::Doc;

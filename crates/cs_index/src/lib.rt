@@ -2,7 +2,6 @@
 #![tactic(auto)]
 
 mod build;
-mod code;
 mod commit;
 mod entry;
 mod index;
@@ -14,7 +13,6 @@ mod referrers;
 #[cfg(test)]
 mod tests;
 mod view;
-mod walk;
 
 pub use commit::{InstallFault, install};
 pub use entry::Entry;

@@ -3,14 +3,14 @@ ghost use Rattle.std.specs.Prelude.{◌≡◌, map, IfOk, OnOk};
 ghost use Rattle.std.specs.BTreeMap.{IsOrdered};
 ghost use Rattle.cs_view.specs.Dataset.{id_cmp};
 ghost use Rattle.cs_view.specs.declared.key.Key.TheVariants.{All, Id};
-ghost use Rattle.cs_index.specs.Codes.{key_code};
+ghost use Rattle.cs_codes.specs.Codes.{key_code};
 ghost use Rattle.cs_index.specs.Entries.{AreEntriesOf};
 ghost use Rattle.cs_index.specs.Index.{ArePlacesOf};
-ghost use Rattle.cs_index.specs.Kept.{IsKept};
+ghost use Rattle.cs_codes.specs.Kept.{IsKept};
 ghost use Rattle.cs_index.specs.Picking.{wanted, pick, picked_id, Picks, ArePicked};
 
-use crate::code::key_code;
 use crate::entry::Entry;
+use cs_codes::key_code;
 use cs_docs::Docs;
 use cs_value::{NoMemory, Txt};
 use cs_view::{Key, has};
@@ -66,7 +66,7 @@ fn choose(
 fn chosen_under(
     alloc: Global,
     entries: &BTreeSet<Entry>,
-    code: u32,
+    code: u64,
     docs: &Docs,
     key: &Key,
 ) -> Result<BTreeMap<Txt, u32>, NoMemory>

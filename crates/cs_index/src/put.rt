@@ -3,12 +3,12 @@ ghost use Rattle.std.specs.Prelude.{◌≡◌, ℕ, true, false, cond, not, ◌&
 ghost use Rattle.std.specs.BTreeSet.{contains};
 ghost use Rattle.std.specs.Ordering.{nat_cmp};
 ghost use Rattle.cs_view.specs.View.{doc as document, edit, edits};
-ghost use Rattle.cs_index.specs.Codes.{is_among};
+ghost use Rattle.cs_codes.specs.Codes.{is_among};
 ghost use Rattle.cs_index.specs.Entries.{entry, same_entry, is_in, is_put, is_apart, side_codes, puts, parts, all_parted, Gain, Collect, Lose, GainAll};
 ghost use Rattle.cs_index.specs.declared.entry.Entry.{Entry};
 
 use crate::entry::Entry;
-use crate::walk::codes_of;
+use cs_codes::codes_of;
 use cs_docs::Docs;
 use cs_value::NoMemory;
 use cs_view::{Change, Doc};
@@ -17,7 +17,7 @@ use std::collections::BTreeSet;
 use std::hash::RandomState;
 
 // The codes of what stands on a side of a change.
-fn side_codes(alloc: Global, seed: &RandomState, side: &Option<Doc>) -> Result<Vec<u32>, NoMemory>
+fn side_codes(alloc: Global, seed: &RandomState, side: &Option<Doc>) -> Result<Vec<u64>, NoMemory>
     ensures { IfOk result
         (λ cs. cs.items ≡ side_codes seed.now (option_map document side.now)) }
 {
@@ -31,7 +31,7 @@ fn side_codes(alloc: Global, seed: &RandomState, side: &Option<Doc>) -> Result<V
 }
 
 #[tactic(auto, using(crate::proofs::Marks::one_code, crate::proofs::Marks::cond_or))]
-fn add_code(set: &mut BTreeSet<u32>, code: u32) -> Result<(), NoMemory>
+fn add_code(set: &mut BTreeSet<u64>, code: u64) -> Result<(), NoMemory>
     ensures { OnOk result ((x : ℕ)
         → contains nat_cmp set.new x ≡ (nat_eq x code || contains nat_cmp set.old x)) }
 {
@@ -41,7 +41,7 @@ fn add_code(set: &mut BTreeSet<u32>, code: u32) -> Result<(), NoMemory>
 
 // The codes, to be looked up.
 #[tactic(auto, using(crate::proofs::Marks::or_more))]
-pub(crate) fn set_of(alloc: Global, codes: &Vec<u32>) -> Result<BTreeSet<u32>, NoMemory>
+pub(crate) fn set_of(alloc: Global, codes: &Vec<u64>) -> Result<BTreeSet<u64>, NoMemory>
     ensures { IfOk result
         (λ s. (x : ℕ) → contains nat_cmp s x ≡ is_among x codes.now.items) }
 {
@@ -54,8 +54,8 @@ pub(crate) fn set_of(alloc: Global, codes: &Vec<u32>) -> Result<BTreeSet<u32>, N
 
 fn put_code(
     entries: &mut BTreeSet<Entry>,
-    out: &BTreeSet<u32>,
-    code: u32,
+    out: &BTreeSet<u64>,
+    code: u64,
     place: u32,
 ) -> Result<(), NoMemory>
     ensures { OnOk result (Gain
@@ -72,8 +72,8 @@ fn put_code(
 #[tactic(auto, using(crate::proofs::Marks::in_end))]
 fn list_code(
     entries: &mut Vec<Entry>,
-    out: &BTreeSet<u32>,
-    code: u32,
+    out: &BTreeSet<u64>,
+    code: u64,
     place: u32,
 ) -> Result<(), NoMemory>
     ensures { OnOk result (Collect
@@ -91,8 +91,8 @@ fn list_code(
 #[tactic(auto, using(crate::proofs::Marks::one_more))]
 pub(crate) fn put_codes(
     entries: &mut BTreeSet<Entry>,
-    out: &BTreeSet<u32>,
-    codes: &Vec<u32>,
+    out: &BTreeSet<u64>,
+    codes: &Vec<u64>,
     place: u32,
 ) -> Result<(), NoMemory>
     ensures { OnOk result (Gain (is_put (contains nat_cmp out.now) place codes.now.items)
@@ -108,8 +108,8 @@ pub(crate) fn put_codes(
 #[tactic(auto, using(crate::proofs::Marks::one_more))]
 fn list_codes(
     entries: &mut Vec<Entry>,
-    out: &BTreeSet<u32>,
-    codes: &Vec<u32>,
+    out: &BTreeSet<u64>,
+    codes: &Vec<u64>,
     place: u32,
 ) -> Result<(), NoMemory>
     ensures { OnOk result (Collect (is_put (contains nat_cmp out.now) place codes.now.items)

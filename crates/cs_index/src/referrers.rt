@@ -110,7 +110,7 @@ fn nearer_at<'d>(
 // those at the places under a code. It takes no memory.
 pub(crate) fn next_under<'d>(
     entries: &BTreeSet<Entry>,
-    code: u32,
+    code: u64,
     docs: &'d Docs,
     target: &Txt,
     low: Option<&Txt>,

@@ -4,10 +4,10 @@ ghost use Rattle.cs_docs.specs.Kept.{is_dataset_of};
 ghost use Rattle.cs_index.specs.Index.{IsIndexOf};
 ghost use Rattle.cs_index.specs.View.{store_of, indexed, doc_at as document_at};
 
-use crate::code::ref_code;
 use crate::index::Index;
 use crate::indexed::Indexed;
 use crate::referrers::next_under;
+use cs_codes::ref_code;
 use cs_docs::{Docs, Referrers};
 use cs_value::{NoMemory, Steps, Txt};
 use cs_view::{Doc, Key, View};
@@ -21,6 +21,13 @@ impl<'a> Indexed<'a> {
         ensures { store_of result ≡ docs.now }
     {
         Indexed { docs, index }
+    }
+
+    /// The store.
+    pub fn docs(&self) -> &'a Docs
+        ensures { result.now ≡ store_of self.now }
+    {
+        self.docs
     }
 }
 

@@ -1,8 +1,8 @@
 use Rattle.std.proofs.Common.{◌≡◌, ◌++◌, drop}
 use Rattle.cs_value.specs.Tree.{trees}
 use Rattle.cs_value.specs.View.{list_tree}
-use Rattle.cs_index.specs.Codes.{elements_codes}
-use Rattle.cs_index.proofs.walk.put_elements.Given as goal
+use Rattle.cs_codes.specs.Codes.{elements_codes}
+use Rattle.cs_codes.proofs.walk.put_elements.Given as goal
 
 abbrev pub invariant-loop-item : goal.invariant-loop-item
 invariant-loop-item l =

@@ -3,7 +3,7 @@ ghost use Rattle.std.specs.Prelude.{◌≡◌, ◌<◌, ◌++◌, IfOk, OnOk};
 ghost use Rattle.cs_value.specs.Tree.{trees};
 ghost use Rattle.cs_value.specs.View.{tree, fields, list_tree};
 ghost use Rattle.cs_view.specs.View.{doc as document};
-ghost use Rattle.cs_index.specs.Codes.{scalar_codes, elements_codes, here, inside, pairs_inside, own_refs, refs, trees_refs, pairs_refs, codes};
+ghost use Rattle.cs_codes.specs.Codes.{scalar_codes, elements_codes, here, inside, pairs_inside, own_refs, refs, trees_refs, pairs_refs, codes};
 
 use crate::code::{
     boolean_code, number_code, ref_code, start, text_code, with_element, with_text, with_value,
@@ -17,7 +17,7 @@ use std::hash::{DefaultHasher, RandomState};
 const MOST_NAMES: u32 = 4;
 
 // The code of a scalar.
-fn put_scalar(hash: DefaultHasher, val: &Val, out: &mut Vec<u32>) -> Result<(), NoMemory>
+fn put_scalar(hash: DefaultHasher, val: &Val, out: &mut Vec<u64>) -> Result<(), NoMemory>
     ensures { OnOk result (out.new.items ≡ out.old.items ++ scalar_codes hash (tree val.now)) }
 {
     match val {
@@ -30,7 +30,7 @@ fn put_scalar(hash: DefaultHasher, val: &Val, out: &mut Vec<u32>) -> Result<(), 
 }
 
 // The codes of the scalars among the elements of a list.
-fn put_elements(hash: DefaultHasher, items: &Vec<Val>, out: &mut Vec<u32>) -> Result<(), NoMemory>
+fn put_elements(hash: DefaultHasher, items: &Vec<Val>, out: &mut Vec<u64>) -> Result<(), NoMemory>
     ensures { OnOk result (out.new.items
         ≡ out.old.items ++ elements_codes hash (trees (list_tree items.now.items))) }
 {
@@ -41,7 +41,7 @@ fn put_elements(hash: DefaultHasher, items: &Vec<Val>, out: &mut Vec<u32>) -> Re
 }
 
 // The codes of a value at the end of the names that were read.
-fn put_here(hash: DefaultHasher, val: &Val, out: &mut Vec<u32>) -> Result<(), NoMemory>
+fn put_here(hash: DefaultHasher, val: &Val, out: &mut Vec<u64>) -> Result<(), NoMemory>
     ensures { OnOk result (out.new.items ≡ out.old.items ++ here hash (tree val.now)) }
 {
     match val {
@@ -53,7 +53,7 @@ fn put_here(hash: DefaultHasher, val: &Val, out: &mut Vec<u32>) -> Result<(), No
 
 // The codes at the attributes of a value, by at most so many names more.
 #[cycle(inside)]
-fn put_inside(room: u32, hash: DefaultHasher, val: &Val, out: &mut Vec<u32>) -> Result<(), NoMemory>
+fn put_inside(room: u32, hash: DefaultHasher, val: &Val, out: &mut Vec<u64>) -> Result<(), NoMemory>
     ensures { OnOk result (out.new.items ≡ out.old.items ++ inside room hash (tree val.now)) }
 {
     if room == 0 {
@@ -71,7 +71,7 @@ fn put_fields_inside(
     room: u32,
     hash: DefaultHasher,
     object: &Fields,
-    out: &mut Vec<u32>,
+    out: &mut Vec<u64>,
 ) -> Result<(), NoMemory>
     requires { 0 < room }
     ensures { OnOk result (out.new.items
@@ -87,7 +87,7 @@ fn put_fields_inside(
 
 // The codes of the references in a value.
 #[cycle(refs)]
-fn put_refs(seed: &RandomState, val: &Val, out: &mut Vec<u32>) -> Result<(), NoMemory>
+fn put_refs(seed: &RandomState, val: &Val, out: &mut Vec<u64>) -> Result<(), NoMemory>
     ensures { OnOk result (out.new.items ≡ out.old.items ++ refs seed.now (tree val.now)) }
 {
     match val {
@@ -101,7 +101,7 @@ fn put_refs(seed: &RandomState, val: &Val, out: &mut Vec<u32>) -> Result<(), NoM
 }
 
 #[cycle(refs)]
-fn put_item_refs(seed: &RandomState, items: &Vec<Val>, out: &mut Vec<u32>) -> Result<(), NoMemory>
+fn put_item_refs(seed: &RandomState, items: &Vec<Val>, out: &mut Vec<u64>) -> Result<(), NoMemory>
     ensures { OnOk result (out.new.items
         ≡ out.old.items ++ trees_refs seed.now (trees (list_tree items.now.items))) }
 {
@@ -112,7 +112,7 @@ fn put_item_refs(seed: &RandomState, items: &Vec<Val>, out: &mut Vec<u32>) -> Re
 }
 
 #[cycle(refs)]
-fn put_field_refs(seed: &RandomState, object: &Fields, out: &mut Vec<u32>) -> Result<(), NoMemory>
+fn put_field_refs(seed: &RandomState, object: &Fields, out: &mut Vec<u64>) -> Result<(), NoMemory>
     ensures { OnOk result (out.new.items
         ≡ out.old.items ++ pairs_refs seed.now (fields object.now)) }
 {
@@ -123,7 +123,7 @@ fn put_field_refs(seed: &RandomState, object: &Fields, out: &mut Vec<u32>) -> Re
 }
 
 // The code of the text that an object has as `_ref`.
-fn put_own_ref(seed: &RandomState, object: &Fields, out: &mut Vec<u32>) -> Result<(), NoMemory>
+fn put_own_ref(seed: &RandomState, object: &Fields, out: &mut Vec<u64>) -> Result<(), NoMemory>
     ensures { OnOk result (out.new.items
         ≡ out.old.items ++ own_refs seed.now (fields object.now)) }
 {
@@ -133,8 +133,10 @@ fn put_own_ref(seed: &RandomState, object: &Fields, out: &mut Vec<u32>) -> Resul
     Ok(())
 }
 
-// The codes of a document.
-pub(crate) fn codes_of(alloc: Global, seed: &RandomState, doc: &Doc) -> Result<Vec<u32>, NoMemory>
+/// The codes of the keys of a document that an index keeps: those of its references, and those of
+/// the scalars at its attribute paths of at most four names and in the lists there. `NoMemory` where
+/// the allocator has no room for them.
+pub fn codes_of(alloc: Global, seed: &RandomState, doc: &Doc) -> Result<Vec<u64>, NoMemory>
     ensures { IfOk result (λ cs. cs.items ≡ codes seed.now (document doc.now)) }
 {
     let mut out = Vec::new(alloc);

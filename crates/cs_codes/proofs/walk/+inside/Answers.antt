@@ -1,7 +1,7 @@
 use Rattle.std.proofs.Common.{◌++◌, ◌∙◌, ap, sym}
 use Rattle.cs_value.proofs.Views.{walked}
-use Rattle.cs_index.specs.Codes.{pairs_inside}
-use Rattle.cs_index.proofs.walk.+inside.Goals as goal
+use Rattle.cs_codes.specs.Codes.{pairs_inside}
+use Rattle.cs_codes.proofs.walk.+inside.Goals as goal
 
 pub put_fields_inside-loop-name-init : goal.put_fields_inside-loop-name-init
 put_fields_inside-loop-name-init t c =

@@ -1,7 +1,7 @@
 -- Codes: a number for each key that an index keeps, and the numbers of the keys that a document
 -- has: this project's profile. They come of a hash whose seed is the index's own. Keys that differ
 -- may have one code.
-use Rattle.std.specs.Prelude.{ℕ, ℤ, ◌%◌, ◌-◌, ◌==◌, Bool, cond, List, [], ◌∷◌, ◌++◌, map, option_and_then, codes as bytes_of}
+use Rattle.std.specs.Prelude.{ℕ, ℤ, ◌-◌, ◌==◌, Bool, cond, List, [], ◌∷◌, ◌++◌, map, option_and_then, codes as bytes_of}
 use Rattle.std.specs.List.{list_any, fold}
 use Rattle.std.specs.Bool.{nat_eq}
 use Rattle.std.specs.Option.{option_to_list}
@@ -38,7 +38,7 @@ abbrev pub with_mark : Hash → ℕ → Hash
 with_mark h m = fold write h (u8 m)
 
 abbrev pub code_of : Hash → ℕ
-code_of h = finish h % 4294967296
+code_of h = finish h
 
 -- names, the outermost first
 abbrev pub with_names : Hash → List (List ℕ) → Hash
@@ -69,10 +69,13 @@ scalar_code h (Text t) = text_code h t
 abbrev pub ref_code : Seed → List ℕ → ℕ
 ref_code seed t = code_of (with_text (with_mark (start seed) 252) t)
 
--- the code of a key; a key that no index keeps has the code 0
+abbrev pub id_code : Seed → List ℕ → ℕ
+id_code seed t = code_of (with_text (with_mark (start seed) 248) t)
+
+-- the code of a key; that of every document has the code 0
 abbrev pub key_code : Seed → Key → ℕ
 key_code seed All = 0
-key_code seed (Id t) = 0
+key_code seed (Id t) = id_code seed t
 key_code seed (Path ns s) = scalar_code (with_value (with_names (start seed) ns)) s
 key_code seed (Elem ns s) = scalar_code (with_element (with_names (start seed) ns)) s
 key_code seed (Ref t) = ref_code seed t

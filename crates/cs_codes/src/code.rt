@@ -1,6 +1,6 @@
 //! Codes of keys. Two keys may have one code: who finds a document by a code has to test it.
 ghost use Rattle.std.specs.Prelude.{◌≡◌};
-ghost use Rattle.cs_index.specs.Codes.{start, with_text, with_mark, with_names, with_value, with_element, code_of, boolean_code, number_code, text_code, scalar_code, ref_code, key_code};
+ghost use Rattle.cs_codes.specs.Codes.{start, with_text, with_mark, with_names, with_value, with_element, code_of, boolean_code, number_code, text_code, scalar_code, ref_code, id_code, key_code};
 
 use cs_value::Txt;
 use cs_view::{Key, Scalar};
@@ -18,6 +18,8 @@ const BOOLEAN: u8 = 251;
 const NUMBER: u8 = 250;
 
 const TEXT: u8 = 249;
+
+const ID: u8 = 248;
 
 // The hash that has read nothing yet.
 pub(crate) fn start(seed: &RandomState) -> DefaultHasher
@@ -43,10 +45,10 @@ fn with_mark(hash: DefaultHasher, mark: u8) -> DefaultHasher
     longer
 }
 
-fn code_of(hash: &DefaultHasher) -> u32
+fn code_of(hash: &DefaultHasher) -> u64
     ensures { result ≡ code_of hash.now }
 {
-    (hash.finish() % 4_294_967_296) as u32
+    hash.finish()
 }
 
 fn with_names(hash: DefaultHasher, names: &[Txt]) -> DefaultHasher
@@ -73,7 +75,7 @@ pub(crate) fn with_element(hash: DefaultHasher) -> DefaultHasher
     with_mark(hash, ELEMENT)
 }
 
-pub(crate) fn boolean_code(hash: DefaultHasher, value: bool) -> u32
+pub(crate) fn boolean_code(hash: DefaultHasher, value: bool) -> u64
     ensures { result ≡ boolean_code hash value }
 {
     let mut longer = with_mark(hash, BOOLEAN);
@@ -81,7 +83,7 @@ pub(crate) fn boolean_code(hash: DefaultHasher, value: bool) -> u32
     code_of(&longer)
 }
 
-pub(crate) fn number_code(hash: DefaultHasher, number: i64) -> u32
+pub(crate) fn number_code(hash: DefaultHasher, number: i64) -> u64
     ensures { result ≡ number_code hash number }
 {
     let mut longer = with_mark(hash, NUMBER);
@@ -89,13 +91,13 @@ pub(crate) fn number_code(hash: DefaultHasher, number: i64) -> u32
     code_of(&longer)
 }
 
-pub(crate) fn text_code(hash: DefaultHasher, text: &Txt) -> u32
+pub(crate) fn text_code(hash: DefaultHasher, text: &Txt) -> u64
     ensures { result ≡ text_code hash text.now }
 {
     code_of(&with_text(with_mark(hash, TEXT), text.as_str()))
 }
 
-fn scalar_code(hash: DefaultHasher, scalar: &Scalar) -> u32
+fn scalar_code(hash: DefaultHasher, scalar: &Scalar) -> u64
     ensures { result ≡ scalar_code hash scalar.now }
 {
     match scalar {
@@ -105,20 +107,27 @@ fn scalar_code(hash: DefaultHasher, scalar: &Scalar) -> u32
     }
 }
 
-// The code of a reference to the target.
-pub(crate) fn ref_code(seed: &RandomState, target: &Txt) -> u32
+/// The code of the key of references to the target.
+pub fn ref_code(seed: &RandomState, target: &Txt) -> u64
     ensures { result ≡ ref_code seed.now target.now }
 {
     code_of(&with_text(with_mark(start(seed), REFERENCE), target.as_str()))
 }
 
-// The code of a key; a key that no index keeps has the code 0.
-pub(crate) fn key_code(seed: &RandomState, key: &Key) -> u32
+/// The code of the key of the document with the id.
+pub fn id_code(seed: &RandomState, id: &Txt) -> u64
+    ensures { result ≡ id_code seed.now id.now }
+{
+    code_of(&with_text(with_mark(start(seed), ID), id.as_str()))
+}
+
+/// The code of a key. That of every document has the code 0.
+pub fn key_code(seed: &RandomState, key: &Key) -> u64
     ensures { result ≡ key_code seed.now key.now }
 {
     match key {
         Key::All => 0,
-        Key::Id(_) => 0,
+        Key::Id(id) => id_code(seed, id),
         Key::Path(names, scalar) => {
             scalar_code(with_value(with_names(start(seed), names.texts())), scalar)
         }

@@ -20,8 +20,8 @@ use Rattle.cs_view.specs.declared.key.Scalar.TheVariants.{Bool as Boolean, Num, 
 use Rattle.cs_view.specs.declared.key.Key.{Key}
 use Rattle.cs_view.specs.declared.key.Key.TheVariants.{All, Id, Path, Elem, Ref}
 use Rattle.cs_view.specs.Limits.{most_names}
-use Rattle.cs_index.specs.Codes.{Seed, Hash, start, with_text, with_names, with_value, with_element, boolean_code, scalar_code, ref_code, key_code, scalar_codes, elements_codes, here, inside, pairs_inside, own_refs, refs, trees_refs, pairs_refs, codes, is_among}
-use Rattle.cs_index.specs.Kept.{IsKept}
+use Rattle.cs_codes.specs.Codes.{Seed, Hash, start, with_text, with_names, with_value, with_element, boolean_code, scalar_code, ref_code, key_code, scalar_codes, elements_codes, here, inside, pairs_inside, own_refs, refs, trees_refs, pairs_refs, codes, is_among}
+use Rattle.cs_codes.specs.Kept.{IsKept}
 
 or-true : (b : Bool) → (b || true) ≡ true
 or-true true = refl

@@ -1,7 +1,7 @@
 use Rattle.std.proofs.Common.{◌++◌, ◌∙◌, ap, sym}
 use Rattle.cs_value.proofs.Views.{walked}
-use Rattle.cs_index.specs.Codes.{pairs_refs}
-use Rattle.cs_index.proofs.walk.+refs.Goals as goal
+use Rattle.cs_codes.specs.Codes.{pairs_refs}
+use Rattle.cs_codes.proofs.walk.+refs.Goals as goal
 
 pub put_field_refs-loop-member-init : goal.put_field_refs-loop-member-init
 put_field_refs-loop-member-init t c =

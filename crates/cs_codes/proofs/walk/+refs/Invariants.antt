@@ -1,8 +1,8 @@
 use Rattle.std.proofs.Common.{◌≡◌, ◌++◌, drop}
 use Rattle.cs_value.specs.Tree.{trees}
 use Rattle.cs_value.specs.View.{list_tree, entries_tree, fields}
-use Rattle.cs_index.specs.Codes.{trees_refs, pairs_refs}
-use Rattle.cs_index.proofs.walk.+refs.Given as goal
+use Rattle.cs_codes.specs.Codes.{trees_refs, pairs_refs}
+use Rattle.cs_codes.proofs.walk.+refs.Given as goal
 
 abbrev pub invariant-put_field_refs-loop-member : goal.invariant-put_field_refs-loop-member
 invariant-put_field_refs-loop-member l =
