@@ -21,6 +21,7 @@ use cs_run::{Status, run};
 use cs_value::{NoMemory, Steps, Txt};
 use std::alloc::Global;
 use std::fs::Files;
+use std::hash::RandomState;
 use std::io::{self, Input, Print};
 use std::marker::Brand;
 use std::process::ExitCode;
@@ -29,11 +30,15 @@ use std::sync::ledger::{Blank, Ledger};
 /// The status where the machine hands over no words, or words that are no text.
 const NO_WORDS: u8 = 8;
 
+/// The status where the machine hands over no random numbers.
+const NO_SEED: u8 = 9;
+
 // Runs over files and the standard streams, with a counter of the run's own ledger.
 fn counted<L: Ledger, R: Files + Input + Print>(
     blank: Blank,
     rt: &R,
     alloc: Global,
+    seed: RandomState,
     words: &[Txt],
 ) -> Status
     requires name { blank.name ≡ L.name }
@@ -43,7 +48,7 @@ fn counted<L: Ledger, R: Files + Input + Print>(
     let mut steps = Steps::<L>::new(blank);
     let mut library = FileLibrary::new(alloc, rt);
     let mut sink = OutSink::new(rt);
-    run(alloc, words, &mut library, &mut sink, &mut steps)
+    run(alloc, seed, words, &mut library, &mut sink, &mut steps)
 }
 
 // The status where the words can't be had: the machine doesn't hand them over, or there is no
@@ -75,6 +80,9 @@ fn main(rt: HostRuntime) -> ExitCode {
     let Ok(words) = texts(alloc, words) else {
         return ExitCode::from(Status::NoMemory as u8);
     };
-    let status = counted::<Brand, HostRuntime>(Blank::new(1), &rt, alloc, words.as_slice());
+    let Ok(seed) = RandomState::new(&rt) else {
+        return ExitCode::from(NO_SEED);
+    };
+    let status = counted::<Brand, HostRuntime>(Blank::new(1), &rt, alloc, seed, words.as_slice());
     ExitCode::from(status as u8)
 }

@@ -2,6 +2,7 @@
 use crate::tests::{Outside, PLAIN, ends, played};
 use cs_run::Status;
 use std::alloc::Global;
+use std::random::RandomSource;
 use std::test::Fail;
 
 // Lines that ask for the files that there are, or for none.
@@ -109,19 +110,19 @@ const SUMMED_UP: [(&str, &str); 6] = [
 ];
 
 // How the run of a line ends, where there are a data file `data` and a script `-`.
-fn ended(alloc: Global, line: &str) -> Result<Status, Fail> {
+fn ended(rt: &impl RandomSource, alloc: Global, line: &str) -> Result<Status, Fail> {
     let outside = Outside {
         words: line,
         ..PLAIN
     };
-    let (status, _) = played(alloc, outside)?;
+    let (status, _) = played(rt, alloc, outside)?;
     Ok(status)
 }
 
 #[test]
 fn runs_what_there_is(rt: HostRuntime) -> Result<(), Fail> {
     for line in &RUN {
-        assert_eq!(rt; ended(rt.alloc(), line)?, Status::Done, "of {line}");
+        assert_eq!(rt; ended(&rt, rt.alloc(), line)?, Status::Done, "of {line}");
     }
     Ok(())
 }
@@ -129,7 +130,11 @@ fn runs_what_there_is(rt: HostRuntime) -> Result<(), Fail> {
 #[test]
 fn asks_for_what_is_not_there(rt: HostRuntime) -> Result<(), Fail> {
     for line in &ASK_FOR_MORE {
-        assert_eq!(rt; ended(rt.alloc(), line)?, Status::OpenFault, "of {line}");
+        assert_eq!(rt;
+            ended(&rt, rt.alloc(), line)?,
+            Status::OpenFault,
+            "of {line}"
+        );
     }
     Ok(())
 }
@@ -137,7 +142,7 @@ fn asks_for_what_is_not_there(rt: HostRuntime) -> Result<(), Fail> {
 #[test]
 fn refuses_other_words(rt: HostRuntime) -> Result<(), Fail> {
     for line in &REFUSED {
-        assert_eq!(rt; ended(rt.alloc(), line)?, Status::Usage, "of {line}");
+        assert_eq!(rt; ended(&rt, rt.alloc(), line)?, Status::Usage, "of {line}");
     }
     Ok(())
 }

@@ -2,6 +2,7 @@ mod Listening
 mod Living
 mod Noting
 mod Replying
+mod Storing
 mod Tallies
 mod Told
 mod Transacting

@@ -3,6 +3,7 @@ use Rattle.std.specs.Prelude.{◌≡◌, ℕ, List, Bool, false}
 use Rattle.indexmap.specs.IndexSet.{contains_text}
 use Rattle.cs_value.specs.Tree.{Tree}
 use Rattle.cs_docs.specs.Store.{docs}
+use Rattle.cs_index.specs.Index.{IsIndexOf}
 use Rattle.cs_live.specs.Entries.{lives}
 use Rattle.cs_live.specs.Fits.{Fits}
 use Rattle.cs_live.specs.Lives.{LiveQuery}
@@ -25,16 +26,17 @@ seen documents moment is_used living listening =
 abbrev pub state : Core → State
 state c = seen (docs c.docs) c.moment (contains_text c.used) (lives c.live) (listeners c.listeners)
 
--- the live queries fit the documents: their answers are their values, and what is kept beside these
--- is what finding them looked up
-abbrev pub IsFitting : Core → Type 0
-IsFitting c = Fits c.live (docs c.docs)
+-- what is kept beside the documents fits them: the index is theirs; and of the live queries the
+-- answers are their values, and what is kept with these is what finding them looked up
+pub record IsFitting (c : Core) : Type 0 where
+  pub lives : Fits c.live (docs c.docs)
+  pub index : IsIndexOf c.index c.docs
 
--- where the machine is not spent, its live queries fit its documents
+-- where the machine is not spent, what is kept beside its documents fits them
 abbrev pub IsSound : Core → Type 0
 IsSound c = c.spent ≡ false → IsFitting c
 
--- it is not spent, and its live queries fit
+-- it is not spent, and what is kept beside its documents fits them
 pub record IsUsable (c : Core) : Type 0 where
   pub unspent : c.spent ≡ false
   pub fitting : IsFitting c

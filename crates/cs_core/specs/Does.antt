@@ -58,6 +58,14 @@ heard_lines n es = lines_of n (map plain.event es)
 abbrev pub live_lines : ℕ → List Said → List ℕ
 live_lines n answers = lines_of n (map live_reply answers)
 
+-- the documents and their index apart, the machine is as it was
+pub record AllButStore (old new : Core) : Type 0 where
+  pub moment : new.moment ≡ old.moment
+  pub used : new.used ≡ old.used
+  pub live : new.live ≡ old.live
+  pub listeners : new.listeners ≡ old.listeners
+  pub spent : new.spent ≡ old.spent
+
 -- a failed step left the machine as it was
 pub record IsKept (old new : Core) : Type 0 where
   pub state_is : state new ≡ state old

@@ -13,6 +13,7 @@ ghost use Rattle.cs_core.specs.Does.{Does, IsKept};
 
 use crate::machine::{Core, ONE_ANSWER};
 use cs_gen::Tally;
+use cs_index::Indexed;
 use cs_json::Node;
 use cs_live::{LiveFault, LiveLine, MOST_LIVES};
 use cs_parse::parse;
@@ -86,7 +87,8 @@ impl Core {
             return self.refuse(Refusal::NameUsed { name }, line, out);
         }
         let named = Txt::copy_of(self.alloc, name.as_str())?;
-        match self.live.add(name, query, params, &self.docs, steps) {
+        let store = Indexed::of(&self.docs, &self.index);
+        match self.live.add(name, query, params, &store, steps) {
             Ok(first) => match write_answer(self.alloc, &first, line, out) {
                 Ok(()) => Ok(ONE_ANSWER),
                 Err(NoMemory) => {

@@ -11,7 +11,8 @@ ghost use Rattle.cs_reply.specs.View.{refusal};
 ghost use Rattle.cs_wire.specs.Blank.{is_blank};
 ghost use Rattle.cs_machine.specs.Machine.{deepest_line};
 ghost use Rattle.cs_gen.specs.Tally.{IsTally};
-ghost use Rattle.cs_core.specs.Core.{state, IsSound, IsUsable};
+ghost use Rattle.cs_core.specs.Core.{state, IsFitting, IsSound, IsUsable};
+ghost use Rattle.cs_index.specs.View.{store_of};
 ghost use Rattle.cs_core.specs.Does.{Does, IsKept, Leaves, LeavesAfter, step_writes, step_state, step_replies};
 ghost use Rattle.cs_wire.specs.Rows.{command};
 ghost use Rattle.cs_machine.specs.Machine.{by_command, heard, step};
@@ -21,6 +22,7 @@ ghost use Rattle.cs_machine.specs.State.{begun};
 
 use cs_docs::Docs;
 use cs_gen::Tally;
+use cs_index::{Index, Indexed};
 use cs_io::Line;
 use cs_json::{JsonFault, ValueReader};
 use cs_listen::Listeners;
@@ -30,6 +32,7 @@ use cs_value::{NoMemory, Steps, Txt, Val};
 use cs_wire::{BadCommand, Command, commands_are_within, is_blank};
 use indexmap::IndexSet;
 use std::alloc::Global;
+use std::hash::RandomState;
 use std::sync::ledger::Ledger;
 
 // How many levels of lists and objects a line may nest.
@@ -65,8 +68,8 @@ pub(crate) const ONE_REFUSAL: Tally = Tally {
 pub enum CoreFault {
     /// The allocator had no memory to give.
     NoMemory,
-    /// The machine is spent: at an earlier line there was no memory for the answers of live queries
-    /// behind a transaction that was installed.
+    /// The machine is spent: at an earlier line there was no memory for the index, or for the answers
+    /// of live queries, behind a transaction whose documents were installed.
     Spent,
 }
 
@@ -96,13 +99,16 @@ impl Replies {
 /// The machine: the documents that the lines so far have left, the moment, the ids of accepted
 /// transactions in the order in which they were, the live queries and the listeners.
 ///
+/// Its index finds the documents that have a key. No reply depends on the seed of the index.
+///
 /// A machine is spent where a transaction's documents were installed and there was no memory then
-/// for what its live queries answer. It can't be used on, and every step says so.
+/// for their index, or for what its live queries answer. It can't be used on, and every step says so.
 #[derive(Drop)]
 pub struct Core {
     pub(crate) alloc: Global,
     reader: ValueReader,
     pub(crate) docs: Docs,
+    pub(crate) index: Index,
     pub(crate) moment: Txt,
     pub(crate) used: IndexSet<String>,
     pub(crate) live: Live,
@@ -111,15 +117,18 @@ pub struct Core {
 }
 
 impl Core {
-    /// A machine with these documents, at the first moment, and with nothing else.
-    pub fn new(alloc: Global, docs: Docs) -> Result<Core, NoMemory>
+    /// A machine with these documents, at the first moment, and with nothing else. Which keys share
+    /// a code in its index depends on the seed, so that no one who chooses documents can choose it.
+    pub fn new(alloc: Global, seed: RandomState, docs: Docs) -> Result<Core, NoMemory>
         ensures begun { IfOk result (λ core. state core ≡ begun (docs_of docs)) }
         ensures usable { IfOk result (λ core. IsUsable core) }
     {
+        let index = Index::build(alloc, seed, &docs)?;
         Ok(Core {
             alloc,
             reader: ValueReader::new(alloc),
             docs,
+            index,
             moment: Txt::copy_of(alloc, FIRST_MOMENT)?,
             used: IndexSet::new(alloc),
             live: Live::new(alloc),
@@ -133,6 +142,14 @@ impl Core {
         ensures { docs_of result.now ≡ (state self.now).docs }
     {
         &self.docs
+    }
+
+    // The documents with their index.
+    pub(crate) fn store(&self) -> Indexed<'_>
+        requires { IsFitting self.now }
+        ensures { store_of result ≡ self.now.docs }
+    {
+        Indexed::of(&self.docs, &self.index)
     }
 
     /// One step of the machine: the replies to the line, as the plain machine gives them, and its

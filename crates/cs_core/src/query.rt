@@ -7,7 +7,7 @@ ghost use Rattle.cs_meaning.specs.Values.{query_value};
 ghost use Rattle.cs_docs.specs.Store.{docs as docs_of};
 ghost use Rattle.cs_reply.specs.Reply.{reply_tree, found as found_reply};
 ghost use Rattle.cs_reply.specs.View.{Appended};
-ghost use Rattle.cs_core.specs.Core.{state, IsUsable};
+ghost use Rattle.cs_core.specs.Core.{state, IsFitting, IsUsable};
 ghost use Rattle.cs_core.specs.Does.{Does};
 ghost use Rattle.cs_machine.specs.Rows.{row_query};
 
@@ -72,11 +72,13 @@ impl Core {
         steps: &mut Steps<L>,
         out: &mut Vec<u8>,
     ) -> Result<(), NoMemory>
+        requires fitting { IsFitting self.now }
         ensures { OnOk result (Appended out.old.items out.new.items (reply_tree line (found_reply
             (query_value (docs_of self.now.docs) (fields params.now) (expression_of query.now))))) }
     {
         let mut keys = Record::new(self.alloc);
-        let found = eval(self.alloc, query, params, &self.docs, &mut keys, steps)?;
+        let store = self.store();
+        let found = eval(self.alloc, query, params, &store, &mut keys, steps)?;
         write_found(self.alloc, found, line, out)
     }
 }

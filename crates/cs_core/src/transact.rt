@@ -22,13 +22,15 @@ ghost use Rattle.cs_machine.specs.Rows.{row_mutate, by_transaction, installed, o
 ghost use Rattle.cs_machine.specs.State.{with_lives, with_used};
 ghost use Rattle.cs_txn.specs.Within.{AreShort};
 ghost use Rattle.cs_core.specs.Core.{state, IsUsable};
-ghost use Rattle.cs_core.specs.Does.{Does, Leaves, IsTallyOf, heard_lines, live_lines};
+ghost use Rattle.cs_index.specs.Index.{IsIndexOf};
+ghost use Rattle.cs_core.specs.Does.{Does, Leaves, IsTallyOf, AllButStore, heard_lines, live_lines};
 
 use crate::live::write_answer;
 use crate::machine::{Core, ONE_REFUSAL};
 use cs_body::{Txn, TxnFault, transactions_are_within};
 use cs_docs::Prepared;
 use cs_gen::Tally;
+use cs_index::{Indexed, InstallFault, install};
 use cs_live::LiveLine;
 use cs_refusal::write_refused;
 use cs_reply::{Event, Operation, Outcome, Refusal, Reply};
@@ -172,7 +174,8 @@ impl Core {
         if self.used.contains(id) {
             return self.refuse(Refusal::TxUsed { id }, line, out);
         }
-        match prepare(self.alloc, &self.docs, &self.docs, txn, &self.moment, steps) {
+        let store = self.store();
+        match prepare(self.alloc, store, &store, txn, &self.moment, steps) {
             Ok(prepared) => self.accept(&txn.id, &prepared, line, steps, out),
             Err(refusal) => {
                 write_refused(self.alloc, &refusal, line, out)?;
@@ -202,7 +205,7 @@ impl Core {
         self.write_committed(tx, prepared, line, out)?;
         let events = self.write_events(tx, prepared, line, out)?;
         let id = self.room_for(tx)?;
-        self.docs.install(prepared)?;
+        self.install(tx, prepared)?;
         self.note(id);
         changes_lead_on_and_back();
         match self.tell_live(prepared.changes(), events, line, steps, out) {
@@ -257,6 +260,28 @@ impl Core {
         count(heard.len() as u64)
     }
 
+    // Installs the changes of an accepted transaction in the documents and in their index. The
+    // machine is spent where there was no memory for the index once the documents had changed.
+    fn install(&mut self, _tx: &Txt, prepared: &Prepared) -> Result<(), NoMemory>
+        requires taken { AreTaken (docs_of self.old.docs) (changes_of prepared.now) }
+        requires usable { IsUsable self.old }
+        ensures docs { OnOk result (docs_of self.new.docs
+            ≡ After (docs_of self.old.docs) (changes_of prepared.now)) }
+        ensures index { OnOk result (IsIndexOf self.new.index self.new.docs) }
+        ensures others { OnOk result (AllButStore self.old self.new) }
+        ensures leaves { OnErr result (Leaves self.old self.new (installed (state self.old) _tx.now
+            (After (docs_of self.old.docs) (changes_of prepared.now)) (changes_of prepared.now))) }
+    {
+        match install(&mut self.docs, &mut self.index, prepared) {
+            Ok(()) => Ok(()),
+            Err(InstallFault::NoMemory) => Err(NoMemory),
+            Err(InstallFault::Spent) => {
+                self.spent = true;
+                Err(NoMemory)
+            }
+        }
+    }
+
     // What live queries answer after the changes that were installed, behind the reply and so many
     // events. After `NoMemory` the live queries fit no documents any more.
     fn tell_live<L: Ledger>(
@@ -270,6 +295,7 @@ impl Core {
         requires changes { are_changes (edits changes.now) ≡ true }
         requires led { LeadTo (docs_of self.old.docs) (edits changes.now) }
         requires fits { Fits self.old.live (Before (docs_of self.old.docs) (edits changes.now)) }
+        requires index { IsIndexOf self.old.index self.old.docs }
         ensures lines { OnOk result (out.new.items ≡ out.old.items ++ live_lines line
             (news (docs_of self.old.docs) (lives self.old.live))) }
         ensures tally { IfOk result (λ tally. IsTallyOf tally events
@@ -279,9 +305,11 @@ impl Core {
             (state self.old)) }
         ensures fits { OnOk result (Fits self.new.live (docs_of self.new.docs)) }
         ensures docs { self.new.docs ≡ self.old.docs }
+        ensures index_kept { self.new.index ≡ self.old.index }
         ensures spent { self.new.spent ≡ self.old.spent }
     {
-        let answers = self.live.after_commit(&self.docs, changes, steps)?;
+        let store = Indexed::of(&self.docs, &self.index);
+        let answers = self.live.after_commit(&store, changes, steps)?;
         write_answers(self.alloc, answers.as_slice(), line, out)?;
         tally(events, count(answers.len() as u64)?)
     }
@@ -303,6 +331,7 @@ impl Core {
         requires { 1 ≤ spare self.old.used }
         ensures state { state self.new ≡ with_used (string_bytes id) (state self.old) }
         ensures docs { self.new.docs ≡ self.old.docs }
+        ensures index { self.new.index ≡ self.old.index }
         ensures live { self.new.live ≡ self.old.live }
         ensures spent { self.new.spent ≡ self.old.spent }
     {

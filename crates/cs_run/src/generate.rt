@@ -14,6 +14,7 @@ use cs_gen::{Tally, gen_line};
 use cs_io::Line;
 use cs_value::{NoMemory, Steps};
 use std::alloc::Global;
+use std::hash::RandomState;
 use std::mem;
 use std::sync::ledger::Ledger;
 
@@ -42,13 +43,14 @@ fn count_line<L: Ledger>(
 /// The summary of the generated script of so many documents, played from no documents: one line.
 pub(crate) fn summarize<L: Ledger>(
     alloc: Global,
+    seed: RandomState,
     documents: u32,
     steps: &mut Steps<L>,
 ) -> Result<Vec<u8>, NoMemory>
     requires few { documents ≤ most_generated }
     ensures { IfOk result (λ line. line.items ≡ summary documents) }
 {
-    let mut core = Core::new(alloc, Docs::new(alloc))?;
+    let mut core = Core::new(alloc, seed, Docs::new(alloc))?;
     let mut tally = Tally::new();
     let mut number = 0;
     'lines: while let Some(bytes) = gen_line(alloc, documents, number + 1)? {

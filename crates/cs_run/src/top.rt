@@ -28,6 +28,7 @@ use cs_load::{DataCause, LoadFault, load};
 use cs_reply::{Cause, Source, Stop};
 use cs_value::{Steps, Txt};
 use std::alloc::Global;
+use std::hash::RandomState;
 use std::mem;
 use std::sync::ledger::Ledger;
 
@@ -183,6 +184,7 @@ fn load_named<Lb: Library>(
 // Runs the lines of the script under an opened number, from these documents on.
 fn run_script<Lb: Library, K: Sink, L: Ledger>(
     alloc: Global,
+    seed: RandomState,
     number: u32,
     docs: Docs,
     library: &mut Lb,
@@ -199,7 +201,7 @@ fn run_script<Lb: Library, K: Sink, L: Ledger>(
     ensures asked { Lb.asked library.new ≡ Lb.asked library.old }
     ensures ends { (result ≢ Status.OpenFault) × (result ≢ Status.Usage) }
 {
-    let Ok(mut core) = Core::new(alloc, docs) else {
+    let Ok(mut core) = Core::new(alloc, seed, docs) else {
         return Status::NoMemory;
     };
     let mut lines = Lines::new(alloc, number);
@@ -233,6 +235,7 @@ fn run_script<Lb: Library, K: Sink, L: Ledger>(
 // Plays the script of a name, over the data file of a name where one is given.
 fn play_files<Lb: Library, K: Sink, L: Ledger>(
     alloc: Global,
+    seed: RandomState,
     file: Option<&str>,
     script: &str,
     library: &mut Lb,
@@ -258,7 +261,7 @@ fn play_files<Lb: Library, K: Sink, L: Ledger>(
         }
     };
     match library.open(script) {
-        Ok(number) => run_script(alloc, number, docs, library, sink, steps),
+        Ok(number) => run_script(alloc, seed, number, docs, library, sink, steps),
         Err(_) => Status::OpenFault,
     }
 }
@@ -266,6 +269,7 @@ fn play_files<Lb: Library, K: Sink, L: Ledger>(
 // Plays the generated script of so many documents, and writes the summary alone.
 fn sum_up<K: Sink, L: Ledger>(
     alloc: Global,
+    seed: RandomState,
     documents: u32,
     sink: &mut K,
     steps: &mut Steps<L>,
@@ -275,7 +279,7 @@ fn sum_up<K: Sink, L: Ledger>(
     ensures later { K.faults sink.old ≤ K.faults sink.new }
     ensures cause { result ≡ Status.WriteFault → Rose (K.faults sink.old) (K.faults sink.new) }
 {
-    match summarize(alloc, documents, steps) {
+    match summarize(alloc, seed, documents, steps) {
         Ok(line) => answer(sink, line.as_slice(), Status::Done),
         Err(_) => Status::NoMemory,
     }
@@ -283,7 +287,8 @@ fn sum_up<K: Sink, L: Ledger>(
 
 /// Runs the program: the words of its command line, of which the first is the program's name, over
 /// the library's files, with what is due written to the sink. `steps` counts the visits of
-/// documents.
+/// documents. Nothing that is written depends on `seed`: with one that no one can foresee, no one
+/// who chooses the documents can choose which keys the index of the documents confuses.
 ///
 /// The words are `--data NAME`, `--script NAME` and `--gen N`, each at most once; the script's name
 /// is `-` where none is given. The data file is loaded before the script is opened, and each line
@@ -293,6 +298,7 @@ fn sum_up<K: Sink, L: Ledger>(
 /// and what was written.
 pub fn run<Lb: Library, K: Sink, L: Ledger>(
     alloc: Global,
+    seed: RandomState,
     words: &[Txt],
     library: &mut Lb,
     sink: &mut K,
@@ -317,9 +323,9 @@ pub fn run<Lb: Library, K: Sink, L: Ledger>(
 {
     match read_words(alloc, words) {
         Ok(Task::Play { data: file, script }) => play_files(
-            alloc, file, script, library, sink, steps,
+            alloc, seed, file, script, library, sink, steps,
         ),
-        Ok(Task::Generate { documents }) => sum_up(alloc, documents, sink, steps),
+        Ok(Task::Generate { documents }) => sum_up(alloc, seed, documents, sink, steps),
         Err(WordsFault::Refused) => answer(sink, USAGE, Status::Usage),
         Err(WordsFault::NoMemory) => Status::NoMemory,
     }

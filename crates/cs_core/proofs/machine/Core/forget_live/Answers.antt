@@ -12,7 +12,10 @@ returns-in-Ok-clause-usable c =
     let core = c.args.self.now in
     record {
       unspent = c.requires.usable.unspent;
-      fitting = c.remove.ensures.fits (docs core.docs) c.requires.usable.fitting;
+      fitting = record {
+        lives = c.remove.ensures.fits (docs core.docs) c.requires.usable.fitting.lives;
+        index = c.requires.usable.fitting.index;
+      };
     }
 
 pub returns-in-Err-clause-state : goal.returns-in-Err-clause-state

@@ -1,0 +1,34 @@
+-- What installing changes leaves of the machine.
+use Rattle.std.proofs.Common.{◌≡◌, refl, sym, ap, subst, ◌∙◌, Bool, true, false}
+use Rattle.cs_docs.specs.Store.{docs}
+use Rattle.cs_docs.specs.declared.docs.Docs.{Docs}
+use Rattle.cs_index.specs.Index.{IsIndexOf}
+use Rattle.cs_machine.specs.Fold.{Stepped}
+use Rattle.cs_machine.specs.State.{State, with_docs}
+use Rattle.cs_core.specs.Core.{state}
+use Rattle.cs_core.specs.Does.{AllButStore, IsInstalled, IsKept, Leaves, LeavesBy}
+use Rattle.cs_core.specs.declared.machine.Core.{Core}
+
+-- the state is another in its documents alone
+pub but_store : (old new : Core) → AllButStore old new
+    → state new ≡ with_docs (docs new.docs) (state old)
+but_store old new h = rw (h.moment, h.used, h.live, h.listeners) refl
+
+-- the index and its documents stay
+pub index_as : (old new : Core) → new.index ≡ old.index → new.docs ≡ old.docs
+    → IsIndexOf old.index old.docs → IsIndexOf new.index new.docs
+index_as old new same kept h =
+    subst (λ (d : Docs). IsIndexOf new.index d) (sym kept)
+    (subst (λ i. IsIndexOf i old.docs) (sym same) h)
+
+leaves_by : (b : Bool) (old mid new : Core) (f : State → Stepped State) → state mid ≡ state old
+    → LeavesBy b mid new (f (state mid)) → LeavesBy b old new (f (state old))
+leaves_by false old mid new f same h =
+    record { state_is = h.state_is ∙ same; usable = h.usable }
+leaves_by true old mid new f same h =
+    subst (λ (s : State). IsInstalled new (f s)) same h
+
+-- how a step leaves a machine follows from its state alone
+pub leaves_from : (old mid new : Core) (f : State → Stepped State) → state mid ≡ state old
+    → Leaves mid new (f (state mid)) → Leaves old new (f (state old))
+leaves_from old mid new f same h = leaves_by new.spent old mid new f same h
