@@ -12,6 +12,7 @@ use Rattle.cs_view.proofs.Changed.{ascending-After}
 use Rattle.cs_shelf.specs.View.{documents}
 use Rattle.cs_shelf.proofs.Standing.{ascending-documents}
 use Rattle.cs_docs.proofs.Counts.{stood, standing, counted}
+use Rattle.cs_index.specs.View.{store_of}
 use Rattle.cs_working.specs.Counted.{standing_among}
 use Rattle.cs_working.specs.Noted.{AreNoted}
 use Rattle.cs_working.specs.Working.{worked, base, working}
@@ -71,5 +72,5 @@ among_all put touched asc noted sorted =
 
 pub counted_working : (w : Working) → IsOrdered id_cmp w.touched → length (working w) + standing_among (base w) w.touched.keys ≡ length (base w) + length (documents w.put)
 counted_working w sorted =
-    counted_worked (base w) (documents w.put) w.touched.keys (ascending-documents w.store.now.shelf) sorted
+    counted_worked (base w) (documents w.put) w.touched.keys (ascending-documents (store_of w.store).shelf) sorted
     ∙ ap (λ n. length (base w) + n) (among_all (documents w.put) w.touched (ascending-documents w.put) w.noted sorted)

@@ -15,6 +15,7 @@ use Rattle.cs_view.proofs.Datasets.{same_id-same, same_docs, ascending-filter, A
 use Rattle.cs_shelf.specs.View.{documents}
 use Rattle.cs_shelf.proofs.Standing.{ascending-documents}
 use Rattle.cs_docs.proofs.Filters.{is_lt-Less, IsBelow, below-head, below-tail, head-below, tail-ascends, members}
+use Rattle.cs_index.specs.View.{store_of}
 use Rattle.cs_working.specs.Working.{worked, base, working}
 use Rattle.cs_working.specs.declared.working.Working.{Working}
 use Rattle.cs_working.proofs.Workings.{At-working}
@@ -45,7 +46,7 @@ all-upper P id (d ∷ ds) h =
     let rest = all-upper P id ds h.1 in
     elim (is_lt (id_cmp (id_of d) id)) as (λ b. AllByRecursion P (cond b (upper_docs id ds) (d ∷ ds))) [ true ↦ rest | false ↦ h ]
 
-all-filter : (P : Tree → Type 0) (p : Tree → Bool) (ds : List Tree) → AllByRecursion P ds → AllByRecursion P (filter p ds)
+pub all-filter : (P : Tree → Type 0) (p : Tree → Bool) (ds : List Tree) → AllByRecursion P ds → AllByRecursion P (filter p ds)
 all-filter P p [] h = tt
 all-filter P p (d ∷ ds) h =
     let rest = all-filter P p ds h.1 in
@@ -219,7 +220,7 @@ kept_side p false one other = refl
 pub merged_working : (w : Working) (k : Key) → merged_docs (contains id_cmp w.touched) (Sel k (base w)) (Sel k (documents w.put)) ≡ Sel k (working w)
 merged_working w k =
     let t : List ℕ → Bool = contains id_cmp w.touched in
-    let store : ascending (base w) ≡ true = ascending-documents w.store.now.shelf in
+    let store : ascending (base w) ≡ true = ascending-documents (store_of w.store).shelf in
     let put : ascending (documents w.put) ≡ true = ascending-documents w.put in
     let now : ascending (working w) ≡ true = ascending-After (base w) (worked (base w) (documents w.put) w.touched.keys) store in
     let all : AreTouched t (Sel k (documents w.put)) = all-filter _ (has k) (documents w.put) (touched_put w) in

@@ -10,6 +10,7 @@ use Rattle.cs_view.proofs.Booleans.{and-left, and-right, both}
 use Rattle.cs_view.proofs.Changed.{dataset-After}
 use Rattle.cs_shelf.specs.View.{documents}
 use Rattle.cs_shelf.proofs.Standing.{dataset}
+use Rattle.cs_index.specs.View.{store_of}
 use Rattle.cs_working.specs.Working.{worked, base, working}
 use Rattle.cs_working.specs.declared.working.Working.{Working}
 
@@ -35,7 +36,7 @@ are_documents_worked docs put (x ∷ ids) g h =
 -- it is a dataset
 pub is_dataset_of : (w : Working) → is_dataset (working w) ≡ true
 is_dataset_of w =
-    let before : is_dataset (base w) ≡ true = dataset w.store.now.shelf in
+    let before : is_dataset (base w) ≡ true = dataset (store_of w.store).shelf in
     let put : is_dataset (documents w.put) ≡ true = dataset w.put in
     dataset-After (base w) (worked (base w) (documents w.put) w.touched.keys) before
     (are_documents_worked (base w) (documents w.put) w.touched.keys

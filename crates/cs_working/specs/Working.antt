@@ -5,7 +5,7 @@ use Rattle.cs_view.specs.Dataset.{At}
 use Rattle.cs_view.specs.Changes.{Edit, After}
 use Rattle.cs_shelf.specs.Places.{most_places}
 use Rattle.cs_shelf.specs.View as shelf
-use Rattle.cs_docs.specs.Store as store
+use Rattle.cs_index.specs.View as store
 use Rattle.cs_working.specs.declared.working.Working.{Working}
 
 -- the changes from one dataset to what another holds under these ids
@@ -14,7 +14,7 @@ worked docs put ids = map (λ x. (x, (At x docs, At x put))) ids
 
 -- the dataset of the store
 abbrev pub base : Working → List Tree
-base w = store.docs w.store.now
+base w = store.indexed w.store
 
 abbrev pub working : Working → List Tree
 working w = After (base w) (worked (base w) (shelf.documents w.put) w.touched.keys)
@@ -23,5 +23,5 @@ working w = After (base w) (worked (base w) (shelf.documents w.put) w.touched.ke
 abbrev pub doc_at : Working → ℕ → Option Tree
 doc_at w p =
     cond (nat_lt p most_places)
-    (store.doc_at w.store.now p)
+    (store.doc_at w.store p)
     (shelf.doc_at w.put (p - most_places))

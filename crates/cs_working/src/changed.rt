@@ -73,7 +73,7 @@ impl<'d> Working<'d> {
         let _len = self.touched.len();
         let mut changes = Vec::new(self.alloc);
         for id in self.touched.iter() {
-            let found = change_of(self.alloc, id, self.store.get(id), self.put.get(id))?;
+            let found = change_of(self.alloc, id, self.stored(id), self.put.get(id))?;
             keep(&mut changes, found)?;
         }
         Ok(changes)

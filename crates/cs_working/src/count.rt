@@ -12,7 +12,7 @@ impl<'d> Working<'d> {
     fn is_in_store(&self, id: &Txt) -> bool
         ensures { result ≡ stands id.now (base self.now) }
     {
-        self.store.get(id).is_some()
+        self.stored(id).is_some()
     }
 
     // How many of the touched ids have a document in the store.
@@ -35,7 +35,7 @@ impl<'d> Working<'d> {
     pub(crate) fn count(&self) -> u32
         ensures { result ≡ length (working self.now) }
     {
-        let untouched = self.store.len() - self.touched_in_store();
+        let untouched = self.store.docs().len() - self.touched_in_store();
         untouched + self.put.count() as u32
     }
 }

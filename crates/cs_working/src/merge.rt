@@ -5,16 +5,17 @@ ghost use Rattle.cs_view.specs.Dataset.{id_cmp};
 ghost use Rattle.cs_view.specs.Keys.{Sel};
 ghost use Rattle.cs_shelf.specs.Places.{most_places};
 ghost use Rattle.cs_shelf.specs.View.{doc_at as put_at};
-ghost use Rattle.cs_docs.specs.Store.{doc_at as store_at};
-ghost use Rattle.cs_working.specs.Merged.{ArePlaces, id_at, behind, lower, upper, merged};
+ghost use Rattle.cs_index.specs.View.{doc_at as store_at};
+ghost use Rattle.cs_working.specs.Merged.{ArePlaces, id_at, behind, lower, upper, low_place, merged};
 ghost use Rattle.cs_working.specs.Working.{working, doc_at};
 
 use crate::working::Working;
 use cs_shelf::{MOST_PLACES, Shelf};
 use cs_value::{NoMemory, Txt};
-use cs_view::Key;
+use cs_view::{Key, View};
 use std::alloc::Global;
 use std::cmp::Ordering;
+use std::sync::ledger::Ledger;
 
 // Whether the document at the place comes before the id.
 fn is_lower(shelf: &Shelf, place: u32, id: &Txt) -> bool
@@ -61,6 +62,21 @@ fn add_lower<'p>(
 }
 
 impl<'d> Working<'d> {
+    // A place below `MOST_PLACES` of the document that the store holds under the id and at the
+    // place: the place itself, if it is below. The place that the store gives for an id is below;
+    // no clause says so of the places that it finds by a key.
+    fn low_place(&self, place: u32, id: &Txt) -> u32
+        ensures { result ≡ low_place self.now place id.now }
+    {
+        if place < MOST_PLACES {
+            return place;
+        }
+        match self.store.docs().place(id) {
+            Some(low) => low,
+            None => place,
+        }
+    }
+
     // Adds the place of the store, unless its id is touched, behind the places of what is put that
     // come before it, and gives those that are left.
     fn add_standing<'p>(
@@ -69,25 +85,25 @@ impl<'d> Working<'d> {
         place: u32,
         put: &'p [u32],
     ) -> Result<&'p [u32], NoMemory>
-        requires stands { IsSome (store_at self.now.store.now place) }
+        requires stands { IsSome (store_at self.now.store place) }
         requires put { ArePlaces (put_at self.now.put) put.now }
         ensures added { IfOk result (λ rest. (more : List ℕ)
             → places.new.items ++ merged self.now more rest.now
             ≡ places.old.items ++ merged self.now (place ∷ more) put.now) }
         ensures stand { IfOk result (λ rest. ArePlaces (put_at self.now.put) rest.now) }
     {
-        let id = self.store.at(place).id();
+        let id = self.store.docs().at(place).id();
         if self.touched.contains(id) {
             return Ok(put);
         }
         let left = add_lower(&self.put, places, put, id)?;
-        places.push(place)?;
+        places.push(self.low_place(place, id))?;
         Ok(left)
     }
 
     // The places of the store, less those of touched ids, and among them those of what is put.
     fn merge(&self, alloc: Global, standing: &[u32], put: &[u32]) -> Result<Vec<u32>, NoMemory>
-        requires stand { All (λ p. IsSome (store_at self.now.store.now p)) standing.now }
+        requires stand { All (λ p. IsSome (store_at self.now.store p)) standing.now }
         requires put { ArePlaces (put_at self.now.put) put.now }
         ensures { IfOk result
             (λ places. places.items ≡ merged self.now standing.now put.now) }
@@ -101,14 +117,14 @@ impl<'d> Working<'d> {
         Ok(places)
     }
 
-    // The places of the documents that have the key, in the order of their ids. The store is asked
-    // for its own, and only what is put is tested besides.
-    pub(crate) fn select(&self, alloc: Global, key: &Key) -> Result<Vec<u32>, NoMemory>
+    // The places of the documents that have the key, in the order of their ids. Those of the store
+    // are found by its index, and only what is put is tested besides.
+    pub(crate) fn select<L: Ledger>(&self, alloc: Global, key: &Key) -> Result<Vec<u32>, NoMemory>
         ensures { IfOk result
             (λ places. map (doc_at self.now) places.items
             ≡ map Some (Sel key.now (working self.now))) }
     {
-        let standing = self.store.select(alloc, key)?;
+        let standing = View::<L>::select(&self.store, alloc, key)?;
         let put = self.put.select(alloc, key)?;
         self.merge(alloc, standing.as_slice(), put.as_slice())
     }

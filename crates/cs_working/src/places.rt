@@ -17,7 +17,7 @@ impl<'d> Working<'d> {
         ensures { option_map (doc_at self.now) result
             ≡ option_map Some (At id.now (base self.now)) }
     {
-        self.store.place(id)
+        self.store.docs().place(id)
     }
 
     // The place of what is put under the id.
@@ -49,7 +49,7 @@ impl<'d> Working<'d> {
         ensures { doc_at self.now place ≡ Some (document result.now) }
     {
         if place < MOST_PLACES {
-            self.store.at(place)
+            self.store.docs().at(place)
         } else {
             self.put.at(place - MOST_PLACES)
         }

@@ -22,7 +22,7 @@ impl<'d, L: Ledger> View<L> for Working<'d> {
     }
 
     fn select(&self, alloc: Global, key: &Key) -> Result<Vec<u32>, NoMemory> {
-        Working::select(self, alloc, key)
+        Working::select::<L>(self, alloc, key)
     }
 
     fn at(&self, place: u32, steps: &mut Steps<L>) -> &Doc {

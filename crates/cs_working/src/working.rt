@@ -4,10 +4,10 @@ ghost use Rattle.cs_view.specs.Dataset.{At, stands, with_doc, without};
 ghost use Rattle.cs_view.specs.Document.{id_of};
 ghost use Rattle.cs_view.specs.View.{doc as document};
 ghost use Rattle.cs_shelf.specs.View.{documents};
-ghost use Rattle.cs_docs.specs.Store.{docs};
+ghost use Rattle.cs_index.specs.View.{indexed};
 ghost use Rattle.cs_working.specs.Noted.{AreNoted};
 
-use cs_docs::Docs;
+use cs_index::Indexed;
 use cs_shelf::Shelf;
 use cs_value::{NoMemory, Txt};
 use cs_view::Doc;
@@ -18,7 +18,7 @@ use std::collections::BTreeSet;
 /// put so far. Contracts see it as the dataset that stands now.
 #[derive(Drop)]
 pub struct Working<'d> {
-    pub(crate) store: &'d Docs,
+    pub(crate) store: Indexed<'d>,
     pub(crate) put: Shelf,
     pub(crate) touched: BTreeSet<Txt>,
     pub(crate) alloc: Global,
@@ -43,9 +43,9 @@ impl<'d> Working<'d> {
     ghost use Rattle.cs_working.specs.Working.{base, working};
 
     /// The store's dataset, with nothing done to it yet. It takes no memory.
-    pub fn of(alloc: Global, store: &'d Docs) -> Working<'d>
-        ensures store { base result ≡ docs store.now }
-        ensures working { working result ≡ docs store.now }
+    pub fn of(alloc: Global, store: Indexed<'d>) -> Working<'d>
+        ensures store { base result ≡ indexed store.entry }
+        ensures working { working result ≡ indexed store.entry }
     {
         Working {
             store,
@@ -55,6 +55,13 @@ impl<'d> Working<'d> {
         }
     }
 
+    // What the store holds under the id.
+    pub(crate) fn stored(&self, id: &Txt) -> Option<&Doc>
+        ensures { option_map (λ d. document d.now) result ≡ At id.now (base self.now) }
+    {
+        self.store.docs().get(id)
+    }
+
     /// The document with the id: `None` exactly where there is none.
     pub fn get(&self, id: &Txt) -> Option<&Doc>
         ensures { option_map (λ d. document d.now) result ≡ At id.now (working self.now) }
@@ -62,7 +69,7 @@ impl<'d> Working<'d> {
         if self.touched.contains(id) {
             self.put.get(id)
         } else {
-            self.store.get(id)
+            self.stored(id)
         }
     }
 

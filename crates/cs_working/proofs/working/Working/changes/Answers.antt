@@ -19,7 +19,7 @@ loop-id-preserved c = λ more kept.
     let x : List ℕ = c.in-Some.id.now in
     let o : Option Edit = option_map edit c.in_ok-found.found in
     let one : IsOneChange x (At x ds) (At x put) o =
-    subst (λ (a : Option Tree). IsOneChange x (At x ds) a o) c.get-in-loop-id.ensures (subst (λ (b : Option Tree). IsOneChange x b (option_map (λ d. doc d.now) c.get-in-loop-id.result) o) c.get.ensures c.in_ok-found.ensures) in
+    subst (λ (a : Option Tree). IsOneChange x (At x ds) a o) c.get.ensures (subst (λ (b : Option Tree). IsOneChange x b (option_map (λ d. doc d.now) c.get.result) o) c.stored.ensures c.in_ok-found.ensures) in
     subst (Kept ds put self.touched.keys) (sym (append_assoc (edits c.loop-id.changes.items) (option_to_list o) more) ∙ ap (λ (es : List Edit). es ++ more) (sym c.in_ok-keep.ensures))
     (c.loop-id.invariant (option_to_list o ++ more) (subst (λ (ids : List (List ℕ)). Kept ds put ids (option_to_list o ++ more)) (sym c.in-Some.ensures.steps) (o, more, one, refl, kept)))
 

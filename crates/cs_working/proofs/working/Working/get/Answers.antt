@@ -15,4 +15,4 @@ pub returns-else-contains : goal.returns-else-contains
 returns-else-contains c =
     let self = c.args.self.now in
     let id = c.args.id.now in
-    c.get-else-contains.ensures ∙ sym (At-working self id ∙ ap (λ b. cond b (At id (documents self.put)) (At id (base self))) (sym c.contains.ensures ∙ c.if-contains.false))
+    c.stored.ensures ∙ sym (At-working self id ∙ ap (λ b. cond b (At id (documents self.put)) (At id (base self))) (sym c.contains.ensures ∙ c.if-contains.false))

@@ -6,6 +6,7 @@ use Rattle.cs_view.specs.View.{doc}
 use Rattle.cs_view.proofs.Datasets.{same_id-refl, At-with_doc}
 use Rattle.cs_shelf.specs.View.{documents}
 use Rattle.cs_shelf.proofs.Standing.{ascending-documents}
+use Rattle.cs_index.specs.View.{store_of}
 use Rattle.cs_working.specs.Working.{base}
 use Rattle.cs_working.proofs.Noting.{noted_at, noted_still, either}
 use Rattle.cs_working.proofs.Workings.{worked_on, on_ok}
@@ -18,7 +19,7 @@ returns-clause-put c =
     let touched : (q : List ℕ) → contains id_cmp c.insert.new.self q ≡ cond (same_id (id_of d) q) true (contains id_cmp self.touched q) =
     subst (λ (i : List ℕ). (q : List ℕ) → contains id_cmp c.insert.new.self q ≡ cond (same_id i q) true (contains id_cmp self.touched q)) (c.in_ok-id.ensures ∙ c.as_str.ensures ∙ c.id.ensures) c.in_ok-insert.ensures.updates.0 in
     on_ok c.put_in.result c.put_in.ensures.put
-    (λ is. worked_on (base self) (documents self.put) (documents c.put_in.new.shelf) self.touched.keys c.insert.new.self.keys (id_of d) (Some d) (ascending-documents self.store.now.shelf) (same_id-refl (id_of d)) touched
+    (λ is. worked_on (base self) (documents self.put) (documents c.put_in.new.shelf) self.touched.keys c.insert.new.self.keys (id_of d) (Some d) (ascending-documents (store_of self.store).shelf) (same_id-refl (id_of d)) touched
     (λ q. ap (At q) is ∙ At-with_doc q d (documents self.put)))
 
 pub invariant_of-self-2 : goal.invariant_of-self-2

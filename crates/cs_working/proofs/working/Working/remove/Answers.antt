@@ -4,6 +4,7 @@ use Rattle.cs_view.specs.Dataset.{At, id_cmp, same_id}
 use Rattle.cs_view.proofs.Datasets.{At-without}
 use Rattle.cs_shelf.specs.View.{documents}
 use Rattle.cs_shelf.proofs.Standing.{ascending-documents}
+use Rattle.cs_index.specs.View.{store_of}
 use Rattle.cs_working.specs.Working.{base}
 use Rattle.cs_working.proofs.Noting.{noted_at}
 use Rattle.cs_working.proofs.Workings.{worked_on}
@@ -15,7 +16,7 @@ returns-clause-removed c =
     let id = c.args.id.now in
     let touched : (q : List ℕ) → contains id_cmp c.insert.new.self q ≡ cond (same_id id q) true (contains id_cmp self.touched q) =
     subst (λ (i : List ℕ). (q : List ℕ) → contains id_cmp c.insert.new.self q ≡ cond (same_id i q) true (contains id_cmp self.touched q)) (c.in_ok-copy.ensures ∙ c.as_str.ensures) c.in_ok-insert.ensures.updates.0 in
-    worked_on (base self) (documents self.put) (documents c.remove.new.self) self.touched.keys c.insert.new.self.keys id None (ascending-documents self.store.now.shelf) refl touched
+    worked_on (base self) (documents self.put) (documents c.remove.new.self) self.touched.keys c.insert.new.self.keys id None (ascending-documents (store_of self.store).shelf) refl touched
     (λ q. ap (At q) c.remove.ensures.removed ∙ At-without q id (documents self.put))
 
 pub invariant_of-self-2 : goal.invariant_of-self-2

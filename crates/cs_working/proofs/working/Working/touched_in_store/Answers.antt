@@ -1,5 +1,6 @@
 use Rattle.std.proofs.Common.{◌≡◌, ◌∙◌, ap, arith}
 use Rattle.cs_shelf.proofs.Standing.{ascending-documents}
+use Rattle.cs_index.specs.View.{store_of}
 use Rattle.cs_working.specs.Counted.{standing_among}
 use Rattle.cs_working.specs.Working.{base}
 use Rattle.cs_working.proofs.Counting.{among-le, counted_working}
@@ -12,8 +13,8 @@ loop-id-init c =
     ap (standing_among (base self)) (c.into_iter-id-iterator.ensures.into_iter_gives ∙ c.iter-id-items.ensures.rest) in
     record {
       count = omega (arith, all);
-      within = among-le (base self) self.touched.keys (ascending-documents self.store.now.shelf) c.len-len.ensures.ordered;
-      few = self.store.now.within;
+      within = among-le (base self) self.touched.keys (ascending-documents (store_of self.store).shelf) c.len-len.ensures.ordered;
+      few = (store_of self.store).within;
     }
 
 pub returns-clause-count : goal.returns-clause-count
