@@ -3,8 +3,9 @@ ghost use Rattle.std.specs.Prelude.{◌≡◌, ◌≤◌, ◌<◌, ◌^◌, ◌+
 ghost use Rattle.cs_value.specs.Tree.{Tree};
 ghost use Rattle.cs_view.specs.Changes.{After, AreChangesBetween};
 ghost use Rattle.cs_docs.specs.Faults.{IsFault};
-ghost use Rattle.cs_docs.specs.Store.{docs as docs_of, prepared};
+ghost use Rattle.cs_docs.specs.Store.{prepared};
 ghost use Rattle.cs_docs.specs.Verdict.{Verdict, AreTaken};
+ghost use Rattle.cs_index.specs.View.{indexed};
 ghost use Rattle.cs_body.specs.View.{action, txn as transaction};
 ghost use Rattle.cs_txn.specs.Commit.{commit, folded, held};
 ghost use Rattle.cs_txn.specs.View.{IsRefusal};
@@ -15,7 +16,8 @@ ghost use Rattle.cs_working.specs.Working.{base, working as working_docs};
 use crate::mutate::mutate;
 use crate::why::{Refusal, Why};
 use cs_body::Txn;
-use cs_docs::{Docs, PrepareFault, Prepared, Referrers};
+use cs_docs::{PrepareFault, Prepared, Referrers};
+use cs_index::Indexed;
 use cs_value::{Steps, Txt};
 use cs_working::Working;
 use std::alloc::Global;
@@ -72,8 +74,9 @@ fn refusal_of(fault: PrepareFault) -> Refusal
 
 /// What a transaction comes to over a store's dataset at a moment: the changes from it to the
 /// dataset after the transaction, or the refusal. The mutations are done one after another to a
-/// dataset that is worked on, over which the queries inside them are evaluated too, and the store
-/// stays as it is until the changes are installed. Strong references and the number of documents
+/// dataset that is worked on, over which the queries inside them are evaluated too: by the index of
+/// the store, and by what was put so far. The store stays as it is until the changes are installed.
+/// Strong references and the number of documents
 /// are asked for after the last mutation alone.
 ///
 /// `referrers` knows who refers to an id in the store's dataset. There are fewer than 2^31
@@ -85,26 +88,26 @@ fn refusal_of(fault: PrepareFault) -> Refusal
 /// the allocator has no room, and says nothing of the transaction.
 pub fn prepare<R: Referrers, L: Ledger>(
     alloc: Global,
-    docs: &Docs,
+    store: Indexed<'_>,
     referrers: &R,
     txn: &Txn,
     moment: &Txt,
     steps: &mut Steps<L>,
 ) -> Result<Prepared, Refusal>
-    requires same { R.dataset referrers.now ≡ docs_of docs.now }
+    requires same { R.dataset referrers.now ≡ indexed store }
     requires few { length txn.now.mutations.items < 2 ^ 31 }
     requires short { AreShort (transaction txn.now).actions }
-    ensures accepted { IfOk result (λ p. commit (transaction txn.now) moment.now (docs_of docs.now)
-        ≡ Ok (After (docs_of docs.now) (prepared p))) }
-    ensures changes { IfOk result (λ p. AreChangesBetween (docs_of docs.now)
-        (After (docs_of docs.now) (prepared p)) (prepared p)) }
-    ensures taken { IfOk result (λ p. AreTaken (docs_of docs.now) (prepared p)) }
+    ensures accepted { IfOk result (λ p. commit (transaction txn.now) moment.now
+        (indexed store.entry) ≡ Ok (After (indexed store.entry) (prepared p))) }
+    ensures changes { IfOk result (λ p. AreChangesBetween (indexed store.entry)
+        (After (indexed store.entry) (prepared p)) (prepared p)) }
+    ensures taken { IfOk result (λ p. AreTaken (indexed store.entry) (prepared p)) }
     ensures refused { IfErr result (λ r. IsRefusal r
-        (commit (transaction txn.now) moment.now (docs_of docs.now))) }
+        (commit (transaction txn.now) moment.now (indexed store.entry))) }
     ensures visits { are_simple (transaction txn.now).actions ≡ true → steps.new ≤ steps.old
-        + costs txn.now.id moment.now 0 (transaction txn.now).actions (docs_of docs.now) }
+        + costs txn.now.id moment.now 0 (transaction txn.now).actions (indexed store.entry) }
 {
-    let mut working = Working::of(alloc, docs);
+    let mut working = Working::of(alloc, store);
     fold(alloc, &mut working, txn, moment, steps)?;
     let changes = match working.changes() {
         Ok(changes) => changes,
@@ -115,7 +118,7 @@ pub fn prepare<R: Referrers, L: Ledger>(
             });
         }
     };
-    match Prepared::make(alloc, docs, referrers, changes) {
+    match Prepared::make(alloc, store.docs(), referrers, changes) {
         Ok(prepared) => Ok(prepared),
         Err(fault) => Err(refusal_of(fault)),
     }

@@ -1,9 +1,12 @@
-use Rattle.std.proofs.Common.{◌≡◌, ◌∙◌, List, ap, subst}
+use Rattle.std.proofs.Common.{◌≡◌, ◌∙◌, List, ap, subst, sym}
 use Rattle.cs_value.specs.Tree.{Tree}
-use Rattle.cs_view.specs.Changes.{After}
+use Rattle.cs_view.specs.Changes.{After, LeadFrom}
 use Rattle.cs_view.specs.View.{edits}
+use Rattle.cs_docs.specs.Faults.{IsFault}
 use Rattle.cs_docs.specs.Store.{docs, prepared}
-use Rattle.cs_docs.specs.Verdict.{verdict}
+use Rattle.cs_docs.specs.Verdict.{verdict, AreTaken}
+use Rattle.cs_docs.specs.declared.docs.Docs.{Docs}
+use Rattle.cs_index.specs.View.{store_of}
 use Rattle.cs_body.specs.View.{txn}
 use Rattle.cs_working.specs.Working.{working}
 use Rattle.cs_txn.specs.Commit.{folded}
@@ -12,35 +15,39 @@ use Rattle.cs_txn.proofs.commit.prepare.Goals as goal
 
 pub make-requires-clause-changes : goal.make-requires-clause-changes
 make-requires-clause-changes g c =
-    (led c.args.docs.now c.fold.new.working (edits c.in-Ok.changes.items)
+    (led (store_of c.args.store) c.fold.new.working (edits c.in-Ok.changes.items)
     (c.in_ok-fold.ensures.store ∙ c.of-working.ensures.store) c.in-Ok.ensures).0
 
 pub make-requires-clause-leads : goal.make-requires-clause-leads
 make-requires-clause-leads g c =
-    (led c.args.docs.now c.fold.new.working (edits c.in-Ok.changes.items)
+    let cs = edits c.in-Ok.changes.items in
+    subst (λ (d : Docs). LeadFrom (docs d) cs) (sym c.docs.ensures)
+    (led (store_of c.args.store) c.fold.new.working cs
     (c.in_ok-fold.ensures.store ∙ c.of-working.ensures.store) c.in-Ok.ensures).1
 
 pub returns-in-Ok-make-clause-accepted : goal.returns-in-Ok-make-clause-accepted
 returns-in-Ok-make-clause-accepted g c =
-    let store = c.args.docs.now in
+    let store = store_of c.args.store in
     let t = txn c.args.txn.now in
     let w = c.fold.new.working in
     let facts = led store w (edits c.in-Ok.changes.items)
     (c.in_ok-fold.ensures.store ∙ c.of-working.ensures.store) c.in-Ok.ensures in
+    let taken = subst (λ (d : Docs). AreTaken (docs d) (prepared c.in-Ok-make.prepared))
+    c.docs.ensures c.in-Ok-make.ensures.1 in
     judged_fits _ (working w) (After (docs store) (prepared c.in-Ok-make.prepared))
     (subst (λ (d : List Tree). folded t.id c.args.moment.now 0 t.actions d ≡ accepted (working w))
     c.of-working.ensures.working c.in_ok-fold.ensures.folded)
-    (ap (After (docs store)) c.in-Ok-make.ensures.0 ∙ facts.2) c.in-Ok-make.ensures.1.holds
+    (ap (After (docs store)) c.in-Ok-make.ensures.0 ∙ facts.2) taken.holds
 
 pub returns-in-Ok-make-clause-changes : goal.returns-in-Ok-make-clause-changes
 returns-in-Ok-make-clause-changes g c =
-    between_again c.args.docs.now c.fold.new.working (edits c.in-Ok.changes.items)
+    between_again (store_of c.args.store) c.fold.new.working (edits c.in-Ok.changes.items)
     (prepared c.in-Ok-make.prepared) (c.in_ok-fold.ensures.store ∙ c.of-working.ensures.store)
     c.in-Ok.ensures c.in-Ok-make.ensures.0
 
 pub returns-clause-refused : goal.returns-clause-refused
 returns-clause-refused g c =
-    let store = c.args.docs.now in
+    let store = store_of c.args.store in
     let t = txn c.args.txn.now in
     let w = c.fold.new.working in
     let cs = edits c.in-Ok.changes.items in
@@ -51,4 +58,5 @@ returns-clause-refused g c =
     c.of-working.ensures.working c.in_ok-fold.ensures.folded)
     facts.2
     (c.refusal_of.ensures (After (docs store) cs) (verdict (After (docs store) cs))
-    c.in-Err-make.ensures)
+    (subst (λ (d : Docs). IsFault c.in-Err-make.fault (verdict (After (docs d) cs)))
+    c.docs.ensures c.in-Err-make.ensures))
