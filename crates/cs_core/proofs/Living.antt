@@ -11,7 +11,7 @@ use Rattle.cs_machine.specs.Fold.{Stepped}
 use Rattle.cs_machine.specs.Refused.{refuse}
 use Rattle.cs_machine.specs.Rows.{subscribing}
 use Rattle.cs_machine.specs.State.{State, is_taken, with_lives}
-use Rattle.cs_core.specs.Core.{seen}
+use Rattle.cs_core.specs.Core.{with_one_live}
 use Rattle.cs_listen.specs.Events.{Listener}
 use Rattle.cs_listen.specs.Listeners.{has_name, is_listening, without}
 
@@ -55,16 +55,13 @@ taken_by_listener s name text count next same has =
     ap (λ n. subscribing s n count next) (sym same) ∙ rw taken refl
 
 -- a live query that was made last is taken back
-pub taken_back : (ds : List Tree) (moment : List ℕ) (is_used : List ℕ → Bool)
-    (ls : List Listener) (old new : List LiveQuery) (name text : List ℕ) (q : Expression)
-    (params : Pairs)
-    → new ≡ old ++ made ds name q params ∷ []
-    → HasRoom name old
+pub taken_back : (s t : State) (name text : List ℕ) (q : Expression) (params : Pairs)
+    → t ≡ with_one_live (made s.docs name q params) s
+    → HasRoom name s.lives
     → text ≡ name
-    → with_lives (without_name text new) (seen ds moment is_used new ls)
-    ≡ seen ds moment is_used old ls
-taken_back ds moment is_used ls old new name text q params added room same =
-    ap (λ living. seen ds moment is_used living ls)
-    (ap (without_name text) added
-    ∙ ap (λ n. without_name n (old ++ made ds name q params ∷ [])) same
-    ∙ last_goes name old (made ds name q params) room.0 ((bytes_eq-Decides name name).1 refl))
+    → with_lives (without_name text t.lives) t ≡ s
+taken_back s t name text q params is room same =
+    ap (λ (x : State). with_lives (without_name text x.lives) x) is
+    ∙ ap (λ n. with_lives (without_name n (s.lives ++ made s.docs name q params ∷ [])) s) same
+    ∙ ap (λ l. with_lives l s)
+    (last_goes name s.lives (made s.docs name q params) room.0 ((bytes_eq-Decides name name).1 refl))

@@ -1,5 +1,5 @@
 -- What installing changes leaves of the machine.
-use Rattle.std.proofs.Common.{◌≡◌, refl, sym, ap, subst, ◌∙◌, Bool, true, false}
+use Rattle.std.proofs.Common.{◌≡◌, refl, sym, ap, subst, ◌∙◌, Bool, true, false, Result, Ok, Err, OnOk}
 use Rattle.cs_docs.specs.Store.{docs}
 use Rattle.cs_docs.specs.declared.docs.Docs.{Docs}
 use Rattle.cs_index.specs.Index.{IsIndexOf}
@@ -32,3 +32,8 @@ leaves_by true old mid new f same h =
 pub leaves_from : (old mid new : Core) (f : State → Stepped State) → state mid ≡ state old
     → Leaves mid new (f (state mid)) → Leaves old new (f (state old))
 leaves_from old mid new f same h = leaves_by new.spent old mid new f same h
+
+-- what holds is held where there is no fault
+pub ok_on : {T E P : Type 0} (r : Result T E) → P → OnOk r P
+ok_on (Ok x) p = p
+ok_on (Err e) p = tt

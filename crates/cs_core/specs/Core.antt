@@ -1,5 +1,5 @@
 -- What contracts see of the machine.
-use Rattle.std.specs.Prelude.{◌≡◌, ℕ, List, Bool, false}
+use Rattle.std.specs.Prelude.{◌≡◌, ℕ, List, [], ◌∷◌, ◌++◌, Bool, false}
 use Rattle.indexmap.specs.IndexSet.{contains_text}
 use Rattle.cs_value.specs.Tree.{Tree}
 use Rattle.cs_docs.specs.Store.{docs}
@@ -9,7 +9,7 @@ use Rattle.cs_live.specs.Fits.{Fits}
 use Rattle.cs_live.specs.Lives.{LiveQuery}
 use Rattle.cs_listen.specs.Events.{Listener}
 use Rattle.cs_listen.specs.Listeners.{listeners}
-use Rattle.cs_machine.specs.State.{State}
+use Rattle.cs_machine.specs.State.{State, with_lives}
 use Rattle.cs_core.specs.declared.machine.Core.{Core}
 
 abbrev pub seen :
@@ -25,6 +25,10 @@ seen documents moment is_used living listening =
 
 abbrev pub state : Core → State
 state c = seen (docs c.docs) c.moment (contains_text c.used) (lives c.live) (listeners c.listeners)
+
+-- one live query more, the last
+abbrev pub with_one_live : LiveQuery → State → State
+with_one_live l s = with_lives (s.lives ++ l ∷ []) s
 
 -- what is kept beside the documents fits them: the index is theirs; and of the live queries the
 -- answers are their values, and what is kept with these is what finding them looked up

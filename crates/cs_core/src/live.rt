@@ -1,14 +1,15 @@
 //! The row of `live`: a query whose answer is told anew where a transaction changes it.
-ghost use Rattle.std.specs.Prelude.{◌≡◌, ◌<◌, ◌^◌, IfOk, OnOk, OnErr, length};
+ghost use Rattle.std.specs.Prelude.{◌≡◌, ◌<◌, ◌^◌, IfOk, IfErr, OnOk, OnErr, length};
 ghost use Rattle.cs_value.specs.View.{fields};
 ghost use Rattle.cs_syntax.specs.Queries.{query as expression_of};
 ghost use Rattle.cs_live.specs.Entries.{said};
-ghost use Rattle.cs_live.specs.Lives.{made, without_name};
+ghost use Rattle.cs_live.specs.Fits.{HasRoom, IsCause};
+ghost use Rattle.cs_live.specs.Lives.{made, say, without_name};
 ghost use Rattle.cs_reply.specs.Reply.{reply_tree};
 ghost use Rattle.cs_reply.specs.View.{Appended};
 ghost use Rattle.cs_machine.specs.Rows.{row_live, subscribing, lively, live_reply};
 ghost use Rattle.cs_machine.specs.State.{with_lives};
-ghost use Rattle.cs_core.specs.Core.{state, IsUsable};
+ghost use Rattle.cs_core.specs.Core.{state, with_one_live, IsUsable};
 ghost use Rattle.cs_core.specs.Does.{Does, IsKept};
 
 use crate::machine::{Core, ONE_ANSWER};
@@ -87,8 +88,7 @@ impl Core {
             return self.refuse(Refusal::NameUsed { name }, line, out);
         }
         let named = Txt::copy_of(self.alloc, name.as_str())?;
-        let store = Indexed::of(&self.docs, &self.index);
-        match self.live.add(name, query, params, &store, steps) {
+        match self.add_live(name, query, params, steps) {
             Ok(first) => match write_answer(self.alloc, &first, line, out) {
                 Ok(()) => Ok(ONE_ANSWER),
                 Err(NoMemory) => {
@@ -106,6 +106,30 @@ impl Core {
             }
             Err(LiveFault::NoMemory) => Err(NoMemory),
         }
+    }
+
+    // One live query more, the last, over the documents as they are.
+    fn add_live<L: Ledger>(
+        &mut self,
+        name: Txt,
+        query: Query,
+        params: Fields,
+        steps: &mut Steps<L>,
+    ) -> Result<LiveLine, LiveFault>
+        requires usable { IsUsable self.old }
+        ensures room { OnOk result (HasRoom name (state self.old).lives) }
+        ensures state { OnOk result (state self.new ≡ with_one_live
+            (made (state self.old).docs name (expression_of query) (fields params))
+            (state self.old)) }
+        ensures line { IfOk result (λ line. said line ≡ say
+            (made (state self.old).docs name (expression_of query) (fields params))) }
+        ensures cause { IfErr result (λ fault. IsCause fault name (state self.old).lives) }
+        ensures kept { OnErr result (state self.new ≡ state self.old) }
+        ensures usable { IsUsable self.new }
+    {
+        let store = Indexed::of(&self.docs, &self.index);
+        let line = self.live.add(name, query, params, &store, steps)?;
+        Ok(line)
     }
 
     // The live query of the name stands no more, where one does.

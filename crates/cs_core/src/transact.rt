@@ -1,11 +1,11 @@
 //! The row of `mutate`: a transaction, in three parts. What reads and prepares it changes nothing.
 //! Then all is made that needs memory before the documents are installed. Last come the answers of
 //! live queries: where there is no memory for these, the machine is spent.
-ghost use Rattle.std.specs.Prelude.{◌≡◌, ◌++◌, ◌<◌, ◌≤◌, ◌^◌, OnOk, OnErr, IfOk, length, map, string_bytes, false, true};
+ghost use Rattle.std.specs.Prelude.{◌≡◌, ◌++◌, ◌<◌, ◌≤◌, ◌^◌, OnOk, OnErr, IfOk, IfErr, Ok, length, map, string_bytes, false, true};
 ghost use Rattle.indexmap.specs.IndexSet.{contains_text, spare};
 ghost use Rattle.cs_value.specs.Tree.{widest};
 ghost use Rattle.cs_value.specs.View.{tree};
-ghost use Rattle.cs_view.specs.Changes.{After, Before, LeadTo, are_changes};
+ghost use Rattle.cs_view.specs.Changes.{After, AreChangesBetween, Before, LeadTo, are_changes};
 ghost use Rattle.cs_view.specs.View.{edit, edits};
 ghost use Rattle.cs_docs.specs.Store.{docs as docs_of, prepared as changes_of};
 ghost use Rattle.cs_docs.specs.Verdict.{AreTaken};
@@ -20,6 +20,8 @@ ghost use Rattle.cs_listen.specs.Events.{events};
 ghost use Rattle.cs_listen.specs.Listeners.{listeners};
 ghost use Rattle.cs_machine.specs.Rows.{row_mutate, by_transaction, installed, outcome};
 ghost use Rattle.cs_machine.specs.State.{with_lives, with_used};
+ghost use Rattle.cs_txn.specs.Commit.{commit};
+ghost use Rattle.cs_txn.specs.View.{IsRefusal};
 ghost use Rattle.cs_txn.specs.Within.{AreShort};
 ghost use Rattle.cs_core.specs.Core.{state, IsUsable};
 ghost use Rattle.cs_index.specs.Index.{IsIndexOf};
@@ -35,7 +37,7 @@ use cs_live::LiveLine;
 use cs_refusal::write_refused;
 use cs_reply::{Event, Operation, Outcome, Refusal, Reply};
 use cs_txn::laws::{commits_keep_datasets, within_are_short};
-use cs_txn::prepare;
+use cs_txn::{Refusal as TxnRefusal, prepare};
 use cs_value::{NoMemory, Steps, Txt, Val};
 use cs_view::Change;
 use cs_view::laws::{changes_are_computed, changes_are_one_list, changes_lead_on_and_back};
@@ -174,14 +176,31 @@ impl Core {
         if self.used.contains(id) {
             return self.refuse(Refusal::TxUsed { id }, line, out);
         }
-        let store = self.store();
-        match prepare(self.alloc, store, &store, txn, &self.moment, steps) {
+        match self.prepare(txn, steps) {
             Ok(prepared) => self.accept(&txn.id, &prepared, line, steps, out),
             Err(refusal) => {
                 write_refused(self.alloc, &refusal, line, out)?;
                 Ok(ONE_REFUSAL)
             }
         }
+    }
+
+    // What a transaction comes to over the documents.
+    fn prepare<L: Ledger>(&self, txn: &Txn, steps: &mut Steps<L>) -> Result<Prepared, TxnRefusal>
+        requires few { length txn.now.mutations.items < 2 ^ 31 }
+        requires short { AreShort (plain txn.now).actions }
+        requires usable { IsUsable self.now }
+        ensures accepted { IfOk result (λ p. commit (plain txn.now) self.now.moment
+            (docs_of self.now.docs) ≡ Ok (After (docs_of self.now.docs) (changes_of p))) }
+        ensures changes { IfOk result (λ p. AreChangesBetween (docs_of self.now.docs)
+            (After (docs_of self.now.docs) (changes_of p)) (changes_of p)) }
+        ensures taken { IfOk result (λ p. AreTaken (docs_of self.now.docs) (changes_of p)) }
+        ensures refused { IfErr result (λ r. IsRefusal r
+            (commit (plain txn.now) self.now.moment (docs_of self.now.docs))) }
+    {
+        let store = self.store();
+        let prepared = prepare(self.alloc, store, &store, txn, &self.moment, steps)?;
+        Ok(prepared)
     }
 
     // An accepted transaction: its replies, and what it leaves.

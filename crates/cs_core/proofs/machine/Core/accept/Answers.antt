@@ -14,6 +14,7 @@ use Rattle.cs_machine.specs.State.{State, with_docs, with_lives, with_used}
 use Rattle.cs_core.specs.Core.{state}
 use Rattle.cs_core.specs.Does.{IsTallyOf, live_lines}
 use Rattle.cs_core.proofs.Listening.{says_installed}
+use Rattle.cs_core.proofs.Replying.{kept_on}
 use Rattle.cs_core.proofs.Storing.{but_store, index_as, leaves_from}
 use Rattle.cs_core.proofs.machine.Core.accept.Goals as goal
 
@@ -105,6 +106,7 @@ pub returns-in_err-install-clause-leaves : goal.returns-in_err-install-clause-le
 returns-in_err-install-clause-leaves g c =
     let tx = c.args.tx.now in
     let cs = prepared c.args.prepared.now in
-    leaves_from c.args.self.now c.room_for.new.self c.install.new.self
+    kept_on _
+    (leaves_from c.args.self.now c.room_for.new.self c.install.new.self
     (λ (s : State). installed s tx (After s.docs cs) cs) c.in_ok-id.ensures.same
-    c.in_err-install.ensures
+    c.in_err-install.ensures.leaves)

@@ -1,11 +1,7 @@
 use Rattle.std.proofs.Common.{length, ◌∙◌, rules}
 use Rattle.std.proofs.lemmas.Result.{IfOk-weaker}
-use Rattle.indexmap.specs.IndexSet.{contains_text}
 use Rattle.cs_value.specs.View.{fields}
 use Rattle.cs_syntax.specs.Queries.{query as expression_of}
-use Rattle.cs_docs.specs.Store.{docs}
-use Rattle.cs_listen.specs.Listeners.{listeners}
-use Rattle.cs_live.specs.Entries.{lives}
 use Rattle.cs_live.specs.Lives.{made}
 use Rattle.cs_machine.specs.Rows.{lively}
 use Rattle.cs_core.specs.Core.{state}
@@ -29,12 +25,10 @@ returns-then-has-clause-kept g c =
 
 pub returns-in-Ok-clause-kept : goal.returns-in-Ok-clause-kept
 returns-in-Ok-clause-kept g c =
-    let core = c.args.self.now in
     record {
       state_is = c.forget_live.ensures.state
-          ∙ taken_back (docs core.docs) core.moment (contains_text core.used)
-          (listeners core.listeners) (lives core.live) (lives c.add.new.self) c.args.name
+          ∙ taken_back (state c.args.self.now) (state c.add_live.new.self) c.args.name
           c.as_str-in-Err.result.now (expression_of c.args.query) (fields c.args.params)
-          c.in-Ok.ensures.added c.in-Ok.ensures.room (search rules);
+          c.in-Ok.ensures.state c.in-Ok.ensures.room (search rules);
       usable = c.forget_live.ensures.usable;
     }
