@@ -7,4 +7,4 @@ pub mod laws;
 mod walk;
 
 pub use code::{id_code, key_code, ref_code};
-pub use walk::codes_of;
+pub use walk::{codes_of, put_codes};

@@ -133,14 +133,22 @@ fn put_own_ref(seed: &RandomState, object: &Fields, out: &mut Vec<u64>) -> Resul
     Ok(())
 }
 
-/// The codes of the keys of a document that an index keeps: those of its references, and those of
-/// the scalars at its attribute paths of at most four names and in the lists there. `NoMemory` where
-/// the allocator has no room for them.
+/// Adds to a list the codes of the keys of a document that an index keeps: those of its references,
+/// and those of the scalars at its attribute paths of at most four names and in the lists there.
+/// `NoMemory` where the allocator has no room for them.
+pub fn put_codes(seed: &RandomState, doc: &Doc, out: &mut Vec<u64>) -> Result<(), NoMemory>
+    ensures { OnOk result (out.new.items ≡ out.old.items ++ codes seed.now (document doc.now)) }
+{
+    put_refs(seed, doc.val(), out)?;
+    put_inside(MOST_NAMES, start(seed), doc.val(), out)
+}
+
+/// The codes of the keys of a document that an index keeps, as [`put_codes`] adds them. `NoMemory`
+/// where the allocator has no room for them.
 pub fn codes_of(alloc: Global, seed: &RandomState, doc: &Doc) -> Result<Vec<u64>, NoMemory>
     ensures { IfOk result (λ cs. cs.items ≡ codes seed.now (document doc.now)) }
 {
     let mut out = Vec::new(alloc);
-    put_refs(seed, doc.val(), &mut out)?;
-    put_inside(MOST_NAMES, start(seed), doc.val(), &mut out)?;
+    put_codes(seed, doc, &mut out)?;
     Ok(out)
 }
