@@ -3,4 +3,5 @@ pub mod Marks
 pub mod Nearest
 pub mod Picked
 pub mod Referred
+pub mod Sets
 pub mod Split

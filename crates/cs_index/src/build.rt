@@ -1,15 +1,16 @@
 //! The entries of all documents of a store.
-ghost use Rattle.std.specs.Prelude.{◌≡◌, [], None, Some, OnOk};
+ghost use Rattle.std.specs.Prelude.{◌≡◌, false, None, Some, IfOk, OnOk};
+ghost use Rattle.std.specs.BTreeSet.{IsFromIterResult};
 ghost use Rattle.cs_view.specs.Document.{id_of};
 ghost use Rattle.cs_view.specs.View.{doc as document};
 ghost use Rattle.cs_docs.specs.Store.{docs as dataset};
-ghost use Rattle.cs_codes.specs.Codes.{codes, is_among};
-ghost use Rattle.cs_index.specs.Entries.{is_put, puts, Gain, GainAll};
+ghost use Rattle.cs_codes.specs.Codes.{codes};
+ghost use Rattle.cs_index.specs.Entries.{entry, entry_cmp, same_entry, has_entry, is_in, is_put, puts, all_put, Collect};
 ghost use Rattle.cs_index.specs.Picking.{entering};
+ghost use Rattle.cs_index.specs.declared.entry.Entry.{Entry};
 
 use crate::entry::Entry;
-use crate::put::{put_codes, set_of};
-use cs_codes::codes_of;
+use cs_codes::put_codes;
 use cs_docs::Docs;
 use cs_value::NoMemory;
 use cs_view::Doc;
@@ -17,56 +18,93 @@ use std::alloc::Global;
 use std::collections::BTreeSet;
 use std::hash::RandomState;
 
-// Puts at a place an entry for each code of a document.
-fn put_doc_at(
-    alloc: Global,
-    seed: &RandomState,
-    entries: &mut BTreeSet<Entry>,
-    doc: &Doc,
-    place: u32,
-) -> Result<(), NoMemory>
-    ensures { OnOk result (Gain
-        (is_put (λ x. is_among x []) place (codes seed.now (document doc.now)))
-        entries.old entries.new) }
+#[tactic(auto, using(crate::proofs::Marks::in_end))]
+fn list_code(entries: &mut Vec<Entry>, code: u64, place: u32) -> Result<(), NoMemory>
+    ensures { OnOk result (Collect (same_entry (entry code place)) entries.old.items entries.new.items) }
 {
-    let none = Vec::new(alloc);
-    let out = set_of(alloc, &none)?;
-    let codes = codes_of(alloc, seed, doc)?;
-    put_codes(entries, &out, &codes, place)?;
+    entries.push(Entry { code, place })?;
     Ok(())
 }
 
-// Puts the entries of a document.
-fn put_doc(
-    alloc: Global,
+// Adds an entry at a place for each of the codes.
+#[tactic(auto, using(crate::proofs::Marks::one_more))]
+fn list_codes(entries: &mut Vec<Entry>, codes: &Vec<u64>, place: u32) -> Result<(), NoMemory>
+    ensures { OnOk result (Collect (is_put (λ x. false) place codes.now.items)
+        entries.old.items entries.new.items) }
+{
+    for code in codes {
+        list_code(entries, *code, place)?;
+    }
+    Ok(())
+}
+
+// Adds an entry at a place for each code of a document. What stood in `room` is gone.
+fn list_doc_at(
     seed: &RandomState,
-    entries: &mut BTreeSet<Entry>,
+    entries: &mut Vec<Entry>,
+    room: &mut Vec<u64>,
+    doc: &Doc,
+    place: u32,
+) -> Result<(), NoMemory>
+    ensures { OnOk result (Collect
+        (is_put (λ x. false) place (codes seed.now (document doc.now)))
+        entries.old.items entries.new.items) }
+{
+    room.clear();
+    put_codes(seed, doc, room)?;
+    list_codes(entries, room, place)
+}
+
+// Adds the entries of a document. What stood in `room` is gone.
+fn list_doc(
+    seed: &RandomState,
+    entries: &mut Vec<Entry>,
+    room: &mut Vec<u64>,
     docs: &Docs,
     doc: &Doc,
 ) -> Result<(), NoMemory>
-    ensures { OnOk result (Gain
+    ensures { OnOk result (Collect
         (λ q. puts seed.now docs.now q (id_of (document doc.now), (None, Some (document doc.now))))
-        entries.old entries.new) }
+        entries.old.items entries.new.items) }
 {
     match docs.place(doc.id()) {
-        Some(place) => put_doc_at(alloc, seed, entries, doc, place),
+        Some(place) => list_doc_at(seed, entries, room, doc, place),
         None => Ok(()),
     }
 }
 
-// Puts the entries of all documents.
-pub(crate) fn put_all(
+// The entries of all documents.
+pub(crate) fn list_all(
     alloc: Global,
     seed: &RandomState,
-    entries: &mut BTreeSet<Entry>,
     docs: &Docs,
-) -> Result<(), NoMemory>
-    ensures { OnOk result
-        (GainAll seed.now docs.now (entering (dataset docs.now)) entries.old entries.new) }
+) -> Result<Vec<Entry>, NoMemory>
+    ensures { IfOk result (λ es. (q : Entry)
+        → is_in q es.items ≡ all_put seed.now docs.now q (entering (dataset docs.now)) false) }
 {
+    let mut entries = Vec::new(alloc);
+    let mut room = Vec::new(alloc);
     for place in docs.places(alloc)? {
         let doc = docs.at(place);
-        put_doc(alloc, seed, entries, docs, doc)?;
+        list_doc(seed, &mut entries, &mut room, docs, doc)?;
     }
-    Ok(())
+    Ok(entries)
+}
+
+fn gathered(alloc: Global, entries: Vec<Entry>) -> Result<BTreeSet<Entry>, NoMemory>
+    ensures { IfOk result (IsFromIterResult entry_cmp entries.items) }
+{
+    let set: BTreeSet<Entry> = entries.into_iter().collect(alloc)?;
+    Ok(set)
+}
+
+// The set of the entries of a list. They are sorted first, so that the set takes them in order: the
+// sort takes no memory.
+pub(crate) fn set_of(alloc: Global, listed: Vec<Entry>) -> Result<BTreeSet<Entry>, NoMemory>
+    ensures { IfOk result (λ m. (q : Entry) → has_entry m q ≡ is_in q listed.items) }
+{
+    let mut ascending = listed;
+    ascending.sort_unstable();
+    let entries = gathered(alloc, ascending)?;
+    Ok(entries)
 }

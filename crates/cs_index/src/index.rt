@@ -3,7 +3,7 @@ ghost use Rattle.std.specs.Prelude.{IfOk, OnOk};
 ghost use Rattle.cs_view.specs.View.{edits};
 ghost use Rattle.cs_index.specs.Index.{IsIndexOf, AreOutdated, AreApplied, FollowsChanges, ArePlacesOf};
 
-use crate::build::put_all;
+use crate::build::{list_all, set_of};
 use crate::entry::Entry;
 use crate::pick::{all_places, place_of_id, places_under};
 use crate::put::{list_changes, put_changes, take_out};
@@ -30,8 +30,8 @@ impl Index {
     pub fn build(alloc: Global, seed: RandomState, docs: &Docs) -> Result<Index, NoMemory>
         ensures { IfOk result (λ index. IsIndexOf index docs.now) }
     {
-        let mut entries = BTreeSet::new(alloc);
-        put_all(alloc, &seed, &mut entries, docs)?;
+        let listed = list_all(alloc, &seed, docs)?;
+        let entries = set_of(alloc, listed)?;
         Ok(Index {
             entries,
             seed,

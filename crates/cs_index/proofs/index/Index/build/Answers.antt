@@ -1,8 +1,8 @@
-use Rattle.cs_index.specs.Entries.{has_entry}
+use Rattle.std.proofs.Common.{◌∙◌, false}
 use Rattle.cs_index.proofs.Applied.{built}
 use Rattle.cs_index.proofs.index.Index.build.Goals as goal
 
 pub returns : goal.returns
 returns c =
-    built c.args.seed c.args.docs.now c.put_all.new.entries (has_entry c.new-entries.result)
-    c.in_ok-put_all.ensures
+    built c.args.seed c.args.docs.now c.in_ok-entries.entries (λ q. false)
+    (λ q. c.in_ok-entries.ensures q ∙ c.in_ok-listed.ensures q)

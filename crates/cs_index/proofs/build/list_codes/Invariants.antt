@@ -1,0 +1,7 @@
+use Rattle.std.proofs.Common.{◌≡◌, true, false, cond, drop}
+use Rattle.cs_index.specs.Entries.{is_in, is_put}
+use Rattle.cs_index.specs.declared.entry.Entry.{Entry}
+use Rattle.cs_index.proofs.build.list_codes.Given as goal
+
+abbrev pub invariant-loop-code : goal.invariant-loop-code
+invariant-loop-code l = (q : Entry) → cond (is_put (λ x. false) l.place (drop l.code-index l.code-items) q) true (is_in q l.entries.items) ≡ cond (is_put (λ x. false) l.place l.code-items q) true (is_in q l.fn.entries.items)
