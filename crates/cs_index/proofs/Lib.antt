@@ -3,5 +3,6 @@ pub mod Marks
 pub mod Nearest
 pub mod Picked
 pub mod Referred
+pub mod Searched
 pub mod Sets
 pub mod Split

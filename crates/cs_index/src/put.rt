@@ -1,7 +1,6 @@
 //! Entries put among others, and taken out.
-ghost use Rattle.std.specs.Prelude.{◌≡◌, ℕ, true, false, cond, not, ◌&&◌, ◌||◌, nat_eq, [], option_map, IfOk, OnOk};
-ghost use Rattle.std.specs.BTreeSet.{contains};
-ghost use Rattle.std.specs.Ordering.{nat_cmp};
+ghost use Rattle.std.specs.Prelude.{◌≡◌, ℕ, Some, true, false, cond, not, ◌&&◌, [], option_map, IfOk, OnOk};
+ghost use Rattle.std.specs.List.Sorted.{IsNonDecreasing};
 ghost use Rattle.cs_view.specs.View.{doc as document, edit, edits};
 ghost use Rattle.cs_codes.specs.Codes.{is_among};
 ghost use Rattle.cs_index.specs.Entries.{entry, same_entry, is_in, is_put, is_apart, side_codes, puts, parts, all_parted, Gain, Collect, Lose, GainAll};
@@ -30,39 +29,37 @@ fn side_codes(alloc: Global, seed: &RandomState, side: &Option<Doc>) -> Result<V
     }
 }
 
-#[tactic(auto, using(crate::proofs::Marks::one_code, crate::proofs::Marks::cond_or))]
-fn add_code(set: &mut BTreeSet<u64>, code: u64) -> Result<(), NoMemory>
-    ensures { OnOk result ((x : ℕ)
-        → contains nat_cmp set.new x ≡ (nat_eq x code || contains nat_cmp set.old x)) }
+// The codes of what stands on a side of a change, to be looked up.
+fn sought_codes(alloc: Global, seed: &RandomState, side: &Option<Doc>) -> Result<Vec<u64>, NoMemory>
+    ensures among { IfOk result (λ cs. (x : ℕ) → is_among x cs.items
+        ≡ is_among x (side_codes seed.now (option_map document side.now))) }
+    ensures ascending { IfOk result (λ cs. IsNonDecreasing cs.items) }
 {
-    set.insert(code)?;
-    Ok(())
+    let mut codes = side_codes(alloc, seed, side)?;
+    codes.sort_unstable();
+    Ok(codes)
 }
 
-// The codes, to be looked up.
-#[tactic(auto, using(crate::proofs::Marks::or_more))]
-pub(crate) fn set_of(alloc: Global, codes: &Vec<u64>) -> Result<BTreeSet<u64>, NoMemory>
-    ensures { IfOk result
-        (λ s. (x : ℕ) → contains nat_cmp s x ≡ is_among x codes.now.items) }
+// Whether a code is among codes that ascend.
+fn has_code(ascending: &Vec<u64>, code: u64) -> bool
+    requires { IsNonDecreasing ascending.now.items }
+    ensures { result ≡ is_among code ascending.now.items }
 {
-    let mut set = BTreeSet::new(alloc);
-    for code in codes {
-        add_code(&mut set, *code)?;
-    }
-    Ok(set)
+    ascending.binary_search(&code).is_ok()
 }
 
 fn put_code(
     entries: &mut BTreeSet<Entry>,
-    out: &BTreeSet<u64>,
+    out: &Vec<u64>,
     code: u64,
     place: u32,
 ) -> Result<(), NoMemory>
+    requires { IsNonDecreasing out.now.items }
     ensures { OnOk result (Gain
-        (λ q. not (contains nat_cmp out.now code) && same_entry (entry code place) q)
+        (λ q. not (is_among code out.now.items) && same_entry (entry code place) q)
         entries.old entries.new) }
 {
-    if out.contains(&code) {
+    if has_code(out, code) {
         return Ok(());
     }
     entries.insert(Entry { code, place })?;
@@ -72,15 +69,16 @@ fn put_code(
 #[tactic(auto, using(crate::proofs::Marks::in_end))]
 fn list_code(
     entries: &mut Vec<Entry>,
-    out: &BTreeSet<u64>,
+    out: &Vec<u64>,
     code: u64,
     place: u32,
 ) -> Result<(), NoMemory>
+    requires { IsNonDecreasing out.now.items }
     ensures { OnOk result (Collect
-        (λ q. not (contains nat_cmp out.now code) && same_entry (entry code place) q)
+        (λ q. not (is_among code out.now.items) && same_entry (entry code place) q)
         entries.old.items entries.new.items) }
 {
-    if out.contains(&code) {
+    if has_code(out, code) {
         return Ok(());
     }
     entries.push(Entry { code, place })?;
@@ -89,13 +87,14 @@ fn list_code(
 
 // Puts an entry for each of the codes that are not left out.
 #[tactic(auto, using(crate::proofs::Marks::one_more))]
-pub(crate) fn put_codes(
+fn put_codes(
     entries: &mut BTreeSet<Entry>,
-    out: &BTreeSet<u64>,
+    out: &Vec<u64>,
     codes: &Vec<u64>,
     place: u32,
 ) -> Result<(), NoMemory>
-    ensures { OnOk result (Gain (is_put (contains nat_cmp out.now) place codes.now.items)
+    requires { IsNonDecreasing out.now.items }
+    ensures { OnOk result (Gain (is_put (λ x. is_among x out.now.items) place codes.now.items)
         entries.old entries.new) }
 {
     for code in codes {
@@ -108,11 +107,12 @@ pub(crate) fn put_codes(
 #[tactic(auto, using(crate::proofs::Marks::one_more))]
 fn list_codes(
     entries: &mut Vec<Entry>,
-    out: &BTreeSet<u64>,
+    out: &Vec<u64>,
     codes: &Vec<u64>,
     place: u32,
 ) -> Result<(), NoMemory>
-    ensures { OnOk result (Collect (is_put (contains nat_cmp out.now) place codes.now.items)
+    requires { IsNonDecreasing out.now.items }
+    ensures { OnOk result (Collect (is_put (λ x. is_among x out.now.items) place codes.now.items)
         entries.old.items entries.new.items) }
 {
     for code in codes {
@@ -136,16 +136,15 @@ fn put_at(
     seed: &RandomState,
     entries: &mut BTreeSet<Entry>,
     other: &Option<Doc>,
-    this: &Option<Doc>,
+    this: &Doc,
     place: u32,
 ) -> Result<(), NoMemory>
     ensures { OnOk result (Gain
-        (is_apart seed.now (option_map document other.now) (option_map document this.now) place)
+        (is_apart seed.now (option_map document other.now) (Some (document this.now)) place)
         entries.old entries.new) }
 {
-    let others = side_codes(alloc, seed, other)?;
-    let out = set_of(alloc, &others)?;
-    let codes = side_codes(alloc, seed, this)?;
+    let codes = codes_of(alloc, seed, this)?;
+    let out = sought_codes(alloc, seed, other)?;
     put_codes(entries, &out, &codes, place)?;
     Ok(())
 }
@@ -156,21 +155,21 @@ fn list_at(
     seed: &RandomState,
     entries: &mut Vec<Entry>,
     other: &Option<Doc>,
-    this: &Option<Doc>,
+    this: &Doc,
     place: u32,
 ) -> Result<(), NoMemory>
     ensures { OnOk result (Collect
-        (is_apart seed.now (option_map document other.now) (option_map document this.now) place)
+        (is_apart seed.now (option_map document other.now) (Some (document this.now)) place)
         entries.old.items entries.new.items) }
 {
-    let others = side_codes(alloc, seed, other)?;
-    let out = set_of(alloc, &others)?;
-    let codes = side_codes(alloc, seed, this)?;
+    let codes = codes_of(alloc, seed, this)?;
+    let out = sought_codes(alloc, seed, other)?;
     list_codes(entries, &out, &codes, place)?;
     Ok(())
 }
 
 // Puts the entries of a change.
+#[tactic(auto, using(crate::proofs::Marks::nothing_put))]
 fn put_change(
     alloc: Global,
     seed: &RandomState,
@@ -181,13 +180,17 @@ fn put_change(
     ensures { OnOk result
         (Gain (λ q. puts seed.now docs.now q (edit change.now)) entries.old entries.new) }
 {
+    let Some(after) = &change.after else {
+        return Ok(());
+    };
     match docs.place(&change.id) {
-        Some(place) => put_at(alloc, seed, entries, &change.before, &change.after, place),
+        Some(place) => put_at(alloc, seed, entries, &change.before, after, place),
         None => Ok(()),
     }
 }
 
 // Adds the entries that a change parts with to a list.
+#[tactic(auto, using(crate::proofs::Marks::nothing_put))]
 fn list_change(
     alloc: Global,
     seed: &RandomState,
@@ -199,8 +202,11 @@ fn list_change(
         (Collect (λ q. parts seed.now docs.now q (edit change.now))
         entries.old.items entries.new.items) }
 {
+    let Some(before) = &change.before else {
+        return Ok(());
+    };
     match docs.place(&change.id) {
-        Some(place) => list_at(alloc, seed, entries, &change.after, &change.before, place),
+        Some(place) => list_at(alloc, seed, entries, &change.after, before, place),
         None => Ok(()),
     }
 }

@@ -1,6 +1,4 @@
 use Rattle.std.proofs.Common.{◌∙◌, ap, option_map}
-use Rattle.std.specs.BTreeSet.{contains}
-use Rattle.std.specs.Ordering.{nat_cmp}
 use Rattle.cs_view.specs.View.{doc}
 use Rattle.cs_codes.specs.Codes.{is_among}
 use Rattle.cs_index.specs.Entries.{has_entry, side_codes}
@@ -10,5 +8,5 @@ use Rattle.cs_index.proofs.put.put_at.Goals as goal
 pub returns : goal.returns
 returns c q =
     c.in_ok-put_codes.ensures q
-    ∙ put_there (contains nat_cmp c.in_ok-out.out) (λ x. is_among x (side_codes c.args.seed.now (option_map doc c.args.other.now)))
-    (λ x. c.in_ok-out.ensures x ∙ ap (is_among x) c.in_ok-others.ensures) c.args.place _ _ c.in_ok-codes.ensures q (has_entry c.args.entries.now q)
+    ∙ put_there (λ x. is_among x c.in_ok-out.out.items) (λ x. is_among x (side_codes c.args.seed.now (option_map doc c.args.other.now)))
+    c.in_ok-out.ensures.among c.args.place _ _ c.in_ok-codes.ensures q (has_entry c.args.entries.now q)
