@@ -1,4 +1,5 @@
 pub mod Applied
+pub mod Hits
 pub mod Marks
 pub mod Nearest
 pub mod Picked

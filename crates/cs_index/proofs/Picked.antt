@@ -1,11 +1,16 @@
 -- What a look-up picks are the documents that have the key.
-use Rattle.std.proofs.Common.{◌≡◌, ℕ, ◌<◌, List, [], ◌∷◌, map, filter, Option, Some, None, Bool, true, false, cond, ◌||◌, refl, sym, ap, ◌∙◌, subst, true≢false, nat_cmp, nat_eq, arith, option_map, eqb-true, eq-eqb}
+use denote.Ref.{Bor}
+use Rattle.std.proofs.Common.{◌≡◌, ℕ, ◌<◌, List, [], ◌∷◌, ◌++◌, map, filter, Option, Some, None, Bool, true, false, cond, ◌&&◌, ◌||◌, refl, sym, ap, ◌∙◌, subst, true≢false, nat_cmp, nat_eq, arith, option_map, eqb-true, eq-eqb}
 use Rattle.std.proofs.lemmas.Grind.{common_steps}
 use Rattle.std.proofs.lemmas.Cmp.{nat_cmp_total, tied_itself}
+use Rattle.std.proofs.lemmas.List.Folds.{list_any-append}
+use Rattle.std.specs.Option.{is_some}
 use Rattle.std.specs.BTreeSet.{BTreeSet}
-use Rattle.std.specs.BTreeMap.{get, is_at, IsOrdered}
+use Rattle.std.specs.BTreeMap.{is_at}
 use Rattle.std.specs.BTreeMap.Range.{range_contains}
 use Rattle.std.specs.List.{list_any}
+use Rattle.std.specs.List.Sorted.{IsStrictlySortedBy}
+use Rattle.std.specs.Map.{keys_of, lookup}
 use Rattle.std.specs.declared.ops.Bound.TheVariants.{Included}
 use Rattle.cs_value.specs.Tree.{Tree}
 use Rattle.cs_view.specs.Document.{id_of, passes}
@@ -14,29 +19,36 @@ use Rattle.cs_view.specs.Keys.{has, Sel}
 use Rattle.cs_view.specs.declared.key.Key.{Key}
 use Rattle.cs_view.specs.declared.key.Key.TheVariants.{All, Id}
 use Rattle.cs_view.proofs.Datasets.{same_id-same, same_id-refl, same_id-sym, same_docs, ascending-filter, At-filter}
-use Rattle.cs_shelf.specs.Places.{Store, Order, found, tree_at, trees_at, IsSound}
-use Rattle.cs_shelf.proofs.Standing.{Entry as PlaceEntry, at-documents, sound_entries, at_of, ascending_of, some-trees, ascending-documents}
+use Rattle.cs_shelf.specs.Places.{Store, found, tree_at, trees_at}
+use Rattle.cs_shelf.proofs.Standing.{Entry as PlaceEntry, AreSound, at-documents, sound_entries, at-trees, ascending-trees, some-trees, ascending-documents}
 use Rattle.cs_docs.specs.Store.{docs, place_at, doc_at}
 use Rattle.cs_docs.specs.declared.docs.Docs.{Docs}
 use Rattle.cs_codes.specs.Codes.{Seed, is_among, key_code}
 use Rattle.cs_index.specs.Entries.{entry_cmp, same_entry, entry, has_entry, AreEntriesOf, side_codes}
 use Rattle.cs_codes.specs.Kept.{IsKept}
-use Rattle.cs_index.specs.Picking.{where_has, wanted, or_else, pick, picked, under}
+use Rattle.cs_index.specs.Picking.{Hits, where_has, wanted, is_hit, is_found, is_found_at, is_found_among, under}
 use Rattle.cs_index.specs.declared.entry.Entry.{Entry}
 use Rattle.cs_index.proofs.Applied.{same_parts}
 use Rattle.cs_codes.proofs.Listed.{listed}
 
-pub pick_none : (d : Docs) (k : Key) (y i : List ℕ) (o : Option ℕ) → wanted d k i ≡ None → o ≡ cond (same_id y i) (or_else (wanted d k y) o) o
-pick_none d k y i o h = by_test (same_id y i) refl where
-  by_test : (b : Bool) → same_id y i ≡ b → o ≡ cond b (or_else (wanted d k y) o) o
-  by_test true e = sym (ap (λ w. or_else w o) (ap (wanted d k) (same_id-same y i e) ∙ h))
+never : (b : Bool) → (b && false) ≡ false
+never true = refl
+never false = refl
+
+-- an id that is not wanted, and one that is
+pub none_found : (d : Docs) (k : Key) (y i : List ℕ) (a : Bool) → wanted d k i ≡ None → a ≡ (is_found d k i y || a)
+none_found d k y i a h = by_test (same_id y i) refl where
+  by_test : (b : Bool) → same_id y i ≡ b → a ≡ ((b && is_some (wanted d k y)) || a)
+  by_test true e = sym (ap (λ w. is_some w || a) (ap (wanted d k) (same_id-same y i e) ∙ h))
   by_test false e = refl
 
-pub pick_some : (d : Docs) (k : Key) (y i : List ℕ) (p : ℕ) (o : Option ℕ) → wanted d k i ≡ Some p → cond (same_id i y) (Some p) o ≡ cond (same_id y i) (or_else (wanted d k y) o) o
-pick_some d k y i p o h = ap (λ b. cond b (Some p) o) (same_id-sym i y) ∙ by_test (same_id y i) refl where
-  by_test : (b : Bool) → same_id y i ≡ b → cond b (Some p) o ≡ cond b (or_else (wanted d k y) o) o
-  by_test true e = sym (ap (λ w. or_else w o) (ap (wanted d k) (same_id-same y i e) ∙ h))
-  by_test false e = refl
+pub one_found : (d : Docs) (k : Key) (y : List ℕ) (h : Bor (List ℕ) × ℕ) (hs : Hits) → wanted d k h.0.now ≡ Some h.1 → is_hit y (hs ++ h ∷ []) ≡ (is_found d k h.0.now y || is_hit y hs)
+one_found d k y h hs w = list_any-append (λ g. same_id y g.0.now) hs (h ∷ []) ∙ by_test (same_id y h.0.now) refl (is_hit y hs) where
+  by_test : (b : Bool) → same_id y h.0.now ≡ b → (a : Bool) → (a || (b || false)) ≡ ((b && is_some (wanted d k y)) || a)
+  by_test true e true = sym (ap (λ o. is_some o || true) (ap (wanted d k) (same_id-same y h.0.now e) ∙ w))
+  by_test true e false = sym (ap (λ o. is_some o || false) (ap (wanted d k) (same_id-same y h.0.now e) ∙ w))
+  by_test false e true = refl
+  by_test false e false = refl
 
 abbrev is_some_place : Option ℕ → Bool
 is_some_place None = false
@@ -64,37 +76,26 @@ wanted_place d k y p h = by_place (place_at d y) refl h where
 abbrev pub is_here : ℕ → List Entry → Bool
 is_here p es = list_any (λ e. nat_eq e.place p) es
 
-picked_nothing : (d : Docs) (k : Key) (y : List ℕ) (es : List Entry) → wanted d k y ≡ None → picked d k y es None ≡ None
-picked_nothing d k y [] h = refl
-picked_nothing d k y (e ∷ es) h = ap (picked d k y es) (one (passes (λ t. same_id y (id_of t)) (doc_at d e.place))) ∙ picked_nothing d k y es h where
-  one : (b : Bool) → cond b (or_else (wanted d k y) None) None ≡ None
-  one true = ap (λ w. or_else w None) h
-  one false = refl
+nothing_found : (d : Docs) (k : Key) (y : List ℕ) (es : List Entry) → wanted d k y ≡ None → is_found_among d k es y ≡ false
+nothing_found d k y [] h = refl
+nothing_found d k y (e ∷ es) h =
+    ap (λ w. (passes (λ t. same_id y (id_of t)) (doc_at d e.place) && is_some w) || is_found_among d k es y) h
+    ∙ ap (λ b. b || is_found_among d k es y) (never (passes (λ t. same_id y (id_of t)) (doc_at d e.place)))
+    ∙ nothing_found d k y es h
 
-picked_once : (d : Docs) (k : Key) (y : List ℕ) (p : ℕ) (es : List Entry) → wanted d k y ≡ Some p → picked d k y es (Some p) ≡ Some p
-picked_once d k y p [] h = refl
-picked_once d k y p (e ∷ es) h = ap (picked d k y es) (one (passes (λ t. same_id y (id_of t)) (doc_at d e.place))) ∙ picked_once d k y p es h where
-  one : (b : Bool) → cond b (or_else (wanted d k y) (Some p)) (Some p) ≡ Some p
-  one true = ap (λ w. or_else w (Some p)) h
-  one false = refl
+found_there : (d : Docs) (k : Key) (y : List ℕ) (p : ℕ) (es : List Entry) → wanted d k y ≡ Some p → passes (λ t. same_id y (id_of t)) (doc_at d p) ≡ true → is_here p es ≡ true → is_found_among d k es y ≡ true
+found_there d k y p [] h own g = absurd (true≢false (sym g))
+found_there d k y p (e ∷ es) h own g = by_test (found_there d k y p es h own) (nat_eq e.place p) refl g where
+  later : (a : Bool) → is_found_among d k es y ≡ true → (a || is_found_among d k es y) ≡ true
+  later true i = refl
+  later false i = i
 
-picked_there : (d : Docs) (k : Key) (y : List ℕ) (p : ℕ) (es : List Entry) → wanted d k y ≡ Some p → passes (λ t. same_id y (id_of t)) (doc_at d p) ≡ true → is_here p es ≡ true → picked d k y es None ≡ Some p
-picked_there d k y p [] h own g = absurd (true≢false (sym g))
-picked_there d k y p (e ∷ es) h own g = by_test (picked_there d k y p es h own) (nat_eq e.place p) refl g where
-  one : (b : Bool) → cond b (or_else (wanted d k y) None) None ≡ cond b (Some p) None
-  one true = ap (λ w. or_else w None) h
-  one false = refl
+  own_place : is_found_at d k p y ≡ true
+  own_place = ap (λ b. b && is_some (wanted d k y)) own ∙ ap is_some h
 
-  hit : passes (λ t. same_id y (id_of t)) (doc_at d e.place) ≡ true → pick d k y e.place None ≡ Some p
-  hit is = one _ ∙ ap (λ b. cond b (Some p) None) is
-
-  either : (is_here p es ≡ true → picked d k y es None ≡ Some p) → (b : Bool) → passes (λ t. same_id y (id_of t)) (doc_at d e.place) ≡ b → is_here p es ≡ true → picked d k y es (pick d k y e.place None) ≡ Some p
-  either ih true is g = ap (picked d k y es) (hit is) ∙ picked_once d k y p es h
-  either ih false is g = ap (picked d k y es) (one _ ∙ ap (λ b. cond b (Some p) None) is) ∙ ih g
-
-  by_test : (is_here p es ≡ true → picked d k y es None ≡ Some p) → (b : Bool) → nat_eq e.place p ≡ b → (b || is_here p es) ≡ true → picked d k y es (pick d k y e.place None) ≡ Some p
-  by_test ih true is g = ap (picked d k y es) (hit (ap (λ (x : ℕ). passes (λ t. same_id y (id_of t)) (doc_at d x)) (eqb-true e.place p is) ∙ own)) ∙ picked_once d k y p es h
-  by_test ih false is g = either ih (passes (λ t. same_id y (id_of t)) (doc_at d e.place)) refl g
+  by_test : (is_here p es ≡ true → is_found_among d k es y ≡ true) → (b : Bool) → nat_eq e.place p ≡ b → (b || is_here p es) ≡ true → (is_found_at d k e.place y || is_found_among d k es y) ≡ true
+  by_test ih true is g = ap (λ b. b || is_found_among d k es y) (ap (λ (x : ℕ). is_found_at d k x y) (eqb-true e.place p is) ∙ own_place)
+  by_test ih false is g = later (is_found_at d k e.place y) (ih g)
 
 -- ---- the entries of a code
 pub inside_low : (c p : ℕ) → range_contains entry_cmp (Included (entry c 0)) (Included (entry c 4294967295)) (entry c p) ≡ range_contains nat_cmp (Included 0) (Included 4294967295) p
@@ -145,14 +146,14 @@ has_codes seed k (Some t) kept h = listed seed k t kept h
 found_doc : (d : Docs) (y : List ℕ) (p : ℕ) → place_at d y ≡ Some p → At y (docs d) ≡ doc_at d p
 found_doc d y p h = at-documents d.shelf y ∙ ap (found d.shelf.store) h
 
-pub all_picked : (seed : Seed) (d : Docs) (m : BTreeSet Entry) (k : Key) → IsKept k → AreEntriesOf seed m d → (y : List ℕ) → picked d k y (under m (key_code seed k)) None ≡ wanted d k y
-all_picked seed d m k kept are y = by_wanted (wanted d k y) refl where
-  by_wanted : (o : Option ℕ) → wanted d k y ≡ o → picked d k y (under m (key_code seed k)) None ≡ o
-  by_wanted None h = picked_nothing d k y (under m (key_code seed k)) h
+pub all_found : (seed : Seed) (d : Docs) (m : BTreeSet Entry) (k : Key) → IsKept k → AreEntriesOf seed m d → (y : List ℕ) → is_found_among d k (under m (key_code seed k)) y ≡ is_some (wanted d k y)
+all_found seed d m k kept are y = by_wanted (wanted d k y) refl where
+  by_wanted : (o : Option ℕ) → wanted d k y ≡ o → is_found_among d k (under m (key_code seed k)) y ≡ is_some o
+  by_wanted None h = nothing_found d k y (under m (key_code seed k)) h
   by_wanted (Some p) h =
       let w = wanted_place d k y p h in
       let stands : has_entry m (entry (key_code seed k) p) ≡ true = are y (key_code seed k) p w.0 (ap (λ (o : Option Tree). is_among (key_code seed k) (side_codes seed o)) (found_doc d y p w.0) ∙ has_codes seed k (doc_at d p) kept w.1) in
-      picked_there d k y p (under m (key_code seed k)) h (named d y p w.0).1
+      found_there d k y p (under m (key_code seed k)) h (named d y p w.0).1
       (here_filter (key_code seed k) p (range_contains entry_cmp (Included (entry (key_code seed k) 0)) (Included (entry (key_code seed k) 4294967295))) (inside_low (key_code seed k) p ∙ inside_all p (d.shelf.low y p w.0)) m.keys stands)
 
 -- ---- the documents at what was picked
@@ -171,34 +172,34 @@ kept_there d k (Some p) = by_doc (doc_at d p) refl where
   by_doc None g = refl
   by_doc (Some t) g = by_test t g (has k t)
 
-pub selected : (d : Docs) (k : Key) (chosen : Order) → IsOrdered id_cmp chosen → ((y : List ℕ) → get id_cmp chosen y ≡ wanted d k y) → map (doc_at d) (map (λ e. e.1) chosen.entries) ≡ map Some (Sel k (docs d))
-selected d k chosen ordered is =
+pub selected : (d : Docs) (k : Key) (es : List PlaceEntry) → IsStrictlySortedBy id_cmp (keys_of es) → ((y : List ℕ) → lookup (is_at (id_cmp y)) es ≡ wanted d k y) → map (doc_at d) (map (λ e. e.1) es) ≡ map Some (Sel k (docs d))
+selected d k es ordered is =
     let s : Store = d.shelf.store in
-    let sound : IsSound s chosen = λ x p h. d.shelf.sound x p (wanted_place d k x p (sym (is x) ∙ h)).0 in
-    second s chosen.entries ∙ some-trees s chosen.entries (sound_entries s chosen.entries ordered sound)
-    ∙ ap (map Some) (same_docs (trees_at s chosen.entries) (Sel k (docs d)) (ascending_of s chosen sound ordered) (ascending-filter (has k) (docs d) (ascending-documents d.shelf))
-    (λ q. at_of s chosen sound ordered q ∙ ap (found s) (is q) ∙ kept_there d k (place_at d q) ∙ sym (ap (kept_if (has k)) (at-documents d.shelf q)) ∙ sym (At-filter (has k) q (docs d) (ascending-documents d.shelf))))
+    let sound : AreSound s es = sound_entries s es ordered (λ x p h. d.shelf.sound x p (wanted_place d k x p (sym (is x) ∙ h)).0) in
+    second s es ∙ some-trees s es sound
+    ∙ ap (map Some) (same_docs (trees_at s es) (Sel k (docs d)) (ascending-trees s es sound ordered) (ascending-filter (has k) (docs d) (ascending-documents d.shelf))
+    (λ q. at-trees s es sound q ∙ ap (found s) (is q) ∙ kept_there d k (place_at d q) ∙ sym (ap (kept_if (has k)) (at-documents d.shelf q)) ∙ sym (At-filter (has k) q (docs d) (ascending-documents d.shelf))))
 
 pub selected_all : (ds : List Tree) → Sel All ds ≡ ds
 selected_all [] = refl
 selected_all (d ∷ ds) = ap (λ es. d ∷ es) (selected_all ds)
 
-pub one_id : (d : Docs) (i y : List ℕ) → cond (same_id y i) (or_else (wanted d (Id i) y) None) None ≡ wanted d (Id i) y
+one_id : (d : Docs) (i y : List ℕ) → (is_found d (Id i) i y || false) ≡ is_some (wanted d (Id i) y)
 one_id d i y = by_test (same_id y i) refl where
-  same : (o : Option ℕ) → or_else o None ≡ o
-  same None = refl
-  same (Some p) = refl
+  same : (b : Bool) → (b || false) ≡ b
+  same true = refl
+  same false = refl
 
-  other : same_id y i ≡ false → (o : Option ℕ) → wanted d (Id i) y ≡ o → None ≡ o
+  other : same_id y i ≡ false → (o : Option ℕ) → wanted d (Id i) y ≡ o → false ≡ is_some o
   other f None h = refl
   other f (Some p) h = absurd (true≢false (sym (matches (doc_at d p) (d.shelf.sound y p (wanted_place d (Id i) y p h).0) (wanted_place d (Id i) y p h).1) ∙ same_id-sym i y ∙ f)) where
     matches : (o : Option Tree) → option_map id_of o ≡ Some y → passes (has (Id i)) o ≡ true → same_id i y ≡ true
     matches None g m = absurd (true≢false (sym m))
     matches (Some t) g m = let e : id_of t ≡ y = cc in sym (ap (same_id i) e) ∙ m
 
-  by_test : (b : Bool) → same_id y i ≡ b → cond b (or_else (wanted d (Id i) y) None) None ≡ wanted d (Id i) y
-  by_test true e = same (wanted d (Id i) y)
+  by_test : (b : Bool) → same_id y i ≡ b → ((b && is_some (wanted d (Id i) y)) || false) ≡ is_some (wanted d (Id i) y)
+  by_test true e = same (is_some (wanted d (Id i) y))
   by_test false e = other e (wanted d (Id i) y) refl
 
-pub one_key : (d : Docs) (k : Key) (i y : List ℕ) → k ≡ Id i → cond (same_id y i) (or_else (wanted d k y) None) None ≡ wanted d k y
-one_key d k i y h = subst (λ (z : Key). cond (same_id y i) (or_else (wanted d z y) None) None ≡ wanted d z y) (sym h) (one_id d i y)
+pub one_key : (d : Docs) (k : Key) (i y : List ℕ) → k ≡ Id i → (is_found d k i y || false) ≡ is_some (wanted d k y)
+one_key d k i y h = subst (λ (z : Key). (is_found d z i y || false) ≡ is_some (wanted d z y)) (sym h) (one_id d i y)

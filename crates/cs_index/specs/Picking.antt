@@ -1,22 +1,21 @@
 -- What a look-up picks. For private clauses.
-use Rattle.std.specs.Prelude.{◌≡◌, ℕ, cond, List, [], ◌∷◌, Option, Some, None}
-use Rattle.std.specs.BTreeMap.{BTreeMap, get}
+use denote.Ref.{Bor}
+use Rattle.std.specs.Prelude.{◌≡◌, ℕ, Bool, cond, ◌&&◌, ◌||◌, List, [], ◌∷◌, Option, Some, None}
+use Rattle.std.specs.List.{All, list_any}
+use Rattle.std.specs.Option.{is_some}
 use Rattle.std.specs.BTreeSet.{BTreeSet, keys_between}
 use Rattle.std.specs.declared.ops.Bound.TheVariants.{Included}
 use Rattle.cs_value.specs.Tree.{Tree}
 use Rattle.cs_view.specs.Changes.{Edit}
-use Rattle.cs_view.specs.Dataset.{id_cmp, same_id}
+use Rattle.cs_view.specs.Dataset.{same_id}
 use Rattle.cs_view.specs.Document.{passes, id_of}
 use Rattle.cs_view.specs.Keys.{has}
 use Rattle.cs_view.specs.declared.key.Key.{Key}
 use Rattle.cs_docs.specs.Store.{place_at, doc_at}
 use Rattle.cs_docs.specs.declared.docs.Docs.{Docs}
 use Rattle.cs_index.specs.Entries.{entry, entry_cmp}
+use Rattle.cs_index.specs.Index.{ArePlacesOf}
 use Rattle.cs_index.specs.declared.entry.Entry.{Entry}
-
--- places by ids
-abbrev pub Places : Type 0
-Places = BTreeMap (List ℕ) ℕ
 
 -- the changes that put documents where none stand
 abbrev pub entering : List Tree → List Edit
@@ -32,31 +31,41 @@ where_has d k (Some p) = cond (passes (has k) (doc_at d p)) (Some p) None
 abbrev pub wanted : Docs → Key → List ℕ → Option ℕ
 wanted d k y = where_has d k (place_at d y)
 
-abbrev pub or_else : Option ℕ → Option ℕ → Option ℕ
-or_else None o = o
-or_else (Some p) o = Some p
+-- the ids of documents that a look-up found, each with its place
+abbrev pub Hits : Type 0
+Hits = List (Bor (List ℕ) × ℕ)
 
--- what is picked for the id, once the document of another id was looked at
-abbrev pub picked_id : Docs → Key → List ℕ → List ℕ → Option ℕ → Option ℕ
-picked_id d k i y o = cond (same_id y i) (or_else (wanted d k y) o) o
+abbrev pub is_hit : List ℕ → Hits → Bool
+is_hit y hs = list_any (λ h. same_id y h.0.now) hs
 
--- what is picked for the id, once the document at a place was looked at
-abbrev pub pick : Docs → Key → List ℕ → ℕ → Option ℕ → Option ℕ
-pick d k y p o =
-    cond (passes (λ t. same_id y (id_of t)) (doc_at d p)) (or_else (wanted d k y) o) o
+-- each is wanted, and stands at its place
+abbrev pub AreWanted : Docs → Key → Hits → Type 0
+AreWanted d k hs = All (λ h. wanted d k h.0.now ≡ Some h.1) hs
 
-abbrev pub picked : Docs → Key → List ℕ → List Entry → Option ℕ → Option ℕ
-picked d k y [] o = o
-picked d k y (e ∷ es) o = picked d k y es (pick d k y e.place o)
+-- they are all that are wanted
+abbrev pub AreAll : Docs → Key → Hits → Type 0
+AreAll d k hs = (y : List ℕ) → is_hit y hs ≡ is_some (wanted d k y)
 
--- what is picked for each id
-abbrev pub Picks : (List ℕ → Option ℕ → Option ℕ) → Places → Places → Type 0
-Picks f old new = (y : List ℕ) → get id_cmp new y ≡ f y (get id_cmp old y)
+-- the id is the one looked at, and is wanted
+abbrev pub is_found : Docs → Key → List ℕ → List ℕ → Bool
+is_found d k i y = same_id y i && is_some (wanted d k y)
+
+-- the id is that of what stands at the place, and is wanted
+abbrev pub is_found_at : Docs → Key → ℕ → List ℕ → Bool
+is_found_at d k p y = passes (λ t. same_id y (id_of t)) (doc_at d p) && is_some (wanted d k y)
+
+-- at the place of one of these entries
+abbrev pub is_found_among : Docs → Key → List Entry → List ℕ → Bool
+is_found_among d k es y = list_any (λ e. is_found_at d k e.place y) es
+
+-- ids that pass a test are added
+abbrev pub Finds : (List ℕ → Bool) → Hits → Hits → Type 0
+Finds f old new = (y : List ℕ) → is_hit y new ≡ (f y || is_hit y old)
+
+-- the places of what was found, in the order of the ids
+abbrev pub ArePlacesIn : Hits → List ℕ → Type 0
+ArePlacesIn hs ps = (d : Docs) (k : Key) → AreWanted d k hs → AreAll d k hs → ArePlacesOf k d ps
 
 -- the entries of a code
 abbrev pub under : BTreeSet Entry → ℕ → List Entry
 under m c = keys_between entry_cmp (Included (entry c 0)) (Included (entry c 4294967295)) m
-
--- what stands under a code and has the key
-abbrev pub ArePicked : Docs → Key → BTreeSet Entry → ℕ → Places → Type 0
-ArePicked d k m c chosen = (y : List ℕ) → get id_cmp chosen y ≡ picked d k y (under m c) None

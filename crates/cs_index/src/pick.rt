@@ -1,13 +1,10 @@
 //! The places of the documents that have a key.
-ghost use Rattle.std.specs.Prelude.{◌≡◌, map, IfOk, OnOk};
-ghost use Rattle.std.specs.BTreeMap.{IsOrdered};
-ghost use Rattle.cs_view.specs.Dataset.{id_cmp};
+ghost use Rattle.std.specs.Prelude.{◌≡◌, ℕ, List, map, IfOk, OnOk};
 ghost use Rattle.cs_view.specs.declared.key.Key.TheVariants.{All, Id};
-ghost use Rattle.cs_codes.specs.Codes.{key_code};
+ghost use Rattle.cs_codes.specs.Kept.{IsKept};
 ghost use Rattle.cs_index.specs.Entries.{AreEntriesOf};
 ghost use Rattle.cs_index.specs.Index.{ArePlacesOf};
-ghost use Rattle.cs_codes.specs.Kept.{IsKept};
-ghost use Rattle.cs_index.specs.Picking.{wanted, pick, picked_id, Picks, ArePicked};
+ghost use Rattle.cs_index.specs.Picking.{wanted, under, is_hit, is_found, is_found_at, is_found_among, AreWanted, Finds, ArePlacesIn};
 
 use crate::entry::Entry;
 use cs_codes::key_code;
@@ -15,7 +12,7 @@ use cs_docs::Docs;
 use cs_value::{NoMemory, Txt};
 use cs_view::{Key, has};
 use std::alloc::Global;
-use std::collections::{BTreeMap, BTreeSet};
+use std::collections::BTreeSet;
 use std::hash::RandomState;
 
 // The place of the document with the id, if it has the key.
@@ -27,76 +24,88 @@ fn wanted(docs: &Docs, key: &Key, id: &Txt) -> Option<u32>
     if has(key, doc) { Some(place) } else { None }
 }
 
-// Picks the document with the id, if it has the key.
-#[tactic(auto, using(crate::proofs::Picked::pick_none, crate::proofs::Picked::pick_some))]
-fn choose_id(
-    alloc: Global,
-    chosen: &mut BTreeMap<Txt, u32>,
+// Adds the document with the id, if it has the key.
+#[tactic(auto, using(crate::proofs::Picked::none_found, crate::proofs::Picked::one_found))]
+fn choose_id<'d>(
     docs: &Docs,
     key: &Key,
-    id: &Txt,
+    id: &'d Txt,
+    hits: &mut Vec<(&'d Txt, u32)>,
 ) -> Result<(), NoMemory>
-    ensures { OnOk result (Picks (picked_id docs.now key.now id.now) chosen.old chosen.new) }
+    requires { AreWanted docs.now key.now hits.old.items }
+    ensures wanted { OnOk result (AreWanted docs.now key.now hits.new.items) }
+    ensures finds { OnOk result
+        (Finds (is_found docs.now key.now id.now) hits.old.items hits.new.items) }
 {
-    let Some(hit) = wanted(docs, key, id) else {
+    let Some(place) = wanted(docs, key, id) else {
         return Ok(());
     };
-    let copy = Txt::copy_of(alloc, id.as_str())?;
-    drop(chosen.insert(copy, hit)?);
+    hits.push((id, place))?;
     Ok(())
 }
 
-// Picks the document at a place, if it has the key.
-fn choose(
-    alloc: Global,
-    chosen: &mut BTreeMap<Txt, u32>,
-    docs: &Docs,
+// Adds the document at a place, if it has the key.
+fn choose<'d>(
+    docs: &'d Docs,
     key: &Key,
     place: u32,
+    hits: &mut Vec<(&'d Txt, u32)>,
 ) -> Result<(), NoMemory>
-    ensures { OnOk result (Picks (λ y. pick docs.now key.now y place) chosen.old chosen.new) }
+    requires { AreWanted docs.now key.now hits.old.items }
+    ensures wanted { OnOk result (AreWanted docs.now key.now hits.new.items) }
+    ensures finds { OnOk result
+        (Finds (is_found_at docs.now key.now place) hits.old.items hits.new.items) }
 {
     match docs.found(place) {
-        Some(doc) => choose_id(alloc, chosen, docs, key, doc.id()),
+        Some(doc) => choose_id(docs, key, doc.id(), hits),
         None => Ok(()),
     }
 }
 
-// What stands under a code and has the key, by its id.
-fn chosen_under(
+// What stands under a code and has the key.
+#[tactic(auto, using(crate::proofs::Marks::or_more))]
+fn hits_under<'d>(
     alloc: Global,
     entries: &BTreeSet<Entry>,
     code: u64,
-    docs: &Docs,
+    docs: &'d Docs,
     key: &Key,
-) -> Result<BTreeMap<Txt, u32>, NoMemory>
-    ensures { IfOk result (ArePicked docs.now key.now entries.now code) }
+) -> Result<Vec<(&'d Txt, u32)>, NoMemory>
+    ensures wanted { IfOk result (λ hits. AreWanted docs.now key.now hits.items) }
+    ensures found { IfOk result (λ hits. (y : List ℕ)
+        → is_hit y hits.items ≡ is_found_among docs.now key.now (under entries.now code) y) }
 {
-    let mut chosen = BTreeMap::new(alloc);
+    let mut hits = Vec::new(alloc);
     let low = Entry { code, place: 0 };
     let high = Entry {
         code,
         place: 4_294_967_295,
     };
     for entry in entries.range(low..=high) {
-        choose(alloc, &mut chosen, docs, key, entry.place)?;
+        choose(docs, key, entry.place, &mut hits)?;
     }
-    Ok(chosen)
+    Ok(hits)
 }
 
-// The places in a map, in the order of the ids.
-fn places_of(alloc: Global, chosen: &BTreeMap<Txt, u32>) -> Result<Vec<u32>, NoMemory>
-    ensures places { IfOk result
-        (λ places. places.items ≡ map (λ e. e.1) chosen.now.entries) }
-    ensures ordered { IsOrdered id_cmp chosen.now }
+fn second_of(alloc: Global, hits: &Vec<(&Txt, u32)>) -> Result<Vec<u32>, NoMemory>
+    ensures { IfOk result (λ places. places.items ≡ map (λ h. h.1) hits.now.items) }
 {
-    // A map's length tells that it is ordered.
-    let _count = chosen.len();
     let mut out = Vec::new(alloc);
-    for (_, place) in chosen.iter() {
-        out.push(*place)?;
+    for hit in hits {
+        out.push(hit.1)?;
     }
     Ok(out)
+}
+
+// The places of what was found, in the order of the ids.
+fn places_of(alloc: Global, hits: Vec<(&Txt, u32)>) -> Result<Vec<u32>, NoMemory>
+    ensures { IfOk result (λ places. ArePlacesIn hits.entry.items places.items) }
+{
+    let mut ascending = hits;
+    ascending.sort_unstable();
+    ascending.dedup();
+    let places = second_of(alloc, &ascending)?;
+    Ok(places)
 }
 
 // The places of the documents that have a key which the index keeps.
@@ -111,8 +120,8 @@ pub(crate) fn places_under(
     requires entries { AreEntriesOf seed.now entries.now docs.now }
     ensures { IfOk result (λ places. ArePlacesOf key.now docs.now places.items) }
 {
-    let chosen = chosen_under(alloc, entries, key_code(seed, key), docs, key)?;
-    let places = places_of(alloc, &chosen)?;
+    let hits = hits_under(alloc, entries, key_code(seed, key), docs, key)?;
+    let places = places_of(alloc, hits)?;
     Ok(places)
 }
 
@@ -135,8 +144,8 @@ pub(crate) fn place_of_id(
     requires { key.now ≡ Id id.now }
     ensures { IfOk result (λ places. ArePlacesOf key.now docs.now places.items) }
 {
-    let mut chosen = BTreeMap::new(alloc);
-    choose_id(alloc, &mut chosen, docs, key, id)?;
-    let places = places_of(alloc, &chosen)?;
+    let mut hits = Vec::new(alloc);
+    choose_id(docs, key, id, &mut hits)?;
+    let places = places_of(alloc, hits)?;
     Ok(places)
 }

@@ -1,13 +1,14 @@
-use Rattle.std.proofs.Common.{◌∙◌, ap, map, ℕ, None}
-use Rattle.cs_docs.specs.Store.{doc_at}
-use Rattle.cs_index.specs.Picking.{picked, under}
-use Rattle.cs_index.proofs.Picked.{selected, all_picked}
+use Rattle.std.proofs.Common.{◌∙◌, ap, ℕ}
+use Rattle.cs_index.specs.Picking.{is_found_among, under}
+use Rattle.cs_index.proofs.Picked.{all_found}
 use Rattle.cs_index.proofs.pick.places_under.Goals as goal
 
 pub returns : goal.returns
 returns c =
     let d = c.args.docs.now in
     let k = c.args.key.now in
-    ap (map (doc_at d)) c.in_ok-places.ensures.places
-    ∙ selected d k c.in_ok-chosen.chosen c.places_of.ensures.ordered
-    (λ y. c.in_ok-chosen.ensures y ∙ ap (λ (x : ℕ). picked d k y (under c.args.entries.now x) None) c.key_code.ensures ∙ all_picked c.args.seed.now d c.args.entries.now k c.requires.kept c.requires.entries y)
+    c.in_ok-places.ensures d k c.in_ok-hits.ensures.wanted
+    (λ y.
+    c.in_ok-hits.ensures.found y
+    ∙ ap (λ (x : ℕ). is_found_among d k (under c.args.entries.now x) y) c.key_code.ensures
+    ∙ all_found c.args.seed.now d c.args.entries.now k c.requires.kept c.requires.entries y)
