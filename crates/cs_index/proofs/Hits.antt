@@ -9,7 +9,7 @@ use Rattle.std.proofs.lemmas.List.Sorted.{All-permutation, IsPermutation-sym, li
 use Rattle.std.specs.BTreeMap.{is_at}
 use Rattle.std.specs.Cmp.{IsTotalOrder, then_total, on_total, both_tied, unsigned_ties}
 use Rattle.std.specs.Cmp.Lexicographic.{pointwise, on_texts, texts_ties}
-use Rattle.std.specs.List.{All, AllByRecursion, dedup, dedup_from}
+use Rattle.std.specs.List.{AllByRecursion, dedup, dedup_from}
 use Rattle.std.specs.List.Sorted.{IsPermutation, IsSorted, IsStrictlySortedBy}
 use Rattle.std.specs.Map.{keys_of, lookup}
 use Rattle.std.specs.Option.{is_some}
@@ -19,7 +19,7 @@ use Rattle.cs_view.specs.declared.key.Key.{Key}
 use Rattle.cs_view.proofs.Datasets.{same_id-same}
 use Rattle.cs_docs.specs.Store.{doc_at}
 use Rattle.cs_docs.specs.declared.docs.Docs.{Docs}
-use Rattle.cs_index.specs.Picking.{Hits, is_hit, wanted, AreWanted, AreAll, ArePlacesIn}
+use Rattle.cs_index.specs.Picking.{Hits, is_hit, wanted, ArePlacesIn}
 use Rattle.cs_index.proofs.Picked.{selected}
 
 abbrev Hit : Type 0

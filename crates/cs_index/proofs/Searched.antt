@@ -1,5 +1,5 @@
 -- Codes that ascend, as they are searched.
-use Rattle.std.proofs.Common.{◌≡◌, ℕ, ◌<◌, ◌≤◌, List, length, Bool, true, false, refl, sym, ap, ◌∙◌, nat_eq, eq-eqb, nat_lt, Result, Ok, Err, is_ok, MatchResult, arith, get_or}
+use Rattle.std.proofs.Common.{◌≡◌, ℕ, ◌<◌, ◌≤◌, List, length, false, refl, sym, ap, ◌∙◌, nat_eq, eq-eqb, Result, Ok, Err, is_ok, MatchResult, arith, get_or}
 use Rattle.std.proofs.lemmas.Grind.{common_steps}
 use Rattle.std.proofs.lemmas.List.Elements.{All-from_get_or}
 use Rattle.std.proofs.lemmas.List.Folds.{list_any_at, list_any_none}

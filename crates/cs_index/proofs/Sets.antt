@@ -1,11 +1,11 @@
 -- The set of a list of entries.
-use Rattle.std.proofs.Common.{◌≡◌, ℕ, List, [], ◌∷◌, Bool, true, false, ◌&&◌, ◌||◌, refl, sym, ap, ◌∙◌, nat_cmp, is_eq, Ordering, Less, Equal, Greater, arith}
+use Rattle.std.proofs.Common.{◌≡◌, ℕ, List, [], ◌∷◌, ◌&&◌, ◌||◌, refl, sym, ap, ◌∙◌, nat_cmp, is_eq, Ordering, Less, Equal, Greater, arith}
 use Rattle.std.proofs.lemmas.Grind.{common_steps}
 use Rattle.std.proofs.lemmas.List.Sorted.{list_any-IsPermutation}
 use Rattle.std.specs.List.{list_any}
 use Rattle.std.specs.List.Sorted.{IsPermutation}
 use Rattle.std.specs.Ordering.{ordering_then}
-use Rattle.cs_index.specs.Entries.{entry, same_entry, is_in}
+use Rattle.cs_index.specs.Entries.{same_entry, is_in}
 use Rattle.cs_index.specs.declared.entry.Entry.{Entry}
 
 both_equal : (o p : Ordering) → is_eq (ordering_then o p) ≡ (is_eq o && is_eq p)

@@ -20,7 +20,8 @@ use std::hash::RandomState;
 
 #[tactic(auto, using(crate::proofs::Marks::in_end))]
 fn list_code(entries: &mut Vec<Entry>, code: u64, place: u32) -> Result<(), NoMemory>
-    ensures { OnOk result (Collect (same_entry (entry code place)) entries.old.items entries.new.items) }
+    ensures { OnOk result
+        (Collect (same_entry (entry code place)) entries.old.items entries.new.items) }
 {
     entries.push(Entry { code, place })?;
     Ok(())

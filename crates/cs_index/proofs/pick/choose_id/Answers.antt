@@ -1,7 +1,7 @@
-use Rattle.std.proofs.Common.{◌≡◌, ◌∙◌, ap, sym, ◌++◌, ◌∷◌, [], Some}
+use Rattle.std.proofs.Common.{◌≡◌, ◌∙◌, ap, sym, Some}
 use Rattle.std.proofs.lemmas.List.Elements.{All-push, All-same}
 use Rattle.cs_index.specs.Picking.{wanted, is_hit}
-use Rattle.cs_index.proofs.Picked.{one_found, none_found}
+use Rattle.cs_index.proofs.Picked.{one_found}
 use Rattle.cs_index.proofs.pick.choose_id.Goals as goal
 
 pub returns-clause-wanted : goal.returns-clause-wanted

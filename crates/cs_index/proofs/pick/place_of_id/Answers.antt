@@ -1,4 +1,4 @@
-use Rattle.std.proofs.Common.{◌∙◌, ap, ◌||◌, List, ℕ}
+use Rattle.std.proofs.Common.{◌∙◌, ap, ◌||◌}
 use Rattle.cs_index.specs.Picking.{is_hit, is_found}
 use Rattle.cs_index.proofs.Picked.{one_key}
 use Rattle.cs_index.proofs.pick.place_of_id.Goals as goal

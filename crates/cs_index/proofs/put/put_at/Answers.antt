@@ -1,4 +1,4 @@
-use Rattle.std.proofs.Common.{◌∙◌, ap, option_map}
+use Rattle.std.proofs.Common.{◌∙◌, option_map}
 use Rattle.cs_view.specs.View.{doc}
 use Rattle.cs_codes.specs.Codes.{is_among}
 use Rattle.cs_index.specs.Entries.{has_entry, side_codes}
