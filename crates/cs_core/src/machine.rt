@@ -131,7 +131,7 @@ impl Core {
             index,
             moment: Txt::copy_of(alloc, FIRST_MOMENT)?,
             used: IndexSet::new(alloc),
-            live: Live::new(alloc),
+            live: Live::new(alloc, seed),
             listeners: Listeners::new(alloc),
             spent: false,
         })

@@ -134,8 +134,9 @@ fn push_hit(
     Ok(())
 }
 
-// The key of a simple query.
-fn key_of(alloc: Global, query: &Query, params: &Fields) -> Result<Key, NoMemory>
+/// The key of a simple query. It visits nothing. `NoMemory` where the allocator has no room for the
+/// texts of the key.
+pub fn key_of(alloc: Global, query: &Query, params: &Fields) -> Result<Key, NoMemory>
     requires { is_simple (expression_of query.now) ≡ true }
     ensures { IfOk result (λ k. k ≡ query_key (expression_of query.now) (fields params.now)) }
 {

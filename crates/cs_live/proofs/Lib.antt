@@ -1,6 +1,10 @@
+mod Bringing
+mod Coded
+mod Found
 mod Keyed
 mod Named
 mod News
 mod Places
 mod Refreshing
 mod Sames
+mod Untouched

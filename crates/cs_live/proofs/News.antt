@@ -44,13 +44,13 @@ refreshed-records docs cs (x ∷ xs) (y ∷ ys) h = (h.0.records, refreshed-reco
 
 -- ---- a loop over the entries
 -- what is left begins with the same entry in both lists
-here-same : {X : Type 0} (xs ys : List X) (i : ℕ) (d : X) → i < length xs → length xs ≡ length ys → drop i xs ≡ drop i ys → get_or xs i d ≡ get_or ys i d
+pub here-same : {X : Type 0} (xs ys : List X) (i : ℕ) (d : X) → i < length xs → length xs ≡ length ys → drop i xs ≡ drop i ys → get_or xs i d ≡ get_or ys i d
 here-same xs ys i d low long h =
     let a = drop_more xs i d low in
     let b = drop_more ys i d (omega arith) in
     let both : get_or xs i d ∷ drop (i + 1) xs ≡ get_or ys i d ∷ drop (i + 1) ys = sym a ∙ h ∙ b in cc
 
-rest-same : {X : Type 0} (xs ys : List X) (i : ℕ) (d : X) → i < length xs → length xs ≡ length ys → drop i xs ≡ drop i ys → drop (i + 1) xs ≡ drop (i + 1) ys
+pub rest-same : {X : Type 0} (xs ys : List X) (i : ℕ) (d : X) → i < length xs → length xs ≡ length ys → drop i xs ≡ drop i ys → drop (i + 1) xs ≡ drop (i + 1) ys
 rest-same xs ys i d low long h =
     let a = drop_more xs i d low in
     let b = drop_more ys i d (omega arith) in

@@ -62,7 +62,7 @@ rows-more old cur new changes i c low here asks so is =
     ∙ ap (λ (l : List Change). After (rows old) (changes_where (is_row old) (edits l))) (sym (drop_more changes i c low))
 
 pub asks-on : (old cur new : Rows) → AsksTheSame old cur → AsksTheSame cur new → AsksTheSame old new
-asks-on old cur new a b = record { query = b.query ∙ a.query; params = b.params ∙ a.params }
+asks-on old cur new a b = record { query = b.query ∙ a.query; params = b.params ∙ a.params; codes = b.codes ∙ a.codes }
 
 -- rows that fit the dataset before ascend
 pub rows-ascend : (docs : List Tree) (cs : List Edit) → ascending docs ≡ true → (r : Rows) → FitsRows (Before docs cs) r → ascending (rows r) ≡ true
@@ -94,11 +94,12 @@ rows-refreshed settles back follows docs cs h changes leads old new fits is answ
       records = tt;
     }
 
-pub entry-refreshed : (docs : List Tree) (cs : List Edit) (old new : Entry) → new.name ≡ old.name → RefreshesKept docs cs old.kept new.kept → Refreshes docs cs old new
-entry-refreshed docs cs old new same m = record {
+pub entry-refreshed : (docs : List Tree) (cs : List Edit) (old new : Entry) → new.name ≡ old.name → new.number ≡ old.number → RefreshesKept docs cs old.kept new.kept → Refreshes docs cs old new
+entry-refreshed docs cs old new same number m = record {
   live = λ i. record { name = same i; query = m.answers.query i; params = m.answers.params i; last = m.answers.last i };
   fits = m.answers.fits;
   records = m.records;
+  number = number;
 }
 
 -- whether the answer is another than the last one

@@ -16,6 +16,7 @@ use Rattle.cs_meaning.specs.Values.{query_value}
 use Rattle.cs_live.specs.Keys.{keys_of}
 use Rattle.cs_live.specs.Rows.{rows as rows_of, IsAnswered}
 use Rattle.cs_live.specs.Lives.{LiveQuery, refreshed, is_named, most_lives}
+use Rattle.cs_live.specs.Found.{AreFound}
 use Rattle.cs_live.specs.Entries.{query_of, params_of, last_of, live_query, entries}
 use Rattle.cs_live.specs.declared.entry.Entry.{Entry}
 use Rattle.cs_live.specs.declared.recorded.Recorded.{Recorded}
@@ -51,8 +52,10 @@ FitsKept docs (InRows r) = FitsRows docs r
 abbrev pub FitsOne : List Tree → Entry → Type 0
 FitsOne docs e = FitsKept docs e.kept
 
-abbrev pub Fits : Live → List Tree → Type 0
-Fits l docs = All (FitsOne docs) (entries l)
+-- each entry fits the dataset, and by the keys that changes touch the entries are found
+pub record Fits (l : Live) (docs : List Tree) : Type 0 where
+  pub answers : All (FitsOne docs) (entries l)
+  pub found : AreFound l
 
 -- nothing is asked after the changes: no change touches the keys, and rows never ask
 abbrev pub IsQuiet : List Edit → Kept → Type 0
@@ -84,6 +87,7 @@ pub record Refreshes (docs : List Tree) (cs : List Edit) (old new : Entry) : Typ
   pub live : live_query new ≡ refreshed docs (live_query old)
   pub fits : FitsOne docs new
   pub records : KeepsRecord cs old.kept new.kept
+  pub number : new.number ≡ old.number
 
 -- nothing is asked after the changes for any entry
 abbrev pub IsUntouched : Live → List Edit → Type 0

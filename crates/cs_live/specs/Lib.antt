@@ -1,5 +1,7 @@
+pub mod Brought
 pub mod Entries
 pub mod Fits
+pub mod Found
 pub mod Keys
 pub mod Lives
 pub mod Rows

@@ -22,10 +22,11 @@ is_row r = is_hit (query r.query) (fields r.params)
 abbrev pub IsAnswered : Rows → Type 0
 IsAnswered r = tree r.answer ≡ tail (query r.query) (fields r.params) (rows r)
 
--- what is asked is as it was
+-- what is asked is as it was, and so are the codes by which changes find it
 pub record AsksTheSame (old new : Rows) : Type 0 where
   pub query : query new.query ≡ query old.query
   pub params : fields new.params ≡ fields old.params
+  pub codes : new.codes ≡ old.codes
 
 -- a document of the id stands at this place among the documents
 pub record IsHeldAt (id : List ℕ) (docs : List Tree) (i : ℕ) : Type 0 where

@@ -9,15 +9,18 @@ ghost use Rattle.cs_plan.specs.Simple.{is_simple};
 ghost use Rattle.cs_meaning.specs.Hits.{cost};
 ghost use Rattle.cs_live.specs.Entries.{live_query, last_of, said};
 ghost use Rattle.cs_live.specs.Fits.{Answers, FitsKept, FitsOne, IsQuiet, Refreshes, RefreshesKept};
+ghost use Rattle.cs_live.specs.Found.{IsCoded, IsFound, KeepsOthers, codes_of};
 ghost use Rattle.cs_live.specs.Lives.{has_live_name, is_stale, made, news_of, say};
 
 use crate::recorded::Recorded;
 use crate::rows::Rows;
+use cs_interest::Interest;
 use cs_plan::simple;
 use cs_syntax::Query;
 use cs_value::{Fields, NoMemory, Steps, Txt, Val};
 use cs_view::{Change, View};
 use std::alloc::Global;
+use std::hash::RandomState;
 use std::sync::ledger::Ledger;
 
 /// How a last answer is kept.
@@ -29,11 +32,12 @@ pub(crate) enum Kept {
     InRows(Rows),
 }
 
-/// A live query with its last answer.
+/// A live query with its last answer, and its number among those that are interested in keys.
 #[derive(Drop)]
 pub(crate) struct Entry {
     pub(crate) name: Txt,
     pub(crate) kept: Kept,
+    pub(crate) number: u64,
 }
 
 /// What is said of a live query: its name and its answer.
@@ -50,6 +54,7 @@ impl Kept {
     // record otherwise. For a simple query no more documents are visited than have its key.
     fn make<V: View<L>, L: Ledger>(
         alloc: Global,
+        seed: &RandomState,
         query: Query,
         params: Fields,
         view: &V,
@@ -57,13 +62,14 @@ impl Kept {
     ) -> Result<Kept, NoMemory>
         ensures answers { IfOk result (λ kept. Answers (V.docs view.now) (query_of query)
             (fields params) kept) }
+        ensures coded { IfOk result (λ kept. IsCoded seed.now kept) }
         ensures visits { is_simple (query_of query) ≡ true
             → steps.new ≤ steps.old + cost (query_of query) (fields params) (V.docs view.now) }
     {
         if simple(&query) {
-            return Ok(Kept::InRows(Rows::build(alloc, query, params, view, steps)?));
+            return Ok(Kept::InRows(Rows::build(alloc, seed, query, params, view, steps)?));
         }
-        Ok(Kept::ByRecord(Recorded::build(alloc, query, params, view, steps)?))
+        Ok(Kept::ByRecord(Recorded::build(alloc, seed, query, params, view, steps)?))
     }
 
     /// The last answer.
@@ -76,10 +82,23 @@ impl Kept {
         }
     }
 
-    // Brings the answer to the dataset after the changes: whether it is another tree now.
+    /// The codes under which interest in its keys is held.
+    pub(crate) fn codes(&self) -> &[u64]
+        ensures { result.now ≡ codes_of self.now }
+    {
+        match self {
+            Kept::ByRecord(kept) => &kept.keys.codes,
+            Kept::InRows(kept) => &kept.codes,
+        }
+    }
+
+    // Brings the answer to the dataset after the changes, and the number to the keys that it has
+    // now: whether it is another tree now.
     fn refresh<V: View<L>, L: Ledger>(
         &mut self,
         alloc: Global,
+        number: u64,
+        interest: &mut Interest,
         view: &V,
         changes: &[Change],
         steps: &mut Steps<L>,
@@ -87,14 +106,20 @@ impl Kept {
         requires changes { are_changes (edits changes.now) ≡ true }
         requires led { LeadTo (V.docs view.now) (edits changes.now) }
         requires fits { FitsKept (Before (V.docs view.now) (edits changes.now)) self.old }
+        requires found { IsFound interest.old number self.old }
         ensures refreshed { OnOk result
             (RefreshesKept (V.docs view.now) (edits changes.now) self.old self.new) }
         ensures stale { IfOk result (λ b. b ≡ not (same_tree (last_of self.new) (last_of self.old))) }
         ensures quiet { IsQuiet (edits changes.now) self.old → steps.new ≡ steps.old }
+        ensures found { OnOk result (IsFound interest.new number self.new) }
+        ensures others { OnOk result (KeepsOthers number interest.old interest.new) }
     {
         match self {
-            Kept::ByRecord(kept) => kept.refresh(alloc, view, changes, steps),
-            Kept::InRows(kept) => kept.refresh(alloc, view, changes),
+            Kept::ByRecord(kept) => kept.refresh(alloc, number, interest, view, changes, steps),
+            Kept::InRows(kept) => {
+                let stale = kept.refresh(alloc, view, changes)?;
+                Ok(stale)
+            }
         }
     }
 }
@@ -105,6 +130,8 @@ impl Entry {
     pub(crate) fn make<V: View<L>, L: Ledger>(
         alloc: Global,
         name: Txt,
+        number: u64,
+        seed: &RandomState,
         query: Query,
         params: Fields,
         view: &V,
@@ -113,11 +140,13 @@ impl Entry {
         ensures made { IfOk result (λ e. live_query e
             ≡ made (V.docs view.now) name (query_of query) (fields params)) }
         ensures fits { IfOk result (λ e. FitsOne (V.docs view.now) e) }
+        ensures coded { IfOk result (λ e. IsCoded seed.now e.kept) }
+        ensures number { IfOk result (λ e. e.number ≡ number) }
         ensures visits { is_simple (query_of query) ≡ true
             → steps.new ≤ steps.old + cost (query_of query) (fields params) (V.docs view.now) }
     {
-        let kept = Kept::make(alloc, query, params, view, steps)?;
-        Ok(Entry { name, kept })
+        let kept = Kept::make(alloc, seed, query, params, view, steps)?;
+        Ok(Entry { name, kept, number })
     }
 
     /// Whether the live query has the name.
@@ -140,6 +169,7 @@ impl Entry {
     fn refresh<V: View<L>, L: Ledger>(
         &mut self,
         alloc: Global,
+        interest: &mut Interest,
         view: &V,
         changes: &[Change],
         steps: &mut Steps<L>,
@@ -147,20 +177,27 @@ impl Entry {
         requires changes { are_changes (edits changes.now) ≡ true }
         requires led { LeadTo (V.docs view.now) (edits changes.now) }
         requires fits { FitsOne (Before (V.docs view.now) (edits changes.now)) self.old }
+        requires found { IsFound interest.old self.old.number self.old.kept }
         ensures refreshed { OnOk result
             (Refreshes (V.docs view.now) (edits changes.now) self.old self.new) }
         ensures stale { IfOk result (λ b. b ≡ is_stale (V.docs view.now) (live_query self.old)) }
         ensures quiet { IsQuiet (edits changes.now) self.old.kept → steps.new ≡ steps.old }
+        ensures found { OnOk result (IsFound interest.new self.new.number self.new.kept) }
+        ensures others { OnOk result (KeepsOthers self.old.number interest.old interest.new) }
     {
-        let stale = self.kept.refresh(alloc, view, changes, steps)?;
+        let number = self.number;
+        let stale = self
+            .kept
+            .refresh(alloc, number, interest, view, changes, steps)?;
         Ok(stale)
     }
 
-    /// Brings the entry to the dataset after the changes, and puts its line last where its answer is
-    /// another tree now.
+    /// Brings the entry to the dataset after the changes, and its number to the keys that it has
+    /// now, and puts its line last where its answer is another tree now.
     pub(crate) fn refresh_into<V: View<L>, L: Ledger>(
         &mut self,
         alloc: Global,
+        interest: &mut Interest,
         lines: &mut Vec<LiveLine>,
         view: &V,
         changes: &[Change],
@@ -169,13 +206,16 @@ impl Entry {
         requires changes { are_changes (edits changes.now) ≡ true }
         requires led { LeadTo (V.docs view.now) (edits changes.now) }
         requires fits { FitsOne (Before (V.docs view.now) (edits changes.now)) self.old }
+        requires found { IsFound interest.old self.old.number self.old.kept }
         ensures refreshed { OnOk result
             (Refreshes (V.docs view.now) (edits changes.now) self.old self.new) }
         ensures lines { OnOk result (map said lines.new.items
             ≡ map said lines.old.items ++ news_of (V.docs view.now) (live_query self.old)) }
         ensures quiet { IsQuiet (edits changes.now) self.old.kept → steps.new ≡ steps.old }
+        ensures found { OnOk result (IsFound interest.new self.new.number self.new.kept) }
+        ensures others { OnOk result (KeepsOthers self.old.number interest.old interest.new) }
     {
-        if self.refresh(alloc, view, changes, steps)? {
+        if self.refresh(alloc, interest, view, changes, steps)? {
             lines.push(self.line(alloc)?)?;
         }
         Ok(())

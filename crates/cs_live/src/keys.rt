@@ -1,42 +1,61 @@
 //! The keys that finding an answer looked up, kept so that a change finds its id among them.
-ghost use Rattle.std.specs.Prelude.{◌≡◌, ◌++◌, ◌∷◌, ◌||◌, [], true, IfOk, OnOk, is_some};
+ghost use Rattle.std.specs.Prelude.{◌≡◌, ◌++◌, ◌∷◌, ◌||◌, [], true, IfOk, OnOk, is_some, map};
 ghost use Rattle.std.specs.List.{list_any};
 ghost use Rattle.cs_view.specs.Changes.{are_changes, is_of_id};
 ghost use Rattle.cs_view.specs.Touched.{touched, touches};
 ghost use Rattle.cs_view.specs.View.{edit, edits};
+ghost use Rattle.cs_interest.specs.Interest.{interest_code};
 ghost use Rattle.cs_live.specs.Fits.{SameKeys};
 ghost use Rattle.cs_live.specs.Keys.{ids_of, keys_of};
 
+use cs_interest::interest_code;
 use cs_value::{NoMemory, OrderedMap};
 use cs_view::{Change, Key, Record};
 use std::alloc::Global;
+use std::hash::RandomState;
 
 /// The keys that finding an answer looked up: ids, each once, apart from the others, so that a
-/// change finds its id among them.
+/// change finds its id among them. With the codes under which interest in them is held.
 #[derive(Drop)]
 pub(crate) struct Keys {
     ids: OrderedMap<()>,
     others: Record,
+    pub(crate) codes: Vec<u64>,
 }
 
 impl Keys {
     /// The keys of the record.
-    pub(crate) fn of(alloc: Global, looked: Record) -> Result<Keys, NoMemory>
-        ensures { IfOk result (λ keys. SameKeys (keys_of keys) looked) }
+    pub(crate) fn of(alloc: Global, seed: &RandomState, looked: Record) -> Result<Keys, NoMemory>
+        ensures keys { IfOk result (λ keys. SameKeys (keys_of keys) looked) }
+        ensures codes { IfOk result
+            (λ keys. keys.codes.items ≡ map (interest_code seed.now) looked) }
     {
         let mut keys = Keys {
             ids: OrderedMap::new(alloc),
             others: Record::new(alloc),
+            codes: Vec::new(alloc),
         };
         for key in looked.into_keys() {
-            keys.add(key)?;
+            keys.add(seed, key)?;
         }
         Ok(keys)
     }
 
-    // Adds the key; an id that is there stays as it is.
-    fn add(&mut self, key: Key) -> Result<(), NoMemory>
-        ensures { OnOk result (SameKeys (keys_of self.new) (keys_of self.old ++ key ∷ [])) }
+    // Adds the key and its code; an id that is there stays as it is.
+    fn add(&mut self, seed: &RandomState, key: Key) -> Result<(), NoMemory>
+        ensures keys { OnOk result (SameKeys (keys_of self.new) (keys_of self.old ++ key ∷ [])) }
+        ensures codes { OnOk result
+            (self.new.codes.items ≡ self.old.codes.items ++ interest_code seed.now key ∷ []) }
+    {
+        self.codes.push(interest_code(seed, &key))?;
+        self.put_key(key)?;
+        Ok(())
+    }
+
+    // Puts the key beside the others.
+    fn put_key(&mut self, key: Key) -> Result<(), NoMemory>
+        ensures keys { OnOk result (SameKeys (keys_of self.new) (keys_of self.old ++ key ∷ [])) }
+        ensures codes { self.new.codes ≡ self.old.codes }
     {
         match key {
             Key::Id(id) => {

@@ -3,6 +3,7 @@
 
 mod entry;
 mod keys;
+mod laws;
 mod live;
 mod recorded;
 mod rows;

@@ -1,5 +1,5 @@
 //! The live queries of a store.
-ghost use Rattle.std.specs.Prelude.{◌≡◌, ◌++◌, ◌∷◌, ◌≤◌, ◌+◌, [], List, IfOk, OnOk, OnErr, IfErr, true, false, map, option_map};
+ghost use Rattle.std.specs.Prelude.{◌≡◌, ◌++◌, ◌∷◌, ◌<◌, ◌≤◌, ◌+◌, [], List, length, get_or, IfOk, OnOk, OnErr, IfErr, true, false, map, option_map};
 ghost use Rattle.cs_value.specs.Tree.{Tree};
 ghost use Rattle.cs_value.specs.View.{tree, fields};
 ghost use Rattle.cs_syntax.specs.Queries.{query as query_of};
@@ -8,14 +8,21 @@ ghost use Rattle.cs_view.specs.View.{edits};
 ghost use Rattle.cs_plan.specs.Simple.{is_simple};
 ghost use Rattle.cs_meaning.specs.Hits.{cost};
 ghost use Rattle.cs_live.specs.Entries.{entries, lives, said, IsPlace};
-ghost use Rattle.cs_live.specs.Fits.{Fits, IsUntouched, KeepsRecords, HasRoom, IsCause};
+ghost use Rattle.cs_interest.specs.Interest.{Entered, Left};
+ghost use Rattle.cs_live.specs.Brought.{AtNumber, Brings, BringsAt};
+ghost use Rattle.cs_live.specs.Fits.{Fits, FitsOne, IsUntouched, IsQuiet, KeepsRecords, HasRoom, IsCause};
+ghost use Rattle.cs_live.specs.Found.{AreFound, Ascend, IsNumberPlace, codes_of};
+ghost use Rattle.cs_live.specs.declared.entry.Entry.{Entry};
 ghost use Rattle.cs_live.specs.Lives.{all_refreshed, answer_of, is_named, made, news, say, without_name};
 
 use crate::entry::{Entry, LiveLine};
+use crate::laws::unasked_stays;
+use cs_interest::Interest;
 use cs_syntax::Query;
 use cs_value::{Fields, NoMemory, NoName, Steps, Txt, Val};
 use cs_view::{Change, View};
 use std::alloc::Global;
+use std::hash::RandomState;
 use std::sync::ledger::Ledger;
 
 /// Why a live query is not added.
@@ -32,22 +39,40 @@ pub enum LiveFault {
 /// How many live queries may stand.
 pub const MOST_LIVES: u32 = 1024;
 
-/// The live queries of a store, in the order made, with their last answers.
+// The highest number.
+const HIGHEST: u64 = 18_446_744_073_709_551_615;
+
+/// The live queries of a store, in the order made, with their last answers. The keys of all of
+/// them stand in one place, so that a commit finds those that it concerns without a walk over the
+/// others.
 #[derive(Drop)]
 pub struct Live {
     alloc: Global,
     entries: Vec<Entry>,
+    interest: Interest,
+    next: u64,
+}
+
+// Where the entry of the number stands.
+fn seek(entries: &[Entry], number: u64) -> Result<usize, usize>
+    requires { Ascend entries.now }
+    ensures { IsNumberPlace number entries.now result }
+{
+    entries.binary_search_by(|entry| entry.number.cmp(&number))
 }
 
 impl Live {
-    /// No live query.
-    pub fn new(alloc: Global) -> Live
+    /// No live query. The seed settles by which codes their keys will be found.
+    pub fn new(alloc: Global, seed: RandomState) -> Live
         ensures lives { lives result ≡ [] }
         ensures fits { (docs : List Tree) → Fits result docs }
     {
+        let interest = Interest::new(alloc, seed);
         Live {
             alloc,
             entries: Vec::new(alloc),
+            interest,
+            next: 0,
         }
     }
 
@@ -91,7 +116,9 @@ impl Live {
     {
         match self.place(name) {
             Some(place) => {
-                drop(self.entries.remove(place));
+                let gone = self.entries.remove(place);
+                self.interest.leave(gone.number, gone.kept.codes());
+                drop(gone);
                 Ok(())
             }
             None => Err(NoName),
@@ -132,6 +159,8 @@ impl Live {
             → Fits self.new (V.docs view.now)) }
         ensures cause { IfErr result (λ fault. IsCause fault name (lives self.old)) }
         ensures unchanged { OnErr result (entries self.new ≡ entries self.old) }
+        ensures fits_still { OnErr result ((docs : List Tree) → Fits self.old docs
+            → Fits self.new docs) }
         ensures visits { is_simple (query_of query) ≡ true
             → steps.new ≤ steps.old + cost (query_of query) (fields params) (V.docs view.now) }
     {
@@ -158,19 +187,109 @@ impl Live {
         ensures fits { OnOk result (Fits self.old (V.docs view.now)
             → Fits self.new (V.docs view.now)) }
         ensures unchanged { OnErr result (entries self.new ≡ entries self.old) }
+        ensures fits_still { OnErr result ((docs : List Tree) → Fits self.old docs
+            → Fits self.new docs) }
         ensures visits { is_simple (query_of query) ≡ true
             → steps.new ≤ steps.old + cost (query_of query) (fields params) (V.docs view.now) }
     {
-        let entry = Entry::make(self.alloc, name, query, params, view, steps)?;
+        let number = self.next;
+        if number >= HIGHEST {
+            return Err(NoMemory);
+        }
+        let seed = self.interest.seed();
+        let entry = Entry::make(self.alloc, name, number, seed, query, params, view, steps)?;
         let line = entry.line(self.alloc)?;
-        self.entries.push(entry)?;
+        self.push(entry)?;
+        self.next = number + 1;
         Ok(line)
+    }
+
+    // Puts the entry last, and its number under its codes.
+    fn push(&mut self, entry: Entry) -> Result<(), NoMemory>
+        ensures pushed { OnOk result (entries self.new ≡ entries self.old ++ entry ∷ []) }
+        ensures entered { OnOk result
+            (Entered entry.number (codes_of entry.kept) self.old.interest self.new.interest) }
+        ensures unchanged { OnErr result (entries self.new ≡ entries self.old) }
+        ensures left { OnErr result
+            (Left entry.number (codes_of entry.kept) self.old.interest self.new.interest) }
+        ensures seed { self.new.interest.seed ≡ self.old.interest.seed }
+        ensures next { self.new.next ≡ self.old.next }
+    {
+        self.interest.enter(entry.number, entry.kept.codes())?;
+        match self.entries.push(entry) {
+            Ok(()) => Ok(()),
+            Err(failed) => {
+                let entry = failed.value;
+                self.interest.leave(entry.number, entry.kept.codes());
+                drop(entry);
+                Err(NoMemory)
+            }
+        }
+    }
+
+    // Brings the entry at the place to the dataset after the changes.
+    fn bring_at<V: View<L>, L: Ledger>(
+        &mut self,
+        place: usize,
+        lines: &mut Vec<LiveLine>,
+        view: &V,
+        changes: &[Change],
+        steps: &mut Steps<L>,
+    ) -> Result<(), NoMemory>
+        requires within { place < length (entries self.old) }
+        requires changes { are_changes (edits changes.now) ≡ true }
+        requires led { LeadTo (V.docs view.now) (edits changes.now) }
+        requires fits { (e : Entry) → FitsOne (Before (V.docs view.now) (edits changes.now))
+            (get_or (entries self.old) place e) }
+        requires found { AreFound self.old }
+        ensures brought { OnOk result (BringsAt (V.docs view.now) (edits changes.now)
+            (entries self.old) (entries self.new) (map said lines.old.items)
+            (map said lines.new.items) place) }
+        ensures found { OnOk result (AreFound self.new) }
+        ensures quiet { ((e : Entry) → IsQuiet (edits changes.now)
+            (get_or (entries self.old) place e).kept) → steps.new ≡ steps.old }
+    {
+        let alloc = self.alloc;
+        let entry = &mut self.entries[place];
+        entry.refresh_into(alloc, &mut self.interest, lines, view, changes, steps)?;
+        Ok(())
+    }
+
+    // Brings the entry of the number, if there is one, to the dataset after the changes.
+    fn bring<V: View<L>, L: Ledger>(
+        &mut self,
+        number: u64,
+        lines: &mut Vec<LiveLine>,
+        view: &V,
+        changes: &[Change],
+        steps: &mut Steps<L>,
+    ) -> Result<(), NoMemory>
+        requires changes { are_changes (edits changes.now) ≡ true }
+        requires led { LeadTo (V.docs view.now) (edits changes.now) }
+        requires fits { AtNumber number (FitsOne (Before (V.docs view.now) (edits changes.now)))
+            (entries self.old) }
+        requires found { AreFound self.old }
+        ensures brought { OnOk result (Brings (V.docs view.now) (edits changes.now) number
+            (entries self.old) (entries self.new) (map said lines.old.items)
+            (map said lines.new.items)) }
+        ensures found { OnOk result (AreFound self.new) }
+        ensures quiet { AtNumber number (λ e. IsQuiet (edits changes.now) e.kept)
+            (entries self.old) → steps.new ≡ steps.old }
+    {
+        match seek(&self.entries, number) {
+            Ok(place) => {
+                self.bring_at(place, lines, view, changes, steps)?;
+                Ok(())
+            }
+            Err(_) => Ok(()),
+        }
     }
 
     /// After a commit of the changes: one line for each live query whose answer is another tree
     /// now, in the order made. The view is the dataset after the changes, and the live queries fit
-    /// the one before them. Where no change touches a record, nothing is asked of the view. After
-    /// `NoMemory` some answers are those before the changes, and some those after.
+    /// the one before them. It goes to those alone whose keys the changes may touch. Where no change
+    /// touches a record, nothing is asked of the view. After `NoMemory` some answers are those
+    /// before the changes, and some those after.
     pub fn after_commit<V: View<L>, L: Ledger>(
         &mut self,
         view: &V,
@@ -188,10 +307,12 @@ impl Live {
         ensures records { OnOk result (KeepsRecords self.old self.new (edits changes.now)) }
         ensures quiet { IsUntouched self.old (edits changes.now) → steps.new ≡ steps.old }
     {
+        unasked_stays();
         let alloc = self.alloc;
+        let asked = self.interest.asked(alloc, changes)?;
         let mut lines = Vec::new(alloc);
-        for entry in self.entries.iter_mut() {
-            entry.refresh_into(alloc, &mut lines, view, changes, steps)?;
+        for number in &asked {
+            self.bring(*number, &mut lines, view, changes, steps)?;
         }
         Ok(lines)
     }

@@ -1,5 +1,5 @@
 //! Answers of simple queries, that are kept with the documents behind them.
-ghost use Rattle.std.specs.Prelude.{◌≡◌, ◌≤◌, ◌+◌, false, true, not, map, IfOk, OnOk};
+ghost use Rattle.std.specs.Prelude.{◌≡◌, ◌≤◌, ◌+◌, ◌∷◌, [], false, true, not, map, IfOk, OnOk};
 ghost use Rattle.cs_value.specs.Same.{same_tree};
 ghost use Rattle.cs_value.specs.View.{tree, fields};
 ghost use Rattle.cs_syntax.specs.Queries.{query as query_of};
@@ -7,28 +7,34 @@ ghost use Rattle.cs_view.specs.Changes.{are_changes, LeadTo, Before, After, chan
 ghost use Rattle.cs_view.specs.Dataset.{ascending, kept_if, placed, with_doc, without};
 ghost use Rattle.cs_view.specs.Document.{id_of};
 ghost use Rattle.cs_view.specs.View.{doc as document, edit, edits};
-ghost use Rattle.cs_plan.specs.Simple.{is_simple};
+ghost use Rattle.cs_plan.specs.Simple.{is_simple, query_key};
+ghost use Rattle.cs_interest.specs.Interest.{interest_code};
 ghost use Rattle.cs_meaning.specs.Hits.{cost};
 ghost use Rattle.cs_live.specs.Fits.{Answers, FitsRows, RefreshesKept};
+ghost use Rattle.cs_live.specs.Found.{IsCoded};
 ghost use Rattle.cs_live.specs.Rows.{rows, is_row, AsksTheSame, IsAnswered, IsPlaceOf};
 ghost use Rattle.cs_live.specs.declared.entry.Kept.{Kept};
 
 use crate::same::is_same;
-use cs_eval::{hit, hits, simple_is_tail_of_hits, tail};
+use cs_eval::{hit, hits, key_of, simple_is_tail_of_hits, tail};
+use cs_interest::interest_code;
 use cs_syntax::Query;
 use cs_value::{Fields, NoMemory, Steps, Txt, Val};
 use cs_view::laws::{changes_lead_back_and_on, filter_follows_changes};
 use cs_view::{Change, Doc, View};
 use std::alloc::Global;
+use std::hash::RandomState;
 use std::sync::ledger::Ledger;
 
-/// A simple query with the documents that make its filter true, by ascending id, and its answer.
+/// A simple query with the documents that make its filter true, by ascending id, its answer, and
+/// the code under which interest in its key is held.
 #[derive(Drop)]
 pub(crate) struct Rows {
     pub(crate) query: Query,
     pub(crate) params: Fields,
     pub(crate) docs: Vec<Doc>,
     pub(crate) answer: Val,
+    pub(crate) codes: Vec<u64>,
 }
 
 // Where the document of the id stands, or else the place that it would take.
@@ -67,10 +73,37 @@ fn remove(docs: &mut Vec<Doc>, id: &Txt) -> bool
     }
 }
 
+// The code under which interest in the key of a simple query is held.
+fn code(alloc: Global, seed: &RandomState, query: &Query, params: &Fields) -> Result<u64, NoMemory>
+    requires { is_simple (query_of query.now) ≡ true }
+    ensures { IfOk result (λ c. c
+        ≡ interest_code seed.now (query_key (query_of query.now) (fields params.now))) }
+{
+    let key = key_of(alloc, query, params)?;
+    Ok(interest_code(seed, &key))
+}
+
+// That code, as a list.
+fn codes(
+    alloc: Global,
+    seed: &RandomState,
+    query: &Query,
+    params: &Fields,
+) -> Result<Vec<u64>, NoMemory>
+    requires { is_simple (query_of query.now) ≡ true }
+    ensures { IfOk result (λ cs. cs.items
+        ≡ interest_code seed.now (query_key (query_of query.now) (fields params.now)) ∷ []) }
+{
+    let mut codes = Vec::new(alloc);
+    codes.push(code(alloc, seed, query, params)?)?;
+    Ok(codes)
+}
+
 impl Rows {
     /// The query with its hits in the view, and its answer.
     pub(crate) fn build<V: View<L>, L: Ledger>(
         alloc: Global,
+        seed: &RandomState,
         query: Query,
         params: Fields,
         view: &V,
@@ -79,17 +112,20 @@ impl Rows {
         requires { is_simple (query_of query) ≡ true }
         ensures answers { IfOk result (λ r. Answers (V.docs view.now) (query_of query)
             (fields params) (Kept.InRows r)) }
+        ensures coded { IfOk result (λ r. IsCoded seed.now (Kept.InRows r)) }
         ensures visits { steps.new
             ≤ steps.old + cost (query_of query) (fields params) (V.docs view.now) }
     {
         simple_is_tail_of_hits();
         let docs = hits(alloc, &query, &params, view, steps)?;
         let answer = tail(alloc, &query, &params, &docs)?;
+        let codes = codes(alloc, seed, &query, &params)?;
         Ok(Rows {
             query,
             params,
             docs,
             answer,
+            codes,
         })
     }
 
@@ -156,6 +192,7 @@ impl Rows {
             (Kept.InRows self.old) (Kept.InRows self.new)) }
         ensures stale { IfOk result
             (λ b. b ≡ not (same_tree (tree self.new.answer) (tree self.old.answer))) }
+        ensures asks { AsksTheSame self.old self.new }
     {
         simple_is_tail_of_hits();
         changes_lead_back_and_on();

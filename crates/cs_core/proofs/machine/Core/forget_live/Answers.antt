@@ -18,6 +18,17 @@ returns-in-Ok-clause-usable c =
       };
     }
 
+pub returns-in-Err-clause-usable : goal.returns-in-Err-clause-usable
+returns-in-Err-clause-usable c =
+    let core = c.args.self.now in
+    record {
+      unspent = c.requires.usable.unspent;
+      fitting = record {
+        lives = c.remove.ensures.fits (docs core.docs) c.requires.usable.fitting.lives;
+        index = c.requires.usable.fitting.index;
+      };
+    }
+
 pub returns-in-Err-clause-state : goal.returns-in-Err-clause-state
 returns-in-Err-clause-state c =
     let core = c.args.self.now in

@@ -1,16 +1,14 @@
-use Rattle.std.proofs.Common.{◌≡◌, map, take, drop, length}
-use Rattle.std.specs.List.{AllZip}
+use Rattle.std.proofs.Common.{◌≡◌, map}
 use Rattle.cs_view.specs.View.{edits}
-use Rattle.cs_live.specs.Entries.{live_query, said}
-use Rattle.cs_live.specs.Fits.{Refreshes, IsUntouched}
-use Rattle.cs_live.specs.Lives.{news}
+use Rattle.cs_live.specs.Entries.{said}
+use Rattle.cs_live.specs.Fits.{IsUntouched}
+use Rattle.cs_live.specs.Found.{AreFound}
+use Rattle.cs_live.proofs.Bringing.{Loop}
 use Rattle.cs_live.proofs.live.Live.after_commit.Given as goal
 
-abbrev pub invariant-loop-entry : goal.invariant-loop-entry
-invariant-loop-entry g l = record {
-  long : length l.entry-items ≡ length l.fn.self.entries.items;
-  lines : map said l.lines.items ≡ news (g.V.View.docs l.view) (map live_query (take l.entry-index l.fn.self.entries.items));
-  refreshed : AllZip (Refreshes (g.V.View.docs l.view) (edits l.changes)) (take l.entry-index l.fn.self.entries.items) (take l.entry-index l.entry-items);
-  rest : drop l.entry-index l.entry-items ≡ drop l.entry-index l.fn.self.entries.items;
+abbrev pub invariant-loop-number : goal.invariant-loop-number
+invariant-loop-number g l = record {
+  loop : Loop (g.V.View.docs l.view) (edits l.changes) l.fn.self.entries.items l.self.entries.items (map said l.lines.items) l.number-items l.number-index;
+  found : AreFound l.self;
   quiet : IsUntouched l.fn.self (edits l.changes) → l.steps ≡ l.fn.steps;
 }

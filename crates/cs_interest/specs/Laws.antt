@@ -1,0 +1,13 @@
+-- The laws of interest.
+use Rattle.std.specs.Prelude.{◌≡◌, ℕ, List, true}
+use Rattle.cs_view.specs.Changes.{Edit, are_changes}
+use Rattle.cs_view.specs.Touched.{is_touched}
+use Rattle.cs_view.specs.declared.key.Key.{Key}
+use Rattle.cs_interest.specs.Interest.{holds, interest_code, is_asked}
+use Rattle.cs_interest.specs.declared.interest.Interest.{Interest}
+
+-- a number that stands under the code of a key that changes touch is asked
+abbrev pub TouchedIsAsked : Type 0
+TouchedIsAsked =
+    (i : Interest) (cs : List Edit) (k : Key) (n : ℕ) → are_changes cs ≡ true
+    → is_touched cs k ≡ true → holds i (interest_code i.seed k) n ≡ true → is_asked i cs n ≡ true

@@ -1,0 +1,2 @@
+pub mod Interest
+pub mod Laws

@@ -1,0 +1,11 @@
+//! The laws of interest, for proofs: each function does nothing, and its contract is the law.
+ghost use Rattle.cs_interest.specs.Laws.{TouchedIsAsked};
+
+use cs_codes::laws::keys_are_listed;
+
+/// A number that stands under the code of a key that changes touch is asked.
+pub fn touched_is_asked()
+    ensures { TouchedIsAsked }
+{
+    keys_are_listed();
+}

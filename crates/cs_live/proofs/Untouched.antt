@@ -1,0 +1,92 @@
+-- An entry that is not asked stays as it is.
+use Rattle.std.proofs.Common.{◌≡◌, ◌∙◌, ℕ, ◌<◌, get_or, arith, List, [], ◌∷◌, Bool, true, false, cond, ◌||◌, refl, sym, ap, true≢false, nat_eq, eq-eqb}
+use Rattle.std.proofs.lemmas.List.Elements.{Contains-push}
+use Rattle.cs_value.specs.Tree.{Tree}
+use Rattle.cs_value.specs.View.{fields}
+use Rattle.cs_syntax.specs.Queries.{query}
+use Rattle.cs_view.specs.Changes.{Edit, are_changes, LeadTo, Before}
+use Rattle.cs_view.specs.Dataset.{ascending}
+use Rattle.cs_view.specs.Keys.{Sel}
+use Rattle.cs_view.specs.Laws.{ChangesLeadBackAndOn, UntouchedSelectsTheSame}
+use Rattle.cs_view.specs.Touched.{touched, is_touched}
+use Rattle.cs_view.specs.declared.key.Key.{Key}
+use Rattle.cs_plan.specs.Simple.{query_key}
+use Rattle.cs_meaning.specs.Laws.{LookedSettlesValue, SimpleIsTailOfHits, HitsHaveKey}
+use Rattle.cs_meaning.specs.Hits.{hits, tail}
+use Rattle.cs_interest.specs.Interest.{holds, interest_code, is_asked}
+use Rattle.cs_interest.specs.Laws.{TouchedIsAsked}
+use Rattle.cs_interest.specs.declared.interest.Interest.{Interest}
+use Rattle.cs_live.specs.Brought.{Still, UnaskedStays}
+use Rattle.cs_live.specs.Entries.{entries, live_query, last_of}
+use Rattle.cs_live.specs.Fits.{FitsKept, FitsRows, RefreshesKept}
+use Rattle.cs_live.specs.Found.{IsFound, has_code, interests}
+use Rattle.cs_live.specs.Lives.{is_stale, news_of, refreshed, say}
+use Rattle.cs_live.specs.Rows.{rows}
+use Rattle.cs_live.specs.declared.entry.Entry.{Entry}
+use Rattle.cs_live.specs.declared.entry.Kept.{Kept}
+use Rattle.cs_live.specs.declared.entry.Kept.TheVariants.{ByRecord, InRows}
+use Rattle.cs_live.specs.declared.rows.Rows.{Rows}
+use Rattle.cs_live.proofs.Refreshing.{untouched-refreshed, entry-refreshed}
+use Rattle.cs_live.proofs.Sames.{not_another}
+
+-- ---- no key of a number that is not asked is touched
+or-second : (a b : Bool) → b ≡ true → (a || b) ≡ true
+or-second true b h = refl
+or-second false b h = h
+
+module _ (asks : TouchedIsAsked) (i : Interest) (cs : List Edit) (changes : are_changes cs ≡ true) (n : ℕ) (quiet : is_asked i cs n ≡ false) where
+  none_touched : (ks : List Key) → ((c : ℕ) → has_code i.seed c ks ≡ true → holds i c n ≡ true) → touched ks cs ≡ false
+  none_touched [] all = refl
+  none_touched (k ∷ ks) all = by_test (none_touched ks (λ c h. all c (or-second (nat_eq c (interest_code i.seed k)) (has_code i.seed c ks) h))) (is_touched cs k) refl where
+    own : has_code i.seed (interest_code i.seed k) (k ∷ ks) ≡ true
+    own = ap (λ b. b || has_code i.seed (interest_code i.seed k) ks) (eq-eqb (interest_code i.seed k) (interest_code i.seed k) refl)
+
+    by_test : touched ks cs ≡ false → (b : Bool) → is_touched cs k ≡ b → (b || touched ks cs) ≡ false
+    by_test rest true e = absurd (true≢false (sym (asks i cs k n changes e (all (interest_code i.seed k) own)) ∙ quiet))
+    by_test rest false e = rest
+
+  pub untouched_keys : (k : Kept) → IsFound i n k → touched (interests k) cs ≡ false
+  untouched_keys k found = none_touched (interests k) (λ c h. found.stands c ∙ found.coded c ∙ h)
+
+-- ---- what is untouched is refreshed as it stands
+pub rows-still : SimpleIsTailOfHits → HitsHaveKey → UntouchedSelectsTheSame → ChangesLeadBackAndOn
+    → (docs : List Tree) (cs : List Edit) → ascending docs ≡ true → are_changes cs ≡ true → LeadTo docs cs
+    → (r : Rows) → touched (query_key (query r.query) (fields r.params) ∷ []) cs ≡ false → FitsRows (Before docs cs) r → RefreshesKept docs cs (InRows r) (InRows r)
+rows-still settles have untouched back docs cs h changes leads r quiet fits =
+    let e = query r.query in let params = fields r.params in let key = query_key e params in
+    let same : Sel key (Before docs cs) ≡ Sel key docs =
+    untouched docs cs h changes (key ∷ []) quiet key (Contains-push [] key) ∙ ap (Sel key) (back docs cs h changes leads).0 in
+    let here : rows r ≡ hits e params docs = fits.rows ∙ have e params (Before docs cs) ∙ ap (hits e params) same ∙ sym (have e params docs) in
+    record {
+      answers = record {
+        query = refl;
+        params = refl;
+        last = fits.answered ∙ ap (tail e params) here ∙ sym (settles e params docs fits.simple);
+        fits = record { simple = fits.simple; rows = here; answered = fits.answered };
+      };
+      records = tt;
+    }
+
+pub kept-still : LookedSettlesValue → SimpleIsTailOfHits → HitsHaveKey → UntouchedSelectsTheSame → ChangesLeadBackAndOn
+    → (docs : List Tree) (cs : List Edit) → ascending docs ≡ true → are_changes cs ≡ true → LeadTo docs cs
+    → (k : Kept) → touched (interests k) cs ≡ false → FitsKept (Before docs cs) k → RefreshesKept docs cs k k
+kept-still looked settles have untouched back docs cs h changes leads (ByRecord r) quiet fits = untouched-refreshed looked untouched back docs cs h changes leads r quiet fits
+kept-still looked settles have untouched back docs cs h changes leads (InRows r) quiet fits = rows-still settles have untouched back docs cs h changes leads r quiet fits
+
+no-line : (docs : List Tree) (e : Entry) (b : Bool) → b ≡ is_stale docs (live_query e) → b ≡ false → news_of docs (live_query e) ≡ []
+no-line docs e b is h = ap (λ t. cond t (say (refreshed docs (live_query e)) ∷ []) []) (sym is ∙ h)
+
+pub still : (docs : List Tree) (cs : List Edit) (e : Entry) → RefreshesKept docs cs e.kept e.kept → Still docs cs e
+still docs cs e m = record {
+  refreshes = entry-refreshed docs cs e e refl refl m;
+  silent = no-line docs e false (not_another (last_of e.kept) _ m.answers.last) refl;
+}
+
+pub unasked-still : TouchedIsAsked → LookedSettlesValue → SimpleIsTailOfHits → HitsHaveKey → UntouchedSelectsTheSame → ChangesLeadBackAndOn → UnaskedStays
+unasked-still asks looked settles have untouched back docs cs l ns sorted changes leads fits asked j e low none =
+    let d : Entry = get_or (entries l) j e in
+    let found : IsFound l.interest d.number d.kept = fits.found.found j e low in
+    let under : d.number < l.next = fits.found.below j e low in
+    let bound = fits.found.bound in
+    let quiet : is_asked l.interest cs d.number ≡ false = sym (asked.exact d.number (omega (arith, under, bound))) ∙ none in
+    still docs cs d (kept-still looked settles have untouched back docs cs sorted changes leads d.kept (untouched_keys asks l.interest cs changes d.number quiet d.kept found) (fits.answers j e low))

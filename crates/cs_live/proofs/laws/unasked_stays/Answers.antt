@@ -1,0 +1,7 @@
+use Rattle.cs_live.proofs.Untouched.{unasked-still}
+use Rattle.cs_live.proofs.laws.unasked_stays.Goals as goal
+
+pub returns : goal.returns
+returns c =
+    unasked-still c.touched_is_asked.ensures c.looked_settles_value.ensures c.simple_is_tail_of_hits.ensures c.hits_have_key.ensures
+    c.untouched_selects_the_same.ensures c.changes_lead_back_and_on.ensures
