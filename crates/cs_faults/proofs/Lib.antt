@@ -2,3 +2,4 @@ pub mod Firsts
 pub mod Views
 pub mod NamedFunctions
 pub mod Written
+pub mod Sets

@@ -30,7 +30,7 @@ fn is_arithmetic(sign: BinSign) -> bool
 /// arithmetic. It looks into no bracket of a step, so each part of a tree is looked at once by the
 /// bracket around it.
 #[cycle(constant)]
-#[tactic(auto, using(cs_syntax::proofs::Views::expression_run), unfolding(cs_syntax::specs::View::expression))]
+#[tactic(auto, using(crate::proofs::Sets::run), unfolding(cs_syntax::specs::View::expression))]
 pub(crate) fn is_constant(expr: &Expr) -> bool
     ensures { result ≡ is_constant (expression expr.now) }
 {

@@ -23,8 +23,8 @@ pub(crate) fn check_operator<'e>(sign: BinSign) -> Result<(), Fault<'e>>
 }
 
 fn check_arity<'e>(name: &'e str, args: &[Arg], arity: Arity) -> Result<(), Fault<'e>>
-    ensures { found result ≡ first_of
-        (arity_faults name.now (arguments_of (map argument_of args.now)) (Some (arity_told arity))) }
+    ensures { found result ≡ first_of (arity_faults name.now
+        (arguments_of (map argument_of args.now)) (Some (arity_told arity))) }
 {
     if accepts(arity, args) {
         Ok(())

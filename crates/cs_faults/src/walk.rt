@@ -15,7 +15,7 @@ use crate::numbers::check_number;
 use cs_syntax::{Arg, BinSign, Elem, Entry, Expr, OrderKey, Step};
 
 // At the first token of an expression.
-#[tactic(auto, using(cs_syntax::proofs::Views::expression_call), unfolding(cs_syntax::specs::View::expression))]
+#[tactic(auto, using(crate::proofs::Sets::call), unfolding(cs_syntax::specs::View::expression))]
 fn check_first<'e>(expr: &'e Expr) -> Result<(), Fault<'e>>
     ensures { found result ≡ first_of (at_first (expression expr.now)) }
 {
@@ -31,7 +31,7 @@ fn check_first<'e>(expr: &'e Expr) -> Result<(), Fault<'e>>
 }
 
 // At the first token of what stands on the right of `in`.
-#[tactic(auto, using(cs_syntax::proofs::Views::expression_call), unfolding(cs_syntax::specs::View::expression))]
+#[tactic(auto, using(crate::proofs::Sets::call), unfolding(cs_syntax::specs::View::expression))]
 fn check_right<'e>(expr: &'e Expr) -> Result<(), Fault<'e>>
     ensures { found result ≡ first_of (at_right (expression expr.now)) }
 {
@@ -52,7 +52,7 @@ fn check<'e>(expr: &'e Expr) -> Result<(), Fault<'e>>
 
 // Behind the first token of an expression.
 #[cycle(faults)]
-#[tactic(auto, using(crate::proofs::Firsts::first_append), unfolding(cs_syntax::specs::View::expression, cs_syntax::specs::View::arg, cs_syntax::specs::View::elem, cs_syntax::specs::View::entry, cs_syntax::specs::View::step, cs_syntax::specs::View::operands))]
+#[tactic(auto, using(crate::proofs::Sets::first), unfolding(cs_syntax::proofs::Open::of_parts))]
 fn check_behind<'e>(expr: &'e Expr) -> Result<(), Fault<'e>>
     ensures { found result ≡ first_of (behind_first (expression expr.now)) }
 {
@@ -160,7 +160,7 @@ fn check_entries<'e>(entries: &'e [Entry]) -> Result<(), Fault<'e>>
 }
 
 #[cycle(faults)]
-#[tactic(auto, using(crate::proofs::Firsts::first_append), unfolding(cs_syntax::specs::View::entry, cs_syntax::specs::View::expression))]
+#[tactic(auto, using(crate::proofs::Sets::first), unfolding(cs_syntax::proofs::Open::of_entry))]
 fn check_entry<'e>(entry: &'e Entry) -> Result<(), Fault<'e>>
     ensures { found result ≡ first_of (in_entry (entry_of entry.now)) }
 {
@@ -210,7 +210,7 @@ fn check_arguments<'e>(args: &'e [Arg]) -> Result<(), Fault<'e>>
 }
 
 #[cycle(faults)]
-#[tactic(auto, using(crate::proofs::Firsts::first_append), unfolding(cs_syntax::specs::View::arg, cs_syntax::specs::View::expression))]
+#[tactic(auto, using(crate::proofs::Sets::first), unfolding(cs_syntax::proofs::Open::of_argument))]
 fn check_argument<'e>(arg: &'e Arg) -> Result<(), Fault<'e>>
     ensures { found result ≡ first_of (in_argument (argument_of arg.now)) }
 {

@@ -19,3 +19,4 @@ pub mod Exits
 pub mod Names
 pub mod Ended
 pub mod Looks
+pub mod Sets

@@ -179,7 +179,7 @@ impl<'t> Tokens<'t> {
     }
 
     // The sign that stands there: its source is not looked at.
-    #[tactic(auto, using(crate::proofs::Looks::sign_at, crate::proofs::Looks::no_sign_at), unfolding(crate::specs::View::left))]
+    #[tactic(auto, using(crate::proofs::Sets::sign), unfolding(crate::specs::View::left))]
     fn sign(&self, at: usize) -> Option<(Sign, usize)>
         ensures first { MatchOption result (IsNoSign (left self.now at))
             (λ x. left self.now at ≡ sign_tok x.0 ∷ left self.now x.1) }

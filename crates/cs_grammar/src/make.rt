@@ -89,7 +89,7 @@ pub fn round(alloc: Global, inner: Box<Expr>) -> Result<Box<Expr>, NoMemory>
     Ok(Box::new(alloc, Expr::Round(inner))?)
 }
 
-#[tactic(auto, unfolding(cs_syntax::specs::View::expression, cs_syntax::specs::View::arguments, cs_syntax::specs::View::arg))]
+#[tactic(auto, unfolding(cs_syntax::proofs::Open::of_call))]
 pub fn call(alloc: Global, name: Txt, args: Vec<Arg>) -> Result<Box<Expr>, NoMemory>
     ensures { IfOk result (λ e. expression e.value
         ≡ call name (arguments_of (arguments args.items))) }
@@ -97,14 +97,14 @@ pub fn call(alloc: Global, name: Txt, args: Vec<Arg>) -> Result<Box<Expr>, NoMem
     Ok(Box::new(alloc, Expr::Call { name, args })?)
 }
 
-#[tactic(auto, unfolding(cs_syntax::specs::View::expression, cs_syntax::specs::View::elements, cs_syntax::specs::View::elem))]
+#[tactic(auto, unfolding(cs_syntax::proofs::Open::of_array))]
 pub fn array(alloc: Global, all: Vec<Elem>) -> Result<Box<Expr>, NoMemory>
     ensures { IfOk result (λ e. expression e.value ≡ array (elements_of (elements all.items))) }
 {
     Ok(Box::new(alloc, Expr::Array(all))?)
 }
 
-#[tactic(auto, unfolding(cs_syntax::specs::View::expression, cs_syntax::specs::View::entries, cs_syntax::specs::View::entry))]
+#[tactic(auto, unfolding(cs_syntax::proofs::Open::of_object))]
 pub fn object(alloc: Global, all: Vec<Entry>) -> Result<Box<Expr>, NoMemory>
     ensures { IfOk result (λ e. expression e.value
         ≡ object_literal (entries_of (entries all.items))) }
@@ -112,7 +112,7 @@ pub fn object(alloc: Global, all: Vec<Entry>) -> Result<Box<Expr>, NoMemory>
     Ok(Box::new(alloc, Expr::Object(all))?)
 }
 
-#[tactic(auto, unfolding(cs_syntax::specs::View::expression, cs_syntax::specs::View::steps, cs_syntax::specs::View::step))]
+#[tactic(auto, unfolding(cs_syntax::proofs::Open::of_chain))]
 pub fn chain(alloc: Global, base: Box<Expr>, all: Vec<Step>) -> Result<Box<Expr>, NoMemory>
     ensures { IfOk result (λ e. expression e.value
         ≡ chain_of (expression base.value) (steps all.items)) }
@@ -237,14 +237,14 @@ pub fn bracket(inner: Box<Expr>) -> Step
     Step::Bracket(Box::into_inner(inner))
 }
 
-#[tactic(auto, unfolding(cs_syntax::specs::View::step, cs_syntax::specs::View::entries, cs_syntax::specs::View::entry))]
+#[tactic(auto, unfolding(cs_syntax::proofs::Open::of_projection))]
 pub fn project(all: Vec<Entry>) -> Step
     ensures { step result ≡ project (entries_of (entries all.items)) }
 {
     Step::Project(all)
 }
 
-#[tactic(auto, unfolding(cs_syntax::specs::View::step, cs_syntax::specs::View::keys, cs_syntax::specs::View::key))]
+#[tactic(auto, unfolding(cs_syntax::proofs::Open::of_pipe))]
 pub fn pipe(name: Txt, all: Vec<OrderKey>) -> Step
     ensures { step result ≡ pipe name (keys_of (keys all.items)) }
 {

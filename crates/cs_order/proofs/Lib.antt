@@ -3,3 +3,4 @@ pub mod Sorts
 pub mod Kept
 pub mod Placed
 pub mod Enters
+pub mod Sets

@@ -22,7 +22,7 @@ pub fn first_asked(steps: &[Step]) -> Option<usize>
 }
 
 // The same of one step.
-#[tactic(auto, using(cs_syntax::proofs::Views::step_slice), unfolding(cs_syntax::specs::View::step, cs_syntax::specs::View::expression))]
+#[tactic(auto, using(crate::proofs::Sets::slice), unfolding(cs_syntax::proofs::Open::of_step))]
 fn step_end(step: &Step) -> Option<usize>
     ensures { IfSome result (λ k. step_end (step_of step.now) ≡ Some k) }
 {

@@ -15,3 +15,5 @@ pub mod Signed
 pub mod Unescaped
 pub mod Views
 pub mod SignBytes
+pub mod Open
+pub mod Sets

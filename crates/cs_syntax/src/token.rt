@@ -78,7 +78,7 @@ impl Token {
     }
 
     /// The sign that the token is: `None` exactly where it is of another kind.
-    #[tactic(auto, using(crate::proofs::Meanings::sign_by_kind, crate::proofs::Meanings::no_sign_by_kind))]
+    #[tactic(auto, using(crate::proofs::Sets::sign))]
     pub fn sign(&self, text: &str) -> Option<Sign>
         requires { IsTokenOf text.now self.now }
         ensures { result
