@@ -2,7 +2,7 @@
 ghost use Rattle.std.specs.Prelude.{◌≡◌, ◌≤◌, ◌<◌, All, length, [], true, false, option_map, map, Some, IsSome, IfSome, IfOk, OnOk, OnErr};
 ghost use Rattle.cs_view.specs.Dataset.{At, stands, with_doc};
 ghost use Rattle.cs_view.specs.Document.{id_of};
-ghost use Rattle.cs_view.specs.Keys.{Sel};
+ghost use Rattle.cs_view.specs.Keys.{selected};
 ghost use Rattle.cs_view.specs.View.{doc};
 ghost use Rattle.cs_shelf.specs.Places.{most_places};
 ghost use Rattle.cs_shelf.specs.View.{documents};
@@ -73,15 +73,15 @@ impl Docs {
         self.shelf.places(alloc)
     }
 
-    /// The places of the documents that have the key, in the order of their ids. Each document is
-    /// tested. `NoMemory` where the allocator has no room for them.
-    pub fn select(&self, alloc: Global, key: &Key) -> Result<Vec<u32>, NoMemory>
+    /// The places of the documents that have each of the keys, in the order of their ids. Each
+    /// document is tested. `NoMemory` where the allocator has no room for them.
+    pub fn select_all(&self, alloc: Global, keys: &[Key]) -> Result<Vec<u32>, NoMemory>
         ensures selected { IfOk result
             (λ places. map (doc_at self.now) places.items
-            ≡ map Some (Sel key.now (docs self.now))) }
+            ≡ map Some (selected keys.now (docs self.now))) }
         ensures low { IfOk result (λ places. All (λ p. p < most_places) places.items) }
     {
-        self.shelf.select(alloc, key)
+        self.shelf.select_all(alloc, keys)
     }
 
     /// The document at a place where one stands.

@@ -6,6 +6,7 @@ use crate::referrers::Referrers;
 use cs_value::{NoMemory, Steps, Txt};
 use cs_view::{Doc, Key, View};
 use std::alloc::Global;
+use std::slice;
 use std::sync::ledger::Ledger;
 
 /// The documents at their places.
@@ -22,8 +23,13 @@ impl<L: Ledger> View<L> for Docs {
         Docs::len(self)
     }
 
+    #[tactic(auto, using(cs_view::proofs::Looking::selected_one))]
     fn select(&self, alloc: Global, key: &Key) -> Result<Vec<u32>, NoMemory> {
-        Docs::select(self, alloc, key)
+        Docs::select_all(self, alloc, slice::from_ref(key))
+    }
+
+    fn select_all(&self, alloc: Global, keys: &[Key]) -> Result<Vec<u32>, NoMemory> {
+        Docs::select_all(self, alloc, keys)
     }
 
     fn at(&self, place: u32, steps: &mut Steps<L>) -> &Doc {

@@ -1,13 +1,13 @@
 //! Walks over all documents, in the order of their ids.
 ghost use Rattle.std.specs.Prelude.{◌≡◌, ◌<◌, All, map, Some, IfOk, option_map};
-ghost use Rattle.cs_view.specs.Keys.{Sel};
+ghost use Rattle.cs_view.specs.Keys.{selected};
 ghost use Rattle.cs_shelf.specs.Places.{most_places};
 ghost use Rattle.cs_shelf.specs.View.{documents, doc_at};
 ghost use Rattle.cs_shelf.specs.Referring.{next_referrer, above};
 
 use crate::shelf::Shelf;
 use cs_value::{NoMemory, Txt};
-use cs_view::{Key, has, has_ref};
+use cs_view::{Key, has_all, has_ref};
 use std::alloc::Global;
 use std::cmp::Ordering;
 
@@ -34,17 +34,17 @@ impl Shelf {
         Ok(places)
     }
 
-    /// The places of the documents that have the key, in the order of their ids. Each document is
-    /// tested. `NoMemory` where the allocator has no room for them.
-    pub fn select(&self, alloc: Global, key: &Key) -> Result<Vec<u32>, NoMemory>
+    /// The places of the documents that have each of the keys, in the order of their ids. Each
+    /// document is tested. `NoMemory` where the allocator has no room for them.
+    pub fn select_all(&self, alloc: Global, keys: &[Key]) -> Result<Vec<u32>, NoMemory>
         ensures selected { IfOk result
             (λ places. map (doc_at self.now) places.items
-            ≡ map Some (Sel key.now (documents self.now))) }
+            ≡ map Some (selected keys.now (documents self.now))) }
         ensures low { IfOk result (λ places. All (λ p. p < most_places) places.items) }
     {
         let mut places = Vec::new(alloc);
         for (_, place) in self.order.iter() {
-            if has(key, self.at(*place)) {
+            if has_all(keys, self.at(*place)) {
                 places.push(*place)?;
             }
         }

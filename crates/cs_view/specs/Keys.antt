@@ -1,7 +1,7 @@
 -- Keys, by which documents are looked up, and which documents have one: this project's profile.
 -- Equality is that of GROQ-1.revision1, "Equality operators"; names are followed as in its
 -- "Attribute access traversal".
-use Rattle.std.specs.Prelude.{ℕ, Bool, true, false, ◌||◌, List, [], ◌∷◌, Option, Some, option_and_then, codes, filter}
+use Rattle.std.specs.Prelude.{ℕ, Bool, true, false, ◌&&◌, ◌||◌, List, [], ◌∷◌, Option, Some, option_and_then, codes, filter}
 use Rattle.std.specs.List.{list_any}
 use Rattle.std.specs.Ordering.{is_eq, bool_cmp, int_eq}
 use Rattle.std.specs.Str.{bytes_eq}
@@ -64,3 +64,12 @@ has (Ref t) d = has_ref t d
 -- the documents of the dataset that have the key
 abbrev pub Sel : Key → List Tree → List Tree
 Sel k docs = filter (has k) docs
+
+-- whether a document has each of the keys
+abbrev pub has_all : List Key → Tree → Bool
+has_all [] d = true
+has_all (k ∷ ks) d = has k d && has_all ks d
+
+-- the documents of the dataset that have each of the keys
+abbrev pub selected : List Key → List Tree → List Tree
+selected ks docs = filter (has_all ks) docs

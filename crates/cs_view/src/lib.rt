@@ -13,7 +13,7 @@ mod view;
 pub use change::Change;
 pub use doc::{DEEPEST_DOCUMENT, Doc, is_body};
 pub use key::{Key, Names, Scalar};
-pub use lookup::{has, has_ref};
+pub use lookup::{has, has_all, has_ref};
 pub use record::Record;
 pub use scope::Scope;
 pub use view::View;

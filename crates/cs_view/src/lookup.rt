@@ -7,7 +7,7 @@ ghost use Rattle.cs_value.specs.Tree.{trees};
 ghost use Rattle.cs_value.specs.View.{tree, fields, list_tree};
 ghost use Rattle.cs_value.specs.Words.{as_text};
 ghost use Rattle.cs_view.specs.Document.{passes};
-ghost use Rattle.cs_view.specs.Keys.{has, equals, has_element, followed, has_ref, some_has_ref, some_pair_has_ref};
+ghost use Rattle.cs_view.specs.Keys.{has, has_all, equals, has_element, followed, has_ref, some_has_ref, some_pair_has_ref};
 ghost use Rattle.cs_view.specs.View.{doc as document};
 
 use crate::doc::Doc;
@@ -32,6 +32,18 @@ pub fn has(key: &Key, doc: &Doc) -> bool
         },
         Key::Ref(target) => has_ref(doc.val(), target),
     }
+}
+
+/// Whether the document has each of the keys. It takes no memory.
+pub fn has_all(keys: &[Key], doc: &Doc) -> bool
+    ensures { result ≡ has_all keys.now (document doc.now) }
+{
+    for key in keys {
+        if !has(key, doc) {
+            return false;
+        }
+    }
+    true
 }
 
 fn followed<'v>(names: &[Txt], val: &'v Val) -> Option<&'v Val>

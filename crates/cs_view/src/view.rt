@@ -2,7 +2,7 @@
 ghost use Rattle.std.specs.Prelude.{◌≡◌, ◌+◌, ℕ, List, length, true, IfOk, IsSome, Option, Some, option_map, map};
 ghost use Rattle.cs_value.specs.Tree.{Tree};
 ghost use Rattle.cs_view.specs.Dataset.{At, is_dataset};
-ghost use Rattle.cs_view.specs.Keys.{Sel};
+ghost use Rattle.cs_view.specs.Keys.{Sel, selected};
 ghost use Rattle.cs_view.specs.View.{doc as document};
 
 use crate::doc::Doc;
@@ -28,6 +28,13 @@ pub trait View<L: Ledger> {
     fn select(&self, alloc: Global, key: &Key) -> Result<Vec<u32>, NoMemory>
         ensures { IfOk result
             (λ places. map (doc_at self.now) places.items ≡ map Some (Sel key.now (docs self.now))) };
+
+    /// The places of the documents that have each of the keys, in the order of their ids: those of
+    /// all documents where there is no key. A view may look up by whichever key it likes best, and
+    /// test the others. `NoMemory` where the allocator has no room for them.
+    fn select_all(&self, alloc: Global, keys: &[Key]) -> Result<Vec<u32>, NoMemory>
+        ensures { IfOk result (λ places. map (doc_at self.now) places.items
+            ≡ map Some (selected keys.now (docs self.now))) };
 
     /// The document at a place where one stands: one visit.
     fn at(&self, place: u32, steps: &mut Steps<L>) -> &Doc
