@@ -1,10 +1,12 @@
-//! Codes: a number for each key by which documents are looked up, and the numbers of the keys that a
-//! document has.
+//! Codes: a number for each key by which documents are looked up, the numbers of the keys that a
+//! document has, and whether one is among some in order.
 #![tactic(auto)]
 
 mod code;
 pub mod laws;
+mod order;
 mod walk;
 
 pub use code::{id_code, key_code, ref_code};
+pub use order::{has_code, sort_codes};
 pub use walk::{codes_of, put_codes};
