@@ -20,7 +20,7 @@ use Rattle.cs_view.proofs.Datasets.{same_id-same}
 use Rattle.cs_docs.specs.Store.{doc_at}
 use Rattle.cs_docs.specs.declared.docs.Docs.{Docs}
 use Rattle.cs_index.specs.Picking.{Hits, is_hit, wanted, ArePlacesIn}
-use Rattle.cs_index.proofs.Picked.{selected}
+use Rattle.cs_index.proofs.Picked.{picked}
 
 abbrev Hit : Type 0
 Hit = Bor (List ℕ) × ℕ
@@ -73,7 +73,7 @@ abbrev or_zero : Option ℕ → ℕ
 or_zero None = 0
 or_zero (Some p) = p
 
-module _ (d : Docs) (k : Key) where
+module _ (d : Docs) (k : List Key) where
   abbrev AreGood : Hits → Type 0
   AreGood hs = AllByRecursion (λ h. wanted d k h.0.now ≡ Some h.1) hs
 
@@ -113,7 +113,7 @@ in_order hs ss ps moved sorted is d k good all =
     let P : Hit → Type 0 = λ h. wanted d k h.0.now ≡ Some h.1 in
     let fine : AreGood d k ts = recursion_from_All P ts (All-dedup hit_eq P ss (All-permutation P hs ss moved good)) in
     ap (map (doc_at d)) (is ∙ second_seen ts)
-    ∙ selected d k (seen ts) (strict_ids d k ts fine (IsStrictlySortedBy-dedup hit_total hit_ties ss sorted))
+    ∙ picked d k (seen ts) (strict_ids d k ts fine (IsStrictlySortedBy-dedup hit_total hit_ties ss sorted))
     (λ y.
     looked_up d k y ts fine
     ∙ ap (λ b. cond b (wanted d k y) None) (hit_once y ss ∙ list_any-IsPermutation (λ h. same_id y h.0.now) ss hs (IsPermutation-sym hs ss moved) ∙ all y)

@@ -15,9 +15,9 @@ use Rattle.std.specs.declared.ops.Bound.TheVariants.{Included}
 use Rattle.cs_value.specs.Tree.{Tree}
 use Rattle.cs_view.specs.Document.{id_of, passes}
 use Rattle.cs_view.specs.Dataset.{id_cmp, same_id, At, kept_if}
-use Rattle.cs_view.specs.Keys.{has, Sel}
+use Rattle.cs_view.specs.Keys.{has, has_all, selected}
 use Rattle.cs_view.specs.declared.key.Key.{Key}
-use Rattle.cs_view.specs.declared.key.Key.TheVariants.{All, Id}
+use Rattle.cs_view.specs.declared.key.Key.TheVariants.{Id}
 use Rattle.cs_view.proofs.Datasets.{same_id-same, same_id-refl, same_id-sym, same_docs, ascending-filter, At-filter}
 use Rattle.cs_shelf.specs.Places.{Store, found, tree_at, trees_at}
 use Rattle.cs_shelf.proofs.Standing.{Entry as PlaceEntry, AreSound, at-documents, sound_entries, at-trees, ascending-trees, some-trees, ascending-documents}
@@ -26,7 +26,7 @@ use Rattle.cs_docs.specs.declared.docs.Docs.{Docs}
 use Rattle.cs_codes.specs.Codes.{Seed, is_among, key_code}
 use Rattle.cs_index.specs.Entries.{entry_cmp, same_entry, entry, has_entry, AreEntriesOf, side_codes}
 use Rattle.cs_codes.specs.Kept.{IsKept}
-use Rattle.cs_index.specs.Picking.{Hits, where_has, wanted, is_hit, is_found, is_found_at, is_found_among, under}
+use Rattle.cs_index.specs.Picking.{Hits, IsImplied, where_has, wanted, is_hit, is_found, is_found_at, is_found_among, under}
 use Rattle.cs_index.specs.declared.entry.Entry.{Entry}
 use Rattle.cs_index.proofs.Applied.{same_parts}
 use Rattle.cs_codes.proofs.Listed.{listed}
@@ -36,13 +36,13 @@ never true = refl
 never false = refl
 
 -- an id that is not wanted, and one that is
-pub none_found : (d : Docs) (k : Key) (y i : List ℕ) (a : Bool) → wanted d k i ≡ None → a ≡ (is_found d k i y || a)
+pub none_found : (d : Docs) (k : List Key) (y i : List ℕ) (a : Bool) → wanted d k i ≡ None → a ≡ (is_found d k i y || a)
 none_found d k y i a h = by_test (same_id y i) refl where
   by_test : (b : Bool) → same_id y i ≡ b → a ≡ ((b && is_some (wanted d k y)) || a)
   by_test true e = sym (ap (λ w. is_some w || a) (ap (wanted d k) (same_id-same y i e) ∙ h))
   by_test false e = refl
 
-pub one_found : (d : Docs) (k : Key) (y : List ℕ) (h : Bor (List ℕ) × ℕ) (hs : Hits) → wanted d k h.0.now ≡ Some h.1 → is_hit y (hs ++ h ∷ []) ≡ (is_found d k h.0.now y || is_hit y hs)
+pub one_found : (d : Docs) (k : List Key) (y : List ℕ) (h : Bor (List ℕ) × ℕ) (hs : Hits) → wanted d k h.0.now ≡ Some h.1 → is_hit y (hs ++ h ∷ []) ≡ (is_found d k h.0.now y || is_hit y hs)
 one_found d k y h hs w = list_any-append (λ g. same_id y g.0.now) hs (h ∷ []) ∙ by_test (same_id y h.0.now) refl (is_hit y hs) where
   by_test : (b : Bool) → same_id y h.0.now ≡ b → (a : Bool) → (a || (b || false)) ≡ ((b && is_some (wanted d k y)) || a)
   by_test true e true = sym (ap (λ o. is_some o || true) (ap (wanted d k) (same_id-same y h.0.now e) ∙ w))
@@ -62,28 +62,28 @@ some_not_none : (p : ℕ) → None ≡ Some p → ⊥
 some_not_none p h = true≢false (sym (ap is_some_place h))
 
 -- what is wanted at an id stands at the id's place, and has the key
-wanted_place : (d : Docs) (k : Key) (y : List ℕ) (p : ℕ) → wanted d k y ≡ Some p → (place_at d y ≡ Some p) × (passes (has k) (doc_at d p) ≡ true)
+wanted_place : (d : Docs) (k : List Key) (y : List ℕ) (p : ℕ) → wanted d k y ≡ Some p → (place_at d y ≡ Some p) × (passes (has_all k) (doc_at d p) ≡ true)
 wanted_place d k y p h = by_place (place_at d y) refl h where
-  by_test : (r : ℕ) → (b : Bool) → passes (has k) (doc_at d r) ≡ b → cond b (Some r) None ≡ Some p → (Some r ≡ Some p) × (passes (has k) (doc_at d p) ≡ true)
-  by_test r true e g = (g, ap (λ (x : ℕ). passes (has k) (doc_at d x)) (sym (ap or_zero g)) ∙ e)
+  by_test : (r : ℕ) → (b : Bool) → passes (has_all k) (doc_at d r) ≡ b → cond b (Some r) None ≡ Some p → (Some r ≡ Some p) × (passes (has_all k) (doc_at d p) ≡ true)
+  by_test r true e g = (g, ap (λ (x : ℕ). passes (has_all k) (doc_at d x)) (sym (ap or_zero g)) ∙ e)
   by_test r false e g = absurd (some_not_none p g)
 
-  by_place : (o : Option ℕ) → place_at d y ≡ o → where_has d k o ≡ Some p → (o ≡ Some p) × (passes (has k) (doc_at d p) ≡ true)
+  by_place : (o : Option ℕ) → place_at d y ≡ o → where_has d k o ≡ Some p → (o ≡ Some p) × (passes (has_all k) (doc_at d p) ≡ true)
   by_place None e g = absurd (some_not_none p g)
-  by_place (Some r) e g = by_test r (passes (has k) (doc_at d r)) refl g
+  by_place (Some r) e g = by_test r (passes (has_all k) (doc_at d r)) refl g
 
 -- ---- walks over entries
 abbrev pub is_here : ℕ → List Entry → Bool
 is_here p es = list_any (λ e. nat_eq e.place p) es
 
-nothing_found : (d : Docs) (k : Key) (y : List ℕ) (es : List Entry) → wanted d k y ≡ None → is_found_among d k es y ≡ false
+nothing_found : (d : Docs) (k : List Key) (y : List ℕ) (es : List Entry) → wanted d k y ≡ None → is_found_among d k es y ≡ false
 nothing_found d k y [] h = refl
 nothing_found d k y (e ∷ es) h =
     ap (λ w. (passes (λ t. same_id y (id_of t)) (doc_at d e.place) && is_some w) || is_found_among d k es y) h
     ∙ ap (λ b. b || is_found_among d k es y) (never (passes (λ t. same_id y (id_of t)) (doc_at d e.place)))
     ∙ nothing_found d k y es h
 
-found_there : (d : Docs) (k : Key) (y : List ℕ) (p : ℕ) (es : List Entry) → wanted d k y ≡ Some p → passes (λ t. same_id y (id_of t)) (doc_at d p) ≡ true → is_here p es ≡ true → is_found_among d k es y ≡ true
+found_there : (d : Docs) (k : List Key) (y : List ℕ) (p : ℕ) (es : List Entry) → wanted d k y ≡ Some p → passes (λ t. same_id y (id_of t)) (doc_at d p) ≡ true → is_here p es ≡ true → is_found_among d k es y ≡ true
 found_there d k y p [] h own g = absurd (true≢false (sym g))
 found_there d k y p (e ∷ es) h own g = by_test (found_there d k y p es h own) (nat_eq e.place p) refl g where
   later : (a : Bool) → is_found_among d k es y ≡ true → (a || is_found_among d k es y) ≡ true
@@ -146,14 +146,18 @@ has_codes seed k (Some t) kept h = listed seed k t kept h
 found_doc : (d : Docs) (y : List ℕ) (p : ℕ) → place_at d y ≡ Some p → At y (docs d) ≡ doc_at d p
 found_doc d y p h = at-documents d.shelf y ∙ ap (found d.shelf.store) h
 
-pub all_found : (seed : Seed) (d : Docs) (m : BTreeSet Entry) (k : Key) → IsKept k → AreEntriesOf seed m d → (y : List ℕ) → is_found_among d k (under m (key_code seed k)) y ≡ is_some (wanted d k y)
-all_found seed d m k kept are y = by_wanted (wanted d k y) refl where
-  by_wanted : (o : Option ℕ) → wanted d k y ≡ o → is_found_among d k (under m (key_code seed k)) y ≡ is_some o
-  by_wanted None h = nothing_found d k y (under m (key_code seed k)) h
+implied : (k : Key) (ks : List Key) (o : Option Tree) → IsImplied k ks → passes (has_all ks) o ≡ true → passes (has k) o ≡ true
+implied k ks None one h = absurd (true≢false (sym h))
+implied k ks (Some t) one h = one t h
+
+pub all_found : (seed : Seed) (d : Docs) (m : BTreeSet Entry) (k : Key) (ks : List Key) → IsKept k → IsImplied k ks → AreEntriesOf seed m d → (y : List ℕ) → is_found_among d ks (under m (key_code seed k)) y ≡ is_some (wanted d ks y)
+all_found seed d m k ks kept one are y = by_wanted (wanted d ks y) refl where
+  by_wanted : (o : Option ℕ) → wanted d ks y ≡ o → is_found_among d ks (under m (key_code seed k)) y ≡ is_some o
+  by_wanted None h = nothing_found d ks y (under m (key_code seed k)) h
   by_wanted (Some p) h =
-      let w = wanted_place d k y p h in
-      let stands : has_entry m (entry (key_code seed k) p) ≡ true = are y (key_code seed k) p w.0 (ap (λ (o : Option Tree). is_among (key_code seed k) (side_codes seed o)) (found_doc d y p w.0) ∙ has_codes seed k (doc_at d p) kept w.1) in
-      found_there d k y p (under m (key_code seed k)) h (named d y p w.0).1
+      let w = wanted_place d ks y p h in
+      let stands : has_entry m (entry (key_code seed k) p) ≡ true = are y (key_code seed k) p w.0 (ap (λ (o : Option Tree). is_among (key_code seed k) (side_codes seed o)) (found_doc d y p w.0) ∙ has_codes seed k (doc_at d p) kept (implied k ks (doc_at d p) one w.1)) in
+      found_there d ks y p (under m (key_code seed k)) h (named d y p w.0).1
       (here_filter (key_code seed k) p (range_contains entry_cmp (Included (entry (key_code seed k) 0)) (Included (entry (key_code seed k) 4294967295))) (inside_low (key_code seed k) p ∙ inside_all p (d.shelf.low y p w.0)) m.keys stands)
 
 -- ---- the documents at what was picked
@@ -161,45 +165,39 @@ second : (s : Store) (es : List PlaceEntry) → map (tree_at s) (map (λ e. e.1)
 second s [] = refl
 second s (e ∷ es) = ap (λ r. tree_at s e.1 ∷ r) (second s es)
 
-kept_there : (d : Docs) (k : Key) (o : Option ℕ) → found d.shelf.store (where_has d k o) ≡ kept_if (has k) (found d.shelf.store o)
+kept_there : (d : Docs) (k : List Key) (o : Option ℕ) → found d.shelf.store (where_has d k o) ≡ kept_if (has_all k) (found d.shelf.store o)
 kept_there d k None = refl
 kept_there d k (Some p) = by_doc (doc_at d p) refl where
   by_test : (t : Tree) → doc_at d p ≡ Some t → (b : Bool) → found d.shelf.store (cond b (Some p) None) ≡ cond b (Some t) None
   by_test t g true = g
   by_test t g false = refl
 
-  by_doc : (o : Option Tree) → doc_at d p ≡ o → found d.shelf.store (cond (passes (has k) o) (Some p) None) ≡ kept_if (has k) o
+  by_doc : (o : Option Tree) → doc_at d p ≡ o → found d.shelf.store (cond (passes (has_all k) o) (Some p) None) ≡ kept_if (has_all k) o
   by_doc None g = refl
-  by_doc (Some t) g = by_test t g (has k t)
+  by_doc (Some t) g = by_test t g (has_all k t)
 
-pub selected : (d : Docs) (k : Key) (es : List PlaceEntry) → IsStrictlySortedBy id_cmp (keys_of es) → ((y : List ℕ) → lookup (is_at (id_cmp y)) es ≡ wanted d k y) → map (doc_at d) (map (λ e. e.1) es) ≡ map Some (Sel k (docs d))
-selected d k es ordered is =
+pub picked : (d : Docs) (ks : List Key) (es : List PlaceEntry) → IsStrictlySortedBy id_cmp (keys_of es) → ((y : List ℕ) → lookup (is_at (id_cmp y)) es ≡ wanted d ks y) → map (doc_at d) (map (λ e. e.1) es) ≡ map Some (selected ks (docs d))
+picked d ks es ordered is =
     let s : Store = d.shelf.store in
-    let sound : AreSound s es = sound_entries s es ordered (λ x p h. d.shelf.sound x p (wanted_place d k x p (sym (is x) ∙ h)).0) in
+    let sound : AreSound s es = sound_entries s es ordered (λ x p h. d.shelf.sound x p (wanted_place d ks x p (sym (is x) ∙ h)).0) in
     second s es ∙ some-trees s es sound
-    ∙ ap (map Some) (same_docs (trees_at s es) (Sel k (docs d)) (ascending-trees s es sound ordered) (ascending-filter (has k) (docs d) (ascending-documents d.shelf))
-    (λ q. at-trees s es sound q ∙ ap (found s) (is q) ∙ kept_there d k (place_at d q) ∙ sym (ap (kept_if (has k)) (at-documents d.shelf q)) ∙ sym (At-filter (has k) q (docs d) (ascending-documents d.shelf))))
+    ∙ ap (map Some) (same_docs (trees_at s es) (selected ks (docs d)) (ascending-trees s es sound ordered) (ascending-filter (has_all ks) (docs d) (ascending-documents d.shelf))
+    (λ q. at-trees s es sound q ∙ ap (found s) (is q) ∙ kept_there d ks (place_at d q) ∙ sym (ap (kept_if (has_all ks)) (at-documents d.shelf q)) ∙ sym (At-filter (has_all ks) q (docs d) (ascending-documents d.shelf))))
 
-pub selected_all : (ds : List Tree) → Sel All ds ≡ ds
-selected_all [] = refl
-selected_all (d ∷ ds) = ap (λ es. d ∷ es) (selected_all ds)
-
-one_id : (d : Docs) (i y : List ℕ) → (is_found d (Id i) i y || false) ≡ is_some (wanted d (Id i) y)
-one_id d i y = by_test (same_id y i) refl where
+-- where an id is one of the keys, no other document is wanted
+pub one_id : (d : Docs) (ks : List Key) (i y : List ℕ) → IsImplied (Id i) ks → (is_found d ks i y || false) ≡ is_some (wanted d ks y)
+one_id d ks i y one = by_test (same_id y i) refl where
   same : (b : Bool) → (b || false) ≡ b
   same true = refl
   same false = refl
 
-  other : same_id y i ≡ false → (o : Option ℕ) → wanted d (Id i) y ≡ o → false ≡ is_some o
+  other : same_id y i ≡ false → (o : Option ℕ) → wanted d ks y ≡ o → false ≡ is_some o
   other f None h = refl
-  other f (Some p) h = absurd (true≢false (sym (matches (doc_at d p) (d.shelf.sound y p (wanted_place d (Id i) y p h).0) (wanted_place d (Id i) y p h).1) ∙ same_id-sym i y ∙ f)) where
+  other f (Some p) h = absurd (true≢false (sym (matches (doc_at d p) (d.shelf.sound y p (wanted_place d ks y p h).0) (implied (Id i) ks (doc_at d p) one (wanted_place d ks y p h).1)) ∙ same_id-sym i y ∙ f)) where
     matches : (o : Option Tree) → option_map id_of o ≡ Some y → passes (has (Id i)) o ≡ true → same_id i y ≡ true
     matches None g m = absurd (true≢false (sym m))
     matches (Some t) g m = let e : id_of t ≡ y = cc in sym (ap (same_id i) e) ∙ m
 
-  by_test : (b : Bool) → same_id y i ≡ b → ((b && is_some (wanted d (Id i) y)) || false) ≡ is_some (wanted d (Id i) y)
-  by_test true e = same (is_some (wanted d (Id i) y))
-  by_test false e = other e (wanted d (Id i) y) refl
-
-pub one_key : (d : Docs) (k : Key) (i y : List ℕ) → k ≡ Id i → (is_found d k i y || false) ≡ is_some (wanted d k y)
-one_key d k i y h = subst (λ (z : Key). (is_found d z i y || false) ≡ is_some (wanted d z y)) (sym h) (one_id d i y)
+  by_test : (b : Bool) → same_id y i ≡ b → ((b && is_some (wanted d ks y)) || false) ≡ is_some (wanted d ks y)
+  by_test true e = same (is_some (wanted d ks y))
+  by_test false e = other e (wanted d ks y) refl

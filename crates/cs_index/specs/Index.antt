@@ -2,7 +2,7 @@
 -- to the other.
 use Rattle.std.specs.Prelude.{◌≡◌, ℕ, List, true, false, cond, map, Some}
 use Rattle.cs_view.specs.Changes.{Edit, are_changes, LeadFrom, After}
-use Rattle.cs_view.specs.Keys.{Sel}
+use Rattle.cs_view.specs.Keys.{selected}
 use Rattle.cs_view.specs.declared.key.Key.{Key}
 use Rattle.cs_docs.specs.Store.{docs, doc_at, ArePlacesSteady}
 use Rattle.cs_docs.specs.declared.docs.Docs.{Docs}
@@ -38,6 +38,6 @@ FollowsChanges old new now cs outdated =
     (was : Docs) → LeadsOn was now cs → AreOutdated old was cs outdated → IsIndexOf old was
     → IsIndexOf new now
 
--- the places of the documents that have the key, in the order of their ids
-abbrev pub ArePlacesOf : Key → Docs → List ℕ → Type 0
-ArePlacesOf k d ps = map (doc_at d) ps ≡ map Some (Sel k (docs d))
+-- the places of the documents that have each of the keys, in the order of their ids
+abbrev pub ArePlacesOf : List Key → Docs → List ℕ → Type 0
+ArePlacesOf ks d ps = map (doc_at d) ps ≡ map Some (selected ks (docs d))

@@ -1,6 +1,6 @@
 -- What a look-up picks. For private clauses.
 use denote.Ref.{Bor}
-use Rattle.std.specs.Prelude.{◌≡◌, ℕ, Bool, cond, ◌&&◌, ◌||◌, List, [], ◌∷◌, Option, Some, None}
+use Rattle.std.specs.Prelude.{◌≡◌, ℕ, Bool, true, cond, ◌&&◌, ◌||◌, List, [], ◌∷◌, Option, Some, None}
 use Rattle.std.specs.List.{All, list_any}
 use Rattle.std.specs.Option.{is_some}
 use Rattle.std.specs.BTreeSet.{BTreeSet, keys_between}
@@ -9,7 +9,7 @@ use Rattle.cs_value.specs.Tree.{Tree}
 use Rattle.cs_view.specs.Changes.{Edit}
 use Rattle.cs_view.specs.Dataset.{same_id}
 use Rattle.cs_view.specs.Document.{passes, id_of}
-use Rattle.cs_view.specs.Keys.{has}
+use Rattle.cs_view.specs.Keys.{has, has_all}
 use Rattle.cs_view.specs.declared.key.Key.{Key}
 use Rattle.cs_docs.specs.Store.{place_at, doc_at}
 use Rattle.cs_docs.specs.declared.docs.Docs.{Docs}
@@ -22,14 +22,18 @@ abbrev pub entering : List Tree → List Edit
 entering [] = []
 entering (t ∷ ts) = (id_of t, (None, Some t)) ∷ entering ts
 
--- the place, where the document there has the key
-abbrev pub where_has : Docs → Key → Option ℕ → Option ℕ
-where_has d k None = None
-where_has d k (Some p) = cond (passes (has k) (doc_at d p)) (Some p) None
+-- a document that has each of the keys has this one
+abbrev pub IsImplied : Key → List Key → Type 0
+IsImplied k ks = (t : Tree) → has_all ks t ≡ true → has k t ≡ true
 
--- the place of the document with the id, where it has the key
-abbrev pub wanted : Docs → Key → List ℕ → Option ℕ
-wanted d k y = where_has d k (place_at d y)
+-- the place, where the document there has each of the keys
+abbrev pub where_has : Docs → List Key → Option ℕ → Option ℕ
+where_has d ks None = None
+where_has d ks (Some p) = cond (passes (has_all ks) (doc_at d p)) (Some p) None
+
+-- the place of the document with the id, where it has each of the keys
+abbrev pub wanted : Docs → List Key → List ℕ → Option ℕ
+wanted d ks y = where_has d ks (place_at d y)
 
 -- the ids of documents that a look-up found, each with its place
 abbrev pub Hits : Type 0
@@ -39,24 +43,25 @@ abbrev pub is_hit : List ℕ → Hits → Bool
 is_hit y hs = list_any (λ h. same_id y h.0.now) hs
 
 -- each is wanted, and stands at its place
-abbrev pub AreWanted : Docs → Key → Hits → Type 0
-AreWanted d k hs = All (λ h. wanted d k h.0.now ≡ Some h.1) hs
+abbrev pub AreWanted : Docs → List Key → Hits → Type 0
+AreWanted d ks hs = All (λ h. wanted d ks h.0.now ≡ Some h.1) hs
 
 -- they are all that are wanted
-abbrev pub AreAll : Docs → Key → Hits → Type 0
-AreAll d k hs = (y : List ℕ) → is_hit y hs ≡ is_some (wanted d k y)
+abbrev pub AreAll : Docs → List Key → Hits → Type 0
+AreAll d ks hs = (y : List ℕ) → is_hit y hs ≡ is_some (wanted d ks y)
 
 -- the id is the one looked at, and is wanted
-abbrev pub is_found : Docs → Key → List ℕ → List ℕ → Bool
-is_found d k i y = same_id y i && is_some (wanted d k y)
+abbrev pub is_found : Docs → List Key → List ℕ → List ℕ → Bool
+is_found d ks i y = same_id y i && is_some (wanted d ks y)
 
 -- the id is that of what stands at the place, and is wanted
-abbrev pub is_found_at : Docs → Key → ℕ → List ℕ → Bool
-is_found_at d k p y = passes (λ t. same_id y (id_of t)) (doc_at d p) && is_some (wanted d k y)
+abbrev pub is_found_at : Docs → List Key → ℕ → List ℕ → Bool
+is_found_at d ks p y =
+    passes (λ t. same_id y (id_of t)) (doc_at d p) && is_some (wanted d ks y)
 
 -- at the place of one of these entries
-abbrev pub is_found_among : Docs → Key → List Entry → List ℕ → Bool
-is_found_among d k es y = list_any (λ e. is_found_at d k e.place y) es
+abbrev pub is_found_among : Docs → List Key → List Entry → List ℕ → Bool
+is_found_among d ks es y = list_any (λ e. is_found_at d ks e.place y) es
 
 -- ids that pass a test are added
 abbrev pub Finds : (List ℕ → Bool) → Hits → Hits → Type 0
@@ -64,7 +69,8 @@ Finds f old new = (y : List ℕ) → is_hit y new ≡ (f y || is_hit y old)
 
 -- the places of what was found, in the order of the ids
 abbrev pub ArePlacesIn : Hits → List ℕ → Type 0
-ArePlacesIn hs ps = (d : Docs) (k : Key) → AreWanted d k hs → AreAll d k hs → ArePlacesOf k d ps
+ArePlacesIn hs ps =
+    (d : Docs) (ks : List Key) → AreWanted d ks hs → AreAll d ks hs → ArePlacesOf ks d ps
 
 -- the entries of a code
 abbrev pub under : BTreeSet Entry → ℕ → List Entry

@@ -5,7 +5,8 @@ ghost use Rattle.cs_index.specs.Index.{IsIndexOf, AreOutdated, AreApplied, Follo
 
 use crate::build::{list_all, set_of};
 use crate::entry::Entry;
-use crate::pick::{all_places, place_of_id, places_under};
+use crate::narrow::{id_among, rarest};
+use crate::pick::{place_of_id, places_under};
 use crate::put::{list_changes, put_changes, take_out};
 use cs_docs::Docs;
 use cs_value::NoMemory;
@@ -67,26 +68,22 @@ impl Index {
         Ok(())
     }
 
-    /// The places of the documents that have the key, in the order of their ids. Of the documents
-    /// that the index names each is tested. `NoMemory` where the allocator has no room for them.
-    pub fn select(&self, alloc: Global, key: &Key, docs: &Docs) -> Result<Vec<u32>, NoMemory>
+    /// The places of the documents that have each of the keys, in the order of their ids. Of the
+    /// documents that the index names under one of the keys each is tested: under an id if there is
+    /// one, else under a key of few documents. `NoMemory` where the allocator has no room for them.
+    pub fn select_all(&self, alloc: Global, keys: &[Key], docs: &Docs) -> Result<Vec<u32>, NoMemory>
         requires { IsIndexOf self.now docs.now }
-        ensures { IfOk result (λ places. ArePlacesOf key.now docs.now places.items) }
+        ensures { IfOk result (λ places. ArePlacesOf keys.now docs.now places.items) }
     {
-        match key {
-            Key::All => all_places(alloc, docs),
-            Key::Id(id) => place_of_id(alloc, key, id, docs),
-            Key::Path(names, _) => {
-                // There are at most four of them.
-                let _few = names.len();
-                places_under(alloc, &self.seed, &self.entries, key, docs)
+        if let Some(id) = id_among(keys) {
+            return place_of_id(alloc, id, keys, docs);
+        }
+        match rarest(&self.seed, &self.entries, keys) {
+            Some(key) => places_under(alloc, &self.seed, &self.entries, key, keys, docs),
+            None => {
+                let places = docs.select_all(alloc, keys)?;
+                Ok(places)
             }
-            Key::Elem(names, _) => {
-                // Here too.
-                let _few = names.len();
-                places_under(alloc, &self.seed, &self.entries, key, docs)
-            }
-            Key::Ref(_) => places_under(alloc, &self.seed, &self.entries, key, docs),
         }
     }
 }

@@ -7,6 +7,7 @@ mod entry;
 mod index;
 mod indexed;
 pub mod laws;
+mod narrow;
 mod pick;
 mod put;
 mod referrers;

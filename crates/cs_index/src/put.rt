@@ -7,7 +7,7 @@ ghost use Rattle.cs_index.specs.Entries.{entry, same_entry, is_in, is_put, is_ap
 ghost use Rattle.cs_index.specs.declared.entry.Entry.{Entry};
 
 use crate::entry::Entry;
-use cs_codes::codes_of;
+use cs_codes::{codes_of, has_code, sort_codes};
 use cs_docs::Docs;
 use cs_value::NoMemory;
 use cs_view::{Change, Doc};
@@ -36,16 +36,8 @@ fn sought_codes(alloc: Global, seed: &RandomState, side: &Option<Doc>) -> Result
     ensures ascending { IfOk result (λ cs. IsNonDecreasing cs.items) }
 {
     let mut codes = side_codes(alloc, seed, side)?;
-    codes.sort_unstable();
+    sort_codes(&mut codes);
     Ok(codes)
-}
-
-// Whether a code is among codes that ascend.
-fn has_code(ascending: &Vec<u64>, code: u64) -> bool
-    requires { IsNonDecreasing ascending.now.items }
-    ensures { result ≡ is_among code ascending.now.items }
-{
-    ascending.binary_search(&code).is_ok()
 }
 
 fn put_code(

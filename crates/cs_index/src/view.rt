@@ -12,6 +12,7 @@ use cs_docs::{Docs, Referrers};
 use cs_value::{NoMemory, Steps, Txt};
 use cs_view::{Doc, Key, View};
 use std::alloc::Global;
+use std::slice;
 use std::sync::ledger::Ledger;
 
 impl<'a> Indexed<'a> {
@@ -43,8 +44,16 @@ impl<'a, L: Ledger> View<L> for Indexed<'a> {
         self.docs.len()
     }
 
+    #[tactic(auto, using(cs_view::proofs::Looking::selected_one))]
     fn select(&self, alloc: Global, key: &Key) -> Result<Vec<u32>, NoMemory> {
-        let places = self.index.select(alloc, key, self.docs)?;
+        let places = self
+            .index
+            .select_all(alloc, slice::from_ref(key), self.docs)?;
+        Ok(places)
+    }
+
+    fn select_all(&self, alloc: Global, keys: &[Key]) -> Result<Vec<u32>, NoMemory> {
+        let places = self.index.select_all(alloc, keys, self.docs)?;
         Ok(places)
     }
 

@@ -7,7 +7,7 @@ use Rattle.std.specs.Ordering.{is_eq, is_lt, ordering_reverse}
 use Rattle.cs_value.specs.Tree.{Tree}
 use Rattle.cs_view.specs.Document.{id_of}
 use Rattle.cs_view.specs.Dataset.{id_cmp, same_id, At, ascending, kept_if}
-use Rattle.cs_view.specs.Keys.{has, Sel}
+use Rattle.cs_view.specs.Keys.{has_all, selected}
 use Rattle.cs_view.specs.declared.key.Key.{Key}
 use Rattle.cs_view.proofs.Booleans.{both}
 use Rattle.cs_view.proofs.Changed.{ascending-After}
@@ -206,7 +206,7 @@ ascending-merged touched (d ∷ ds) ps all g h =
           joined (lower_docs (id_of d) ps) d (merged_docs touched ds high) (ascending-lower (id_of d) ps h) (lower-less (id_of d) ps)
           (both _ _ (below-merged touched (id_of d) ds high (head-below d ds g) (upper-above touched (id_of d) ps e all h)) there)
 
--- ---- the documents that have a key
+-- ---- the documents that have each of some keys
 touched_put : (w : Working) → AreTouched (contains id_cmp w.touched) (documents w.put)
 touched_put w = each (documents w.put) (members (documents w.put) (ascending-documents w.put)) where
   each : (ds : List Tree) → AllByRecursion (λ d. At (id_of d) (documents w.put) ≡ Some d) ds → AreTouched (contains id_cmp w.touched) ds
@@ -217,18 +217,18 @@ kept_side : (p : Tree → Bool) (b : Bool) (one other : Option Tree) → cond b 
 kept_side p true one other = refl
 kept_side p false one other = refl
 
-pub merged_working : (w : Working) (k : Key) → merged_docs (contains id_cmp w.touched) (Sel k (base w)) (Sel k (documents w.put)) ≡ Sel k (working w)
-merged_working w k =
+pub merged_working : (w : Working) (ks : List Key) → merged_docs (contains id_cmp w.touched) (selected ks (base w)) (selected ks (documents w.put)) ≡ selected ks (working w)
+merged_working w ks =
     let t : List ℕ → Bool = contains id_cmp w.touched in
     let store : ascending (base w) ≡ true = ascending-documents (store_of w.store).shelf in
     let put : ascending (documents w.put) ≡ true = ascending-documents w.put in
     let now : ascending (working w) ≡ true = ascending-After (base w) (worked (base w) (documents w.put) w.touched.keys) store in
-    let all : AreTouched t (Sel k (documents w.put)) = all-filter _ (has k) (documents w.put) (touched_put w) in
-    same_docs (merged_docs t (Sel k (base w)) (Sel k (documents w.put))) (Sel k (working w))
-    (ascending-merged t (Sel k (base w)) (Sel k (documents w.put)) all (ascending-filter (has k) (base w) store) (ascending-filter (has k) (documents w.put) put))
-    (ascending-filter (has k) (working w) now)
-    (λ q. At-merged t q (Sel k (base w)) (Sel k (documents w.put)) all
-    ∙ ap (λ o. cond (t q) o (At q (Sel k (base w)))) (At-filter (has k) q (documents w.put) put)
-    ∙ ap (λ o. cond (t q) (kept_if (has k) (At q (documents w.put))) o) (At-filter (has k) q (base w) store)
-    ∙ kept_side (has k) (t q) (At q (documents w.put)) (At q (base w))
-    ∙ ap (kept_if (has k)) (sym (At-working w q)) ∙ sym (At-filter (has k) q (working w) now))
+    let all : AreTouched t (selected ks (documents w.put)) = all-filter _ (has_all ks) (documents w.put) (touched_put w) in
+    same_docs (merged_docs t (selected ks (base w)) (selected ks (documents w.put))) (selected ks (working w))
+    (ascending-merged t (selected ks (base w)) (selected ks (documents w.put)) all (ascending-filter (has_all ks) (base w) store) (ascending-filter (has_all ks) (documents w.put) put))
+    (ascending-filter (has_all ks) (working w) now)
+    (λ q. At-merged t q (selected ks (base w)) (selected ks (documents w.put)) all
+    ∙ ap (λ o. cond (t q) o (At q (selected ks (base w)))) (At-filter (has_all ks) q (documents w.put) put)
+    ∙ ap (λ o. cond (t q) (kept_if (has_all ks) (At q (documents w.put))) o) (At-filter (has_all ks) q (base w) store)
+    ∙ kept_side (has_all ks) (t q) (At q (documents w.put)) (At q (base w))
+    ∙ ap (kept_if (has_all ks)) (sym (At-working w q)) ∙ sym (At-filter (has_all ks) q (working w) now))

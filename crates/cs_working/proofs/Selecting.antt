@@ -9,7 +9,7 @@ use Rattle.std.specs.Prelude.{IfSome}
 use Rattle.cs_value.specs.Tree.{Tree}
 use Rattle.cs_view.specs.Document.{id_of}
 use Rattle.cs_view.specs.Dataset.{id_cmp, At}
-use Rattle.cs_view.specs.Keys.{has, Sel}
+use Rattle.cs_view.specs.Keys.{has_all, selected}
 use Rattle.cs_view.specs.declared.key.Key.{Key}
 use Rattle.cs_shelf.specs.Places.{or_null, most_places}
 use Rattle.cs_shelf.specs.View.{documents, doc_at as put_at}
@@ -97,8 +97,8 @@ low_stands w s d here at = by_test (nat_lt s most_places) refl where
 abbrev AreOwn : Working → List Tree → Type 0
 AreOwn w ds = AllByRecursion (λ d. At (id_of d) (base w) ≡ Some d) ds
 
-own_selected : (w : Working) (k : Key) → AreOwn w (Sel k (base w))
-own_selected w k = all-filter _ (has k) (base w) (members (base w) (ascending-documents (store_of w.store).shelf))
+own_selected : (w : Working) (ks : List Key) → AreOwn w (selected ks (base w))
+own_selected w ks = all-filter _ (has_all ks) (base w) (members (base w) (ascending-documents (store_of w.store).shelf))
 
 merged_same : (w : Working) (ss : List ℕ) (ds : List Tree) (ps : List ℕ) (es : List Tree) → map (store_at w.store) ss ≡ map Some ds → AreOwn w ds → map (put_at w.put) ps ≡ map Some es
     → map (doc_at w) (merged w ss ps) ≡ map Some (merged_docs (contains id_cmp w.touched) ds es)
@@ -125,8 +125,8 @@ merged_same w (s ∷ ss) (d ∷ ds) ps es g own h =
           ∙ sym (map-append Some (lower_docs (id_of d) es) (d ∷ merged_docs touched ds (upper_docs (id_of d) es)))
     ]
 
-pub selected : (w : Working) (k : Key) (ss ps : List ℕ) → map (store_at w.store) ss ≡ map Some (Sel k (base w)) → map (put_at w.put) ps ≡ map Some (Sel k (documents w.put))
-    → map (doc_at w) (merged w ss ps) ≡ map Some (Sel k (working w))
-selected w k ss ps g h =
-    merged_same w ss (Sel k (base w)) ps (Sel k (documents w.put)) g (own_selected w k) h
-    ∙ ap (map Some) (merged_working w k)
+pub picked : (w : Working) (ks : List Key) (ss ps : List ℕ) → map (store_at w.store) ss ≡ map Some (selected ks (base w)) → map (put_at w.put) ps ≡ map Some (selected ks (documents w.put))
+    → map (doc_at w) (merged w ss ps) ≡ map Some (selected ks (working w))
+picked w ks ss ps g h =
+    merged_same w ss (selected ks (base w)) ps (selected ks (documents w.put)) g (own_selected w ks) h
+    ∙ ap (map Some) (merged_working w ks)

@@ -1,8 +1,8 @@
-//! The documents of a working dataset that have a key, in the order of their ids.
+//! The documents of a working dataset that have each of some keys, in the order of their ids.
 ghost use Rattle.std.specs.Prelude.{◌≡◌, ◌++◌, ◌∷◌, ◌<◌, ℕ, List, All, IsSome, IfOk, OnOk, map, Some};
 ghost use Rattle.std.specs.Ordering.{is_lt};
 ghost use Rattle.cs_view.specs.Dataset.{id_cmp};
-ghost use Rattle.cs_view.specs.Keys.{Sel};
+ghost use Rattle.cs_view.specs.Keys.{selected};
 ghost use Rattle.cs_shelf.specs.Places.{most_places};
 ghost use Rattle.cs_shelf.specs.View.{doc_at as put_at};
 ghost use Rattle.cs_index.specs.View.{doc_at as store_at};
@@ -117,15 +117,19 @@ impl<'d> Working<'d> {
         Ok(places)
     }
 
-    // The places of the documents that have the key, in the order of their ids. Those of the store
-    // are found by its index, and only what is put is tested besides.
-    pub(crate) fn select<L: Ledger>(&self, alloc: Global, key: &Key) -> Result<Vec<u32>, NoMemory>
+    // The places of the documents that have each of the keys, in the order of their ids. Those of
+    // the store are found by its index, and only what is put is tested besides.
+    pub(crate) fn select_all<L: Ledger>(
+        &self,
+        alloc: Global,
+        keys: &[Key],
+    ) -> Result<Vec<u32>, NoMemory>
         ensures { IfOk result
             (λ places. map (doc_at self.now) places.items
-            ≡ map Some (Sel key.now (working self.now))) }
+            ≡ map Some (selected keys.now (working self.now))) }
     {
-        let standing = View::<L>::select(&self.store, alloc, key)?;
-        let put = self.put.select(alloc, key)?;
+        let standing = View::<L>::select_all(&self.store, alloc, keys)?;
+        let put = self.put.select_all(alloc, keys)?;
         self.merge(alloc, standing.as_slice(), put.as_slice())
     }
 }

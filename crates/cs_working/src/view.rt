@@ -5,6 +5,7 @@ use crate::working::Working;
 use cs_value::{NoMemory, Steps, Txt};
 use cs_view::{Doc, Key, View};
 use std::alloc::Global;
+use std::slice;
 use std::sync::ledger::Ledger;
 
 /// The documents that stand now, at places of the view's own.
@@ -21,8 +22,13 @@ impl<'d, L: Ledger> View<L> for Working<'d> {
         Working::count(self)
     }
 
+    #[tactic(auto, using(cs_view::proofs::Looking::selected_one))]
     fn select(&self, alloc: Global, key: &Key) -> Result<Vec<u32>, NoMemory> {
-        Working::select::<L>(self, alloc, key)
+        Working::select_all::<L>(self, alloc, slice::from_ref(key))
+    }
+
+    fn select_all(&self, alloc: Global, keys: &[Key]) -> Result<Vec<u32>, NoMemory> {
+        Working::select_all::<L>(self, alloc, keys)
     }
 
     fn at(&self, place: u32, steps: &mut Steps<L>) -> &Doc {

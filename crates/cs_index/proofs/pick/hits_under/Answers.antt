@@ -6,7 +6,7 @@ use Rattle.cs_index.proofs.pick.hits_under.Goals as goal
 pub loop-entry-preserved : goal.loop-entry-preserved
 loop-entry-preserved c =
     let d = c.args.docs.now in
-    let k = c.args.key.now in (
+    let k = c.args.keys.now in (
       c.in_ok-choose.ensures.wanted,
       λ y.
           or_more (is_found_at d k c.in-Some.entry.now.place y) _ _ _ _ (c.in_ok-choose.ensures.finds y)

@@ -4,5 +4,5 @@ use Rattle.cs_index.proofs.pick.hits_under.Given as goal
 
 abbrev pub invariant-loop-entry : goal.invariant-loop-entry
 invariant-loop-entry l =
-    AreWanted l.docs l.key l.hits.items
-    × ((y : List ℕ) → (is_found_among l.docs l.key l.entry-iterator y || is_hit y l.hits.items) ≡ is_found_among l.docs l.key (under l.entries l.code) y)
+    AreWanted l.docs l.keys l.hits.items
+    × ((y : List ℕ) → (is_found_among l.docs l.keys l.entry-iterator y || is_hit y l.hits.items) ≡ is_found_among l.docs l.keys (under l.entries l.code) y)

@@ -6,9 +6,9 @@ use Rattle.cs_index.proofs.pick.places_under.Goals as goal
 pub returns : goal.returns
 returns c =
     let d = c.args.docs.now in
-    let k = c.args.key.now in
-    c.in_ok-places.ensures d k c.in_ok-hits.ensures.wanted
+    let ks = c.args.keys.now in
+    c.in_ok-places.ensures d ks c.in_ok-hits.ensures.wanted
     (λ y.
     c.in_ok-hits.ensures.found y
-    ∙ ap (λ (x : ℕ). is_found_among d k (under c.args.entries.now x) y) c.key_code.ensures
-    ∙ all_found c.args.seed.now d c.args.entries.now k c.requires.kept c.requires.entries y)
+    ∙ ap (λ (x : ℕ). is_found_among d ks (under c.args.entries.now x) y) c.key_code.ensures
+    ∙ all_found c.args.seed.now d c.args.entries.now c.args.key.now ks c.requires.kept c.requires.implied c.requires.entries y)

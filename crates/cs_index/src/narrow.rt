@@ -1,0 +1,104 @@
+//! By which of several keys a look-up goes: the one under which few entries stand.
+ghost use Rattle.std.specs.Prelude.{◌≡◌, true, IfSome};
+ghost use Rattle.cs_view.specs.declared.key.Key.TheVariants.{Id};
+ghost use Rattle.cs_codes.specs.Kept.{IsKept};
+ghost use Rattle.cs_index.specs.Picking.{IsImplied};
+
+use crate::entry::Entry;
+use cs_codes::key_code;
+use cs_value::Txt;
+use cs_view::Key;
+use std::collections::BTreeSet;
+use std::hash::RandomState;
+
+// Whether the index keeps the key.
+fn is_kept(key: &Key) -> bool
+    ensures { result ≡ true → IsKept key.now }
+{
+    match key {
+        Key::All | Key::Id(_) => false,
+        Key::Path(names, _) | Key::Elem(names, _) => {
+            // There are one to four of them.
+            names.len() > 0
+        }
+        Key::Ref(_) => true,
+    }
+}
+
+// Whether at most so many entries stand under the code. It looks at one entry more.
+fn stand_at_most(entries: &BTreeSet<Entry>, code: u64, most: usize) -> bool {
+    let mut left = most;
+    let low = Entry { code, place: 0 };
+    let high = Entry {
+        code,
+        place: 4_294_967_295,
+    };
+    for _ in entries.range(low..=high) {
+        if left == 0 {
+            return false;
+        }
+        left -= 1;
+    }
+    true
+}
+
+/// The id that is one of the keys, the first if there are several.
+pub(crate) fn id_among(keys: &[Key]) -> Option<&Txt>
+    ensures { IfSome result (λ id. IsImplied (Id id.now) keys.now) }
+{
+    for key in keys {
+        if let Key::Id(id) = key {
+            return Some(id);
+        }
+    }
+    None
+}
+
+// The first key that the index keeps.
+fn first_kept(keys: &[Key]) -> Option<&Key>
+    ensures { IfSome result (λ key. IsKept key.now × IsImplied key.now keys.now) }
+{
+    for key in keys {
+        if is_kept(key) {
+            return Some(key);
+        }
+    }
+    None
+}
+
+// The first key that the index keeps and under which at most so many entries stand.
+fn first_of_few<'k>(
+    seed: &RandomState,
+    entries: &BTreeSet<Entry>,
+    keys: &'k [Key],
+    most: usize,
+) -> Option<&'k Key>
+    ensures { IfSome result (λ key. IsKept key.now × IsImplied key.now keys.now) }
+{
+    for key in keys {
+        if is_kept(key) && stand_at_most(entries, key_code(seed, key), most) {
+            return Some(key);
+        }
+    }
+    None
+}
+
+/// Of the keys that the index keeps one under which hardly more entries stand than under any other.
+/// To find it, no more than some twenty entries are counted for each that stands under it and each
+/// key. `None` where the index keeps none of them.
+pub(crate) fn rarest<'k>(
+    seed: &RandomState,
+    entries: &BTreeSet<Entry>,
+    keys: &'k [Key],
+) -> Option<&'k Key>
+    ensures { IfSome result (λ key. IsKept key.now × IsImplied key.now keys.now) }
+{
+    if keys.len() > 1 {
+        for most in [16, 256, 4_096, 65_536] {
+            if let Some(key) = first_of_few(seed, entries, keys, most) {
+                return Some(key);
+            }
+        }
+    }
+    first_kept(keys)
+}
