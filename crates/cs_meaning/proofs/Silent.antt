@@ -27,7 +27,7 @@ both-true false b h = absurd (cc)
 none : {A : Type 0} (a b : List A) → a ≡ [] → b ≡ [] → a ++ b ≡ []
 none a b h g = ap (λ x. x ++ b) h ∙ g
 
-flat-none : (k : Tree → List Key) → ((x : Tree) → k x ≡ []) → (xs : List Tree) → flat_map k xs ≡ []
+pub flat-none : (k : Tree → List Key) → ((x : Tree) → k x ≡ []) → (xs : List Tree) → flat_map k xs ≡ []
 flat-none k h [] = refl
 flat-none k h (x ∷ xs) = none (k x) (flat_map k xs) (h x) (flat-none k h xs)
 

@@ -1,5 +1,5 @@
 -- A document that makes a filter true has the filter's key.
-use Rattle.std.proofs.Common.{◌≡◌, ℕ, Bool, true, false, cond, ◌||◌, List, [], ◌∷◌, ◌++◌, refl, sym, ◌∙◌, subst, Option, Some, None}
+use Rattle.std.proofs.Common.{◌≡◌, ℕ, Bool, true, false, cond, ◌&&◌, ◌||◌, List, [], ◌∷◌, ◌++◌, refl, sym, ap, ◌∙◌, subst, Option, Some, None}
 use Rattle.std.specs.Prelude.{⊤, filter, codes, option_map, option_and_then, option_to_list, unwrap_or, if◌then◌else◌}
 use Rattle.std.specs.Option.{option_or}
 use Rattle.std.specs.List.{list_any, AllByRecursion}
@@ -20,13 +20,13 @@ use Rattle.cs_syntax.specs.Functions.{without_global}
 use Rattle.cs_syntax.specs.Expression.{Expression, word, round, call, chain, run, within, Operands, no_operands, more_operands, Arguments, no_arguments, more_arguments, argument}
 use Rattle.cs_view.specs.Dataset.{same_id}
 use Rattle.cs_view.specs.Document.{passes}
-use Rattle.cs_view.specs.Keys.{equals, has_element, followed, has_ref, some_has_ref, some_pair_has_ref, has}
+use Rattle.cs_view.specs.Keys.{equals, has_element, followed, has_ref, some_has_ref, some_pair_has_ref, has, has_all}
 use Rattle.cs_view.specs.declared.key.Scalar.{Scalar}
 use Rattle.cs_view.specs.declared.key.Scalar.TheVariants.{Bool as Boolean, Num, Text}
 use Rattle.cs_view.specs.declared.key.Key.{Key}
 use Rattle.cs_view.specs.declared.key.Key.TheVariants.{Id, Path, Elem, Ref}
 use Rattle.cs_plan.specs.Constants.{at_names, constant}
-use Rattle.cs_plan.specs.Filters.{path_of, is_id_path, equals_key, of_both, equality_key, element_key, scalar_text, reference_key, conjunct_key, all_and, conjuncts, operand_conjuncts, keys_given, is_id_key, is_ref_key, is_path_key, is_element_key, by_kind, first_or_all, key_in}
+use Rattle.cs_plan.specs.Filters.{path_of, is_id_path, equals_key, of_both, equality_key, element_key, scalar_text, reference_key, conjunct_key, all_and, conjuncts, operand_conjuncts, keys_given, filter_keys, is_id_key, is_ref_key, is_path_key, is_element_key, by_kind, first_or_all, key_in}
 use Rattle.cs_meaning.specs.Operators.{is_true, operated, in_list_or_path, coalescing, selecting, referring, applying, called, references}
 use Rattle.cs_meaning.specs.Values.{value, run_value, path_pattern, coalesced, selected, arguments_values}
 use Rattle.cs_meaning.proofs.Constants.{scalar_tree, constant-value, IsAt, path-value, at-names-followed, equals-equal}
@@ -307,9 +307,29 @@ given-hold docs params scope d (e ∷ es) h =
     (one-holds (conjunct_key e scope params) d (conjunct-holds docs params e scope d h.0))
     (given-hold docs params scope d es h.1)
 
+-- to have each of the keys is to hold them all
+all-hold : (ks : List Key) (d : Tree) → has_all ks d ≡ true → AllHold ks d
+all-hold [] d h = tt
+all-hold (k ∷ ks) d h = by_test (has k d) refl (all-hold ks d) h where
+  by_test : (b : Bool) → has k d ≡ b → (has_all ks d ≡ true → AllHold ks d) → (b && has_all ks d) ≡ true → (has k d ≡ true) × AllHold ks d
+  by_test true is rest g = (is, rest g)
+  by_test false is rest g = cc
+
+has-all : (ks : List Key) (d : Tree) → AllHold ks d → has_all ks d ≡ true
+has-all [] d h = refl
+has-all (k ∷ ks) d h = ap (λ b. b && has_all ks d) h.0 ∙ has-all ks d h.1
+
+-- a document that makes a filter true has each of the keys that its conjuncts give
+pub true-has_all : (docs : List Tree) (params : Pairs) (e : Expression) (scope : List Tree) (d : Tree) → is_true (value docs params e (d ∷ scope)) ≡ true → has_all (filter_keys e scope params) d ≡ true
+true-has_all docs params e scope d h =
+    has-all (filter_keys e scope params) d (given-hold docs params scope d (conjuncts e) (conjuncts-true docs params e (d ∷ scope) h))
+
+-- a document with each of the keys of a filter has the one that is looked up
+pub all-have_key : (e : Expression) (scope : List Tree) (params : Pairs) (d : Tree) → has_all (filter_keys e scope params) d ≡ true → has (key_in e scope params) d ≡ true
+all-have_key e scope params d h =
+    let keys = filter_keys e scope params in
+    first-holds (by_kind keys) d (kinds-hold keys d (all-hold keys d h))
+
 -- a document that makes a filter true has the filter's key, over every dataset
 pub true-has_key : (docs : List Tree) (params : Pairs) (e : Expression) (scope : List Tree) (d : Tree) → is_true (value docs params e (d ∷ scope)) ≡ true → has (key_in e scope params) d ≡ true
-true-has_key docs params e scope d h =
-    let keys = keys_given scope params (conjuncts e) in
-    first-holds (by_kind keys) d
-    (kinds-hold keys d (given-hold docs params scope d (conjuncts e) (conjuncts-true docs params e (d ∷ scope) h)))
+true-has_key docs params e scope d h = all-have_key e scope params d (true-has_all docs params e scope d h)

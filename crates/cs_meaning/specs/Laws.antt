@@ -4,9 +4,9 @@ use Rattle.std.specs.List.Sorted.{IsStable}
 use Rattle.cs_value.specs.Tree.{Tree, null, Pairs}
 use Rattle.cs_syntax.specs.Expression.{Expression, Steps}
 use Rattle.cs_syntax.specs.Functions.{arity_of}
-use Rattle.cs_view.specs.Keys.{has, Sel}
+use Rattle.cs_view.specs.Keys.{has, has_all, Sel}
 use Rattle.cs_view.specs.declared.key.Key.{Key}
-use Rattle.cs_plan.specs.Filters.{key_in}
+use Rattle.cs_plan.specs.Filters.{filter_keys, key_in}
 use Rattle.cs_plan.specs.Simple.{is_quiet, is_simple, query_key}
 use Rattle.cs_meaning.specs.Callees.{arity_taken}
 use Rattle.cs_meaning.specs.Hits.{hits, tail}
@@ -31,6 +31,14 @@ LookedSettlesValue = (e : Expression) (params : Pairs) (scope d1 d2 : List Tree)
 abbrev pub TrueHasKey : Type 0
 TrueHasKey = (e : Expression) (params : Pairs) (scope docs : List Tree) (d : Tree)
     → IsTrue (is_true (value docs params e (d ∷ scope))) → IsTrue (has (key_in e scope params) d)
+
+-- A document that makes a filter true has each of the keys that the filter's conjuncts give, and a
+-- document that has each of these has the filter's key.
+abbrev pub TrueHasEachKey : Type 0
+TrueHasEachKey = (e : Expression) (params : Pairs) (scope docs : List Tree) (d : Tree)
+    → (IsTrue (is_true (value docs params e (d ∷ scope)))
+    → IsTrue (has_all (filter_keys e scope params) d))
+    × (IsTrue (has_all (filter_keys e scope params) d) → IsTrue (has (key_in e scope params) d))
 
 -- A simple query looks up its key and nothing else.
 abbrev pub SimpleLooksUpItsKey : Type 0

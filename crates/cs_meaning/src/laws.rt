@@ -1,6 +1,6 @@
 //! What values and look-ups have in common over all expressions, those that no text spells among
 //! them. The functions do nothing: each is there for its clause.
-ghost use Rattle.cs_meaning.specs.Laws.{LookedSettlesValue, TrueHasKey, SimpleLooksUpItsKey, SimpleIsTailOfHits, RestKeepsNull, QuietAsksNothing, HitsHaveKey, FunctionsAreEvaluated, SortedInOrder, SortedInOneWay};
+ghost use Rattle.cs_meaning.specs.Laws.{LookedSettlesValue, TrueHasKey, TrueHasEachKey, SimpleLooksUpItsKey, SimpleIsTailOfHits, RestKeepsNull, QuietAsksNothing, HitsHaveKey, FunctionsAreEvaluated, SortedInOrder, SortedInOneWay};
 
 use cs_ops::total_is_a_preorder;
 
@@ -13,6 +13,12 @@ pub fn looked_settles_value()
 /// A document that makes a filter true has the filter's key, over every dataset and in every scope.
 pub fn true_has_key()
     ensures { TrueHasKey }
+{}
+
+/// A document that makes a filter true has each of the keys that the filter gives, over every dataset
+/// and in every scope; and a document that has each of them has the filter's key.
+pub fn true_has_each_key()
+    ensures { TrueHasEachKey }
 {}
 
 /// A simple query looks up the key of its filter and nothing else.

@@ -137,7 +137,7 @@ untaken : {A : Type 0} (b : Bool) (x y : A) → b ≡ false → cond b x y ≡ y
 untaken true x y h = absurd (true≢false h)
 untaken false x y h = refl
 
-one_key : (o : Option Key) → option_to_list o ++ [] ≡ option_to_list o
+pub one_key : (o : Option Key) → option_to_list o ++ [] ≡ option_to_list o
 one_key None = refl
 one_key (Some k) = refl
 
@@ -161,6 +161,21 @@ given_both scope params (x ∷ xs) ys =
     ap (λ ks. option_to_list (conjunct_key x scope params) ++ ks) (given_both scope params xs ys)
     ∙ sym (append_assoc (option_to_list (conjunct_key x scope params)) (keys_given scope params xs)
     (keys_given scope params ys))
+
+-- the keys of the sides of a run of `&&`, one after the other, are those of the run
+pub given_in_run : (ks0 ks1 ks2 : List Key) (e whole : Expression) (rest : Operands) (scope : List Tree) (params : Pairs)
+    → ks1 ≡ ks0 ++ keys_given scope params (conjuncts e)
+    → ks2 ≡ ks1 ++ keys_given scope params (operand_conjuncts rest)
+    → all_and rest ≡ true → whole ≡ run e rest
+    → ks2 ≡ ks0 ++ keys_given scope params (conjuncts whole)
+given_in_run ks0 ks1 ks2 e whole rest scope params first second all is =
+    let given = keys_given scope params in
+    second ∙ ap (λ (ks : List Key). ks ++ given (operand_conjuncts rest)) first
+    ∙ append_assoc ks0 (given (conjuncts e)) (given (operand_conjuncts rest))
+    ∙ ap (λ (ks : List Key). ks0 ++ ks)
+    (sym (given_both scope params (conjuncts e) (operand_conjuncts rest))
+    ∙ sym (keys_of_run e rest scope params all)
+    ∙ ap (λ (x : Expression). given (conjuncts x)) (sym is))
 
 -- the best of the keys of two lists of conjuncts is found one list after the other
 pub fold_given : (k : Key) (scope : List Tree) (params : Pairs) (xs ys : List Expression)

@@ -96,6 +96,11 @@ abbrev mutual
 abbrev pub keys_given : List Tree → Pairs → List Expression → List Key
 keys_given scope params es = flat_map (λ e. option_to_list (conjunct_key e scope params)) es
 
+-- The keys that a filter gives, from the left, in the scope in which its chain stands: those of its
+-- conjuncts.
+abbrev pub filter_keys : Expression → List Tree → Pairs → List Key
+filter_keys e scope params = keys_given scope params (conjuncts e)
+
 -- A key is one of an id.
 abbrev pub is_id_key : Key → Bool
 is_id_key (Id t) = true
@@ -132,4 +137,4 @@ first_or_all (k ∷ ks) = k
 -- some conjunct gives;
 -- `All` where none gives one.
 abbrev pub key_in : Expression → List Tree → Pairs → Key
-key_in e scope params = first_or_all (by_kind (keys_given scope params (conjuncts e)))
+key_in e scope params = first_or_all (by_kind (filter_keys e scope params))

@@ -1,11 +1,11 @@
 -- Simple queries, whose answer follows from the documents that make one filter true: this project's
 -- profile.
-use Rattle.std.specs.Prelude.{Bool, true, false, ◌&&◌, [], ◌∷◌, if◌then◌else◌}
+use Rattle.std.specs.Prelude.{Bool, true, false, ◌&&◌, List, [], ◌∷◌, if◌then◌else◌}
 use Rattle.cs_value.specs.Tree.{null, Pairs}
 use Rattle.cs_syntax.specs.Expression.{Expression, null_literal, everything, round, call, array, object_literal, chain, prefix, run, within, between, Operands, no_operands, more_operands, Step, attr, deref, each, slice, bracket, project, pipe, Steps, no_steps, more_steps, Entry, keyed, bare, when, spread, Entries, no_entries, more_entries, Element, element, spread_element, Elements, no_elements, more_elements, Argument, argument, when_argument, Arguments, no_arguments, more_arguments, order_key, OrderKeys, no_keys, more_keys}
 use Rattle.cs_view.specs.declared.key.Key.{Key}
 use Rattle.cs_plan.specs.Steps.{Bracketed, position, named, condition, bracketed, is_order_name}
-use Rattle.cs_plan.specs.Filters.{key_in}
+use Rattle.cs_plan.specs.Filters.{filter_keys, key_in}
 
 abbrev mutual
   -- An expression is quiet: neither `*` as a value nor `->` stands anywhere in it, so no document
@@ -129,3 +129,7 @@ steps_behind _ = no_steps
 -- The key of a simple query: that of its filter in the scope of null alone.
 abbrev pub query_key : Expression → Pairs → Key
 query_key e params = key_in (filter_of (steps_behind e)) (null ∷ []) params
+
+-- The keys that the filter of a simple query gives, in the same scope.
+abbrev pub query_keys : Expression → Pairs → List Key
+query_keys e params = filter_keys (filter_of (steps_behind e)) (null ∷ []) params

@@ -33,7 +33,7 @@ fn picked<'f>(so_far: LentKey<'f>, key: Option<LentKey<'f>>) -> LentKey<'f>
 }
 
 #[tactic(auto, unfolding(cs_syntax::specs::View::operands))]
-fn all_and(rest: &[(BinSign, Expr)]) -> bool
+pub(crate) fn all_and(rest: &[(BinSign, Expr)]) -> bool
     ensures { result ≡ all_and (operands_of (operands rest.now)) }
 {
     let mut left = rest;

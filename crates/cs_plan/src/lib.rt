@@ -5,6 +5,7 @@ mod choice;
 mod conjuncts;
 mod constants;
 pub mod examples;
+mod given;
 mod lent;
 mod numbers;
 mod paths;
@@ -15,7 +16,9 @@ mod tails;
 
 pub use choice::choose;
 pub use cs_syntax::whole_number;
+pub use given::filter_keys;
 pub use numbers::literal;
+pub use quiet::is_quiet;
 pub use scopes::up;
 pub use steps::text_of;
 pub use tails::simple;

@@ -6,9 +6,11 @@ ghost use Rattle.cs_plan.specs.Simple.{is_quiet, quiet_operands, quiet_argument,
 
 use cs_syntax::{Arg, BinSign, Elem, Entry, Expr, OrderKey, Step};
 
+/// Whether neither `*` as a value nor `->` stands anywhere in the expression, so that evaluating it
+/// looks nothing up. It takes no memory.
 #[cycle(quiet)]
 #[tactic(auto, using(crate::proofs::Sets::parts), unfolding(cs_syntax::specs::View::expression))]
-fn is_quiet(expr: &Expr) -> bool
+pub fn is_quiet(expr: &Expr) -> bool
     ensures { result ≡ is_quiet (expression expr.now) }
 {
     match expr {
