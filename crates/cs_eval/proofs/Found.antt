@@ -4,12 +4,12 @@ use Rattle.std.specs.Prelude.{filter, IsSome}
 use Rattle.std.proofs.lemmas.List.{take_all}
 use Rattle.std.proofs.lemmas.List.Elements.{filter_more}
 use Rattle.cs_value.specs.Tree.{Tree}
-use Rattle.cs_view.specs.Keys.{Sel}
+use Rattle.cs_view.specs.Keys.{selected}
 use Rattle.cs_view.specs.declared.key.Key.{Key}
 
--- the places of the documents that have a key
-pub of_key : (at : ℕ → Option Tree) (places items : List ℕ) (k key : Key) (docs : List Tree) → places ≡ items → map at items ≡ map Some (Sel k docs) → k ≡ key → map at places ≡ map Some (Sel key docs)
-of_key at places items k key docs same found is = ap (map at) same ∙ found ∙ ap (λ (x : Key). map Some (Sel x docs)) is
+-- the places of the documents that have each of some keys
+pub of_keys : (at : ℕ → Option Tree) (places items : List ℕ) (ks keys : List Key) (docs : List Tree) → places ≡ items → map at items ≡ map Some (selected ks docs) → ks ≡ keys → map at places ≡ map Some (selected keys docs)
+of_keys at places items ks keys docs same found is = ap (map at) same ∙ found ∙ ap (λ (xs : List Key). map Some (selected xs docs)) is
 
 -- at each place stands the document of the same index
 stands : (at : ℕ → Option Tree) (places : List ℕ) (docs : List Tree) (i : ℕ) (d : Tree) → map at places ≡ map Some docs → i < length places → at (get_or places i 0) ≡ Some (get_or docs i d)

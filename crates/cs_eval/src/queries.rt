@@ -8,7 +8,7 @@ ghost use Rattle.cs_syntax.specs.Queries.{query as expression_of};
 ghost use Rattle.cs_syntax.specs.View.{expression, step as step_of};
 ghost use Rattle.cs_view.specs.Scopes.{scope};
 ghost use Rattle.cs_view.specs.View.{doc as document};
-ghost use Rattle.cs_plan.specs.Simple.{is_simple, query_key};
+ghost use Rattle.cs_plan.specs.Simple.{is_simple, query_key, query_keys};
 ghost use Rattle.cs_meaning.specs.Hits.{is_hit, hits, tail, cost};
 ghost use Rattle.cs_meaning.specs.Looked.{query_looked};
 ghost use Rattle.cs_meaning.specs.Operators.{is_true};
@@ -17,9 +17,8 @@ ghost use Rattle.cs_meaning.specs.Values.{value as value_of, pipes_value, query_
 ghost use Rattle.cs_expr.specs.Starts.{enter_value};
 
 use cs_expr::{enter, eval as evaluate, holds, keep_lent, pipes};
-use cs_meaning::hits_have_key;
 use cs_parts::{Got, NoDocs, Source, head_filter, kinds, push};
-use cs_plan::{choose, simple};
+use cs_plan::{choose, filter_keys, simple};
 use cs_syntax::{Expr, Query, Step};
 use cs_value::{Fields, NoMemory, Steps, Val};
 use cs_view::{Doc, Key, Record, Scope, View};
@@ -105,9 +104,8 @@ pub fn hits<V: View<L>, L: Ledger>(
     ensures visits { steps.new
         ≤ steps.old + cost (expression_of query.now) (fields params.now) (V.docs view.now) }
 {
-    hits_have_key();
-    let key = key_of(alloc, query, params)?;
-    let places = View::select(view, alloc, &key)?;
+    let keys = keys_of(alloc, query, params)?;
+    let places = View::select_all(view, alloc, &keys)?;
     let mut found = Vec::new(alloc);
     for place in &places {
         push_hit(alloc, query, params, view.at(*place, steps), &mut found)?;
@@ -150,6 +148,22 @@ pub fn key_of(alloc: Global, query: &Query, params: &Fields) -> Result<Key, NoMe
     choose(alloc, condition, &root, params)
 }
 
+// The keys that the filter of a simple query gives.
+fn keys_of(alloc: Global, query: &Query, params: &Fields) -> Result<Vec<Key>, NoMemory>
+    requires { is_simple (expression_of query.now) ≡ true }
+    ensures { IfOk result
+        (λ ks. ks.items ≡ query_keys (expression_of query.now) (fields params.now)) }
+{
+    let root = Scope {
+        this: query.null(),
+        parent: None,
+    };
+    let Some((condition, _later)) = parts(query.expr()) else {
+        unreachable!()
+    };
+    filter_keys(alloc, condition, &root, params)
+}
+
 /// What the steps behind the filter of a simple query make of the documents that make it true. It
 /// visits nothing, and no counter is handed over.
 pub fn tail<'s>(
@@ -185,7 +199,7 @@ fn vals_of<'d>(alloc: Global, docs: &'d [Doc]) -> Result<Vec<&'d Val>, NoMemory>
 }
 
 // The filter of a simple query and the steps behind it.
-#[tactic(auto, using(cs_syntax::proofs::Views::expression_chain), unfolding(cs_syntax::specs::View::expression))]
+#[tactic(auto, using(crate::proofs::Simples::form), unfolding(cs_syntax::specs::View::expression))]
 fn parts(expr: &Expr) -> Option<(&Expr, &[Step])>
     ensures some { IfSome result (λ x. expression expr.now ≡ chain everything
         (more_steps (bracket_step (expression x.0.now)) (steps_of (map step_of x.1.now)))) }
@@ -270,7 +284,8 @@ fn tail_of_hits<'s>(
     tail_from(alloc, steps, frame, params, Got::Parts(kept))
 }
 
-// A simple query: its key is looked up, and nothing else.
+// A simple query: its key is looked up, and nothing else. Its documents are found by all of its
+// keys.
 fn simple_value<'s, V: View<L>, L: Ledger>(
     alloc: Global,
     query: &'s Query,
@@ -292,8 +307,8 @@ fn simple_value<'s, V: View<L>, L: Ledger>(
     let Some((condition, later)) = parts(query.expr()) else {
         unreachable!()
     };
-    let key = choose(alloc, condition, frame, params)?;
-    let found = Source::<Steps<L>>::select(view, alloc, &key, count)?;
-    keys.add(key)?;
+    let all = filter_keys(alloc, condition, frame, params)?;
+    let found = Source::<Steps<L>>::select_all(view, alloc, &all, count)?;
+    keys.add(choose(alloc, condition, frame, params)?)?;
     tail_of_hits(alloc, condition, later, frame, params, found)
 }

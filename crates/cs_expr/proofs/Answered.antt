@@ -1,10 +1,10 @@
 -- The longer answers of the evaluator, over plain variables.
-use Rattle.std.proofs.Common.{◌≡◌, ℕ, List, [], ◌∷◌, ◌++◌, map, refl, sym, ap, ◌∙◌, append_assoc, true, false, true≢false, drop, cond, Vec, Box, Global}
+use Rattle.std.proofs.Common.{◌≡◌, ℕ, List, [], ◌∷◌, ◌++◌, map, refl, sym, ap, ◌∙◌, append_assoc, Bool, true, false, true≢false, drop, cond, Vec, Box, Global}
 use Rattle.std.specs.Prelude.{filter, flat_map, OnOk, Result, Ok, Err}
 use Rattle.cs_value.specs.Words.{list_of}
 use Rattle.cs_value.specs.Tree.{Tree, Pairs}
 use Rattle.cs_value.proofs.Views.{members-trees}
-use Rattle.cs_view.specs.Keys.{Sel, has}
+use Rattle.cs_view.specs.Keys.{Sel, has, has_all, selected}
 use Rattle.cs_view.specs.declared.key.Key.{Key}
 use Rattle.cs_syntax.specs.Expression.{Expression, Operands, everything, run, bracket, pipe, Step, Steps, more_steps, steps_of, operands_of, keys_of}
 use Rattle.cs_syntax.specs.View.{expression, operands, step, key}
@@ -14,8 +14,8 @@ use Rattle.cs_syntax.specs.declared.tree.Expr as code
 use Rattle.cs_syntax.specs.declared.tree.OrderKey.{OrderKey}
 use Rattle.cs_syntax.specs.declared.tree.Step.{Step as CodeStep}
 use Rattle.cs_syntax.specs.declared.tree.Step as step_code
-use Rattle.cs_plan.specs.Filters.{key_in}
-use Rattle.cs_plan.specs.Simple.{is_condition}
+use Rattle.cs_plan.specs.Filters.{filter_keys, key_in}
+use Rattle.cs_plan.specs.Simple.{is_condition, is_quiet}
 use Rattle.cs_plan.specs.Steps.{Bracketed, bracketed, condition}
 use Rattle.cs_meaning.specs.declared.join.Way.{Way}
 use Rattle.cs_meaning.specs.declared.join.Kind.{Kind}
@@ -24,12 +24,14 @@ use Rattle.cs_meaning.specs.Joining.{form, kind, way, entrance}
 use Rattle.cs_meaning.specs.Operators.{is_true}
 use Rattle.cs_meaning.specs.Values.{value, filtered, in_bracket, step_value}
 use Rattle.cs_meaning.specs.Looked.{looked, run_looked, rest_looked, step_looked, entered_looked, onward_looked, filter_looked, is_everything}
+use Rattle.cs_meaning.proofs.Silent.{flat-none, silent}
 use Rattle.cs_meaning.proofs.Sound.{filter-within, filter-value}
-use Rattle.cs_meaning.proofs.TrueKey.{true-has_key}
+use Rattle.cs_meaning.proofs.TrueKey.{true-has_all, true-has_key}
 use Rattle.cs_parts.specs.Kinds.{kinds_of, first_kind}
 use Rattle.cs_parts.specs.Turns.{turn, is_end}
 use Rattle.cs_expr.specs.Starts.{once, once_looked, start_value, start_looked, enter_value, enter_looked}
 use Rattle.cs_expr.proofs.Joins.{onward_looks, first_of_kinds}
+use Rattle.cs_expr.specs.Tried.{tried}
 use Rattle.cs_syntax.proofs.Views.{expression_run, step_pipe}
 
 -- a run of operators, by the parts that code has at hand
@@ -48,25 +50,42 @@ run_keys docs params scope e b rest v is same = ap (λ (x : Tree). looked docs p
 pub one_after_another : (k0 k1 k2 a b : List Key) → k1 ≡ k0 ++ a → k2 ≡ a ++ b → k1 ++ b ≡ k0 ++ k2
 one_after_another k0 k1 k2 a b is both = ap (λ (ks : List Key). ks ++ b) is ∙ (append_assoc k0 a b ∙ ap (λ (ks : List Key). k0 ++ ks) (sym both))
 
--- the documents that have the key are enough
-pub kept_docs : (docs : List Tree) (params : Pairs) (e : Expression) (scope : List Tree) (k : Key) (found items kept : List Tree)
-    → k ≡ key_in e scope params → found ≡ Sel k docs → items ≡ found → kept ≡ filter (λ x. is_true (value docs params e (x ∷ scope))) items
+-- the documents at which a filter is tried are enough: for what it keeps, and for what it looks up
+filter_tried : (docs : List Tree) (params : Pairs) (e : Expression) (scope : List Tree) → filter (λ x. is_true (value docs params e (x ∷ scope))) (tried docs params e scope) ≡ filter (λ x. is_true (value docs params e (x ∷ scope))) docs
+filter_tried docs params e scope = by_test (is_quiet e) where
+  p : Tree → Bool
+  p x = is_true (value docs params e (x ∷ scope))
+
+  by_test : (b : Bool) → filter p (cond b (selected (filter_keys e scope params) docs) (Sel (key_in e scope params) docs)) ≡ filter p docs
+  by_test true = sym (filter-within p (has_all (filter_keys e scope params)) (λ x h. true-has_all docs params e scope x h) docs)
+  by_test false = sym (filter-within p (has (key_in e scope params)) (λ x h. true-has_key docs params e scope x h) docs)
+
+looked_tried : (docs : List Tree) (params : Pairs) (e : Expression) (scope : List Tree) → flat_map (λ x. looked docs params e (x ∷ scope)) (tried docs params e scope) ≡ flat_map (λ x. looked docs params e (x ∷ scope)) (Sel (key_in e scope params) docs)
+looked_tried docs params e scope = by_test (is_quiet e) refl where
+  f : Tree → List Key
+  f x = looked docs params e (x ∷ scope)
+
+  by_test : (b : Bool) → is_quiet e ≡ b → flat_map f (cond b (selected (filter_keys e scope params) docs) (Sel (key_in e scope params) docs)) ≡ flat_map f (Sel (key_in e scope params) docs)
+  by_test true q = flat-none f (λ x. silent docs params e q (x ∷ scope)) (selected (filter_keys e scope params) docs) ∙ sym (flat-none f (λ x. silent docs params e q (x ∷ scope)) (Sel (key_in e scope params) docs))
+  by_test false q = refl
+
+pub kept_docs : (docs : List Tree) (params : Pairs) (e : Expression) (scope : List Tree) (found items kept : List Tree)
+    → found ≡ tried docs params e scope → items ≡ found → kept ≡ filter (λ x. is_true (value docs params e (x ∷ scope))) items
     → list_of kept ≡ filtered (λ x. is_true (value docs params e (x ∷ scope))) (list_of docs)
-kept_docs docs params e scope k found items kept is-k is-found is-items is-kept =
+kept_docs docs params e scope found items kept is-found is-items is-kept =
     let p = λ (x : Tree). is_true (value docs params e (x ∷ scope)) in
-    let among : items ≡ Sel (key_in e scope params) docs = is-items ∙ (is-found ∙ ap (λ (x : Key). Sel x docs) is-k) in
-    ap list_of (is-kept ∙ (ap (filter p) among ∙ (sym (filter-within p (has (key_in e scope params)) (λ x h. true-has_key docs params e scope x h) docs) ∙ ap (filter p) (sym (members-trees docs)))))
+    ap list_of (is-kept ∙ (ap (filter p) (is-items ∙ is-found) ∙ (filter_tried docs params e scope ∙ ap (filter p) (sym (members-trees docs)))))
 
 pub kept_keys : (docs : List Tree) (params : Pairs) (e : Expression) (scope : List Tree) (k : Key) (found items : List Tree) (k0 k1 k2 ys zs : List Key)
-    → k ≡ key_in e scope params → found ≡ Sel k docs → items ≡ found → k1 ≡ k0 ++ k ∷ [] → k2 ≡ k1 ++ flat_map (λ x. looked docs params e (x ∷ scope)) items → ys ≡ zs
+    → k ≡ key_in e scope params → found ≡ tried docs params e scope → items ≡ found → k1 ≡ k0 ++ k ∷ [] → k2 ≡ k1 ++ flat_map (λ x. looked docs params e (x ∷ scope)) items → ys ≡ zs
     → k2 ++ ys ≡ k0 ++ (key_in e scope params ∷ (flat_map (λ x. looked docs params e (x ∷ scope)) (Sel (key_in e scope params) docs) ++ zs))
 kept_keys docs params e scope k found items k0 k1 k2 ys zs is-k is-found is-items is-1 is-2 is-ys =
     let f = λ (x : Tree). looked docs params e (x ∷ scope) in
-    let among : items ≡ Sel (key_in e scope params) docs = is-items ∙ (is-found ∙ ap (λ (x : Key). Sel x docs) is-k) in
+    let same : flat_map f items ≡ flat_map f (Sel (key_in e scope params) docs) = ap (flat_map f) (is-items ∙ is-found) ∙ looked_tried docs params e scope in
     ap (λ (ks : List Key). ks ++ ys) (is-2 ∙ (ap (λ (ks : List Key). ks ++ flat_map f items) is-1 ∙ append_assoc k0 (k ∷ []) (flat_map f items)))
     ∙ (append_assoc k0 (k ∷ flat_map f items) ys
     ∙ (ap (λ (x : Key). k0 ++ (x ∷ (flat_map f items ++ ys))) is-k
-    ∙ (ap (λ (xs : List Tree). k0 ++ (key_in e scope params ∷ (flat_map f xs ++ ys))) among
+    ∙ (ap (λ (xs : List Key). k0 ++ (key_in e scope params ∷ (xs ++ ys))) same
     ∙ ap (λ (ks : List Key). k0 ++ (key_in e scope params ∷ (flat_map f (Sel (key_in e scope params) docs) ++ ks))) is-ys)))
 
 -- `*` with a filter in front of a rest

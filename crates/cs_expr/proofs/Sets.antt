@@ -7,6 +7,8 @@ use Rattle.cs_expr.proofs.Sorting.{order_left, order_taken}
 
 pub ruleset nodes = (expression_call, expression_array, expression_object, expression_chain, expression_run, expression_prefix, tree_of_null)
 
+pub ruleset null = (tree_of_null)
+
 pub ruleset element = (elem_one, elem_spread)
 
 pub ruleset step = (step_project, step_pipe, step_slice)

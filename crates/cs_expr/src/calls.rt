@@ -165,7 +165,7 @@ pub(crate) fn arguments<'s, S: Source<C>, C>(
 
 // The value of an argument, null of one under a condition.
 #[cycle(eval)]
-#[tactic(auto, using(cs_parts::proofs::Trees::tree_of_null), unfolding(cs_syntax::specs::View::arg, cs_syntax::specs::View::expression))]
+#[tactic(auto, using(crate::proofs::Sets::null), unfolding(cs_syntax::proofs::Open::of_argument))]
 fn argument<'s, S: Source<C>, C>(
     alloc: Global,
     arg: &'s Arg,

@@ -15,6 +15,7 @@ ghost use Rattle.cs_parts.specs.Kinds.{kinds_of};
 ghost use Rattle.cs_expr.specs.Fits.{ReachedFits, reached_weight};
 ghost use Rattle.cs_expr.specs.Stops.{stop, stop_value, stop_looked, stopped};
 ghost use Rattle.cs_expr.specs.Weight.{steps_weight};
+ghost use Rattle.cs_expr.specs.Tried.{tried};
 ghost use Rattle.cs_expr.specs.Starts.{start_value, start_looked, enter_value, enter_looked, once, once_looked, piped_value, piped_looked};
 
 use crate::expressions::eval;
@@ -25,7 +26,7 @@ use cs_parts::{
     Entrance, Got, Item, Kind, Source, Way, behind, elements, ends, entrance_of, first_kind,
     form_of, gather, gives_array, head_filter, is_all, is_over, kinds, turn, way_of,
 };
-use cs_plan::choose;
+use cs_plan::{choose, filter_keys, is_quiet};
 use cs_syntax::{Expr, Step};
 use cs_value::{Fields, NoMemory, Val};
 use cs_view::{Record, Scope};
@@ -151,7 +152,8 @@ fn filtered_all<'s, S: Source<C>, C>(
     )
 }
 
-// The documents that have the key of a filter.
+// The documents at which a filter is tried. The filter's key is noted, by whichever of its keys they
+// are found.
 fn look_up<'s, S: Source<C>, C>(
     alloc: Global,
     condition: &Expr,
@@ -161,13 +163,18 @@ fn look_up<'s, S: Source<C>, C>(
     keys: &mut Record,
     count: &mut C,
 ) -> Result<Vec<&'s Val>, NoMemory>
-    ensures found { IfOk result (λ v. map (λ r. tree r.now) v.items ≡ Sel (key_in (expression
-        condition.now) (scope frame.now) (fields params.now)) (S.docs source.now)) }
+    ensures found { IfOk result (λ v. map (λ r. tree r.now) v.items ≡ tried (S.docs source.now)
+        (fields params.now) (expression condition.now) (scope frame.now)) }
     ensures keys { OnOk result (keys.new ≡ keys.old ++ key_in (expression condition.now) (scope
         frame.now) (fields params.now) ∷ []) }
 {
     let key = choose(alloc, condition, frame, params)?;
-    let found = source.select(alloc, &key, count)?;
+    let found = if is_quiet(condition) {
+        let all = filter_keys(alloc, condition, frame, params)?;
+        source.select_all(alloc, &all, count)?
+    } else {
+        source.select(alloc, &key, count)?
+    };
     keys.add(key)?;
     Ok(found)
 }

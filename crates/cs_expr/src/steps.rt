@@ -29,7 +29,7 @@ use std::alloc::Global;
 
 // One step.
 #[cycle(eval)]
-#[tactic(auto, using(crate::proofs::Sets::step), unfolding(cs_syntax::specs::View::step, cs_syntax::specs::View::expression))]
+#[tactic(auto, using(crate::proofs::Sets::step), unfolding(cs_syntax::proofs::Open::of_step))]
 pub(crate) fn one_step<'s, S: Source<C>, C>(
     alloc: Global,
     step: &'s Step,

@@ -3,12 +3,13 @@ ghost use Rattle.std.specs.Prelude.{◌≡◌, [], List, IfOk, map, option_map, 
 ghost use Rattle.cs_value.specs.Tree.{Tree};
 ghost use Rattle.cs_value.specs.View.{tree};
 ghost use Rattle.cs_view.specs.Dataset.{At};
-ghost use Rattle.cs_view.specs.Keys.{Sel};
+ghost use Rattle.cs_view.specs.Keys.{Sel, selected};
 
 use crate::item::push;
 use cs_value::{NoMemory, Steps, Txt, Val};
 use cs_view::{Key, View};
 use std::alloc::Global;
+use std::slice;
 use std::sync::ledger::Ledger;
 
 /// Where documents come from, under a counter of the type `C`: the dataset `docs`.
@@ -22,8 +23,18 @@ pub trait Source<C> {
         key: &Key,
         count: &mut C,
     ) -> Result<Vec<&'s Val>, NoMemory>
-        ensures found { IfOk result (λ v. map (λ r. tree r.now) v.items ≡ Sel key.now (docs
-            self.now)) };
+        ensures found { IfOk result
+            (λ v. map (λ r. tree r.now) v.items ≡ Sel key.now (docs self.now)) };
+
+    /// The documents that have each of the keys, in the order of their ids.
+    fn select_all<'s>(
+        &'s self,
+        alloc: Global,
+        keys: &[Key],
+        count: &mut C,
+    ) -> Result<Vec<&'s Val>, NoMemory>
+        ensures found { IfOk result
+            (λ v. map (λ r. tree r.now) v.items ≡ selected keys.now (docs self.now)) };
 
     /// The document with the id: `None` exactly where there is none.
     fn by_id<'s>(&'s self, id: &Txt, count: &mut C) -> Option<&'s Val>
@@ -46,6 +57,15 @@ impl Source<()> for NoDocs {
         Ok(Vec::new(alloc))
     }
 
+    fn select_all<'s>(
+        &'s self,
+        alloc: Global,
+        _keys: &[Key],
+        _count: &mut (),
+    ) -> Result<Vec<&'s Val>, NoMemory> {
+        Ok(Vec::new(alloc))
+    }
+
     fn by_id<'s>(&'s self, _id: &Txt, _count: &mut ()) -> Option<&'s Val> {
         None
     }
@@ -54,17 +74,32 @@ impl Source<()> for NoDocs {
 impl<V: View<L>, L: Ledger> Source<Steps<L>> for V {
     ghost docs = { λ v. V.docs v };
 
+    #[tactic(auto, using(cs_view::proofs::Looking::selected_one))]
     fn select<'s>(
         &'s self,
         alloc: Global,
         key: &Key,
         count: &mut Steps<L>,
     ) -> Result<Vec<&'s Val>, NoMemory>
-        ensures found { IfOk result (λ v. map (λ r. tree r.now) v.items ≡ Sel key.now (V.docs
-            self.now)) }
+        ensures found { IfOk result
+            (λ v. map (λ r. tree r.now) v.items ≡ Sel key.now (V.docs self.now)) }
         ensures visits { count.new ≤ count.old + length (Sel key.now (V.docs self.now)) }
     {
-        let places = View::select(self, alloc, key)?;
+        let found = Source::<Steps<L>>::select_all(self, alloc, slice::from_ref(key), count)?;
+        Ok(found)
+    }
+
+    fn select_all<'s>(
+        &'s self,
+        alloc: Global,
+        keys: &[Key],
+        count: &mut Steps<L>,
+    ) -> Result<Vec<&'s Val>, NoMemory>
+        ensures found { IfOk result
+            (λ v. map (λ r. tree r.now) v.items ≡ selected keys.now (V.docs self.now)) }
+        ensures visits { count.new ≤ count.old + length (selected keys.now (V.docs self.now)) }
+    {
+        let places = View::select_all(self, alloc, keys)?;
         let mut found = Vec::new(alloc);
         for place in &places {
             push(&mut found, self.at(*place, count).val())?;

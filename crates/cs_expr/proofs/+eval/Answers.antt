@@ -73,8 +73,7 @@ chains::filtered_all-returns-clause-value g t c =
     let kept = map (λ r. tree r.now) c.in_ok-kept.kept.items in
     subst (λ (y : Tree). IfOk c.enter.result (λ g'. got g' ≡ y))
     (ap (enter_value docs ps (steps_of (map step c.args.steps.now)) sc)
-    (kept_docs docs ps (expression c.args.condition.now) sc
-    (key_in (expression c.args.condition.now) sc ps) found found kept refl
+    (kept_docs docs ps (expression c.args.condition.now) sc found found kept
     c.in_ok-found.ensures.found refl c.in_ok-kept.ensures.value))
     c.enter.ensures.value
 
@@ -93,8 +92,8 @@ chains::filtered_all-returns-clause-keys g t c =
     refl c.in_ok-found.ensures.found refl c.in_ok-found.ensures.keys
     c.in_ok-kept.ensures.keys
     (ap (enter_looked docs ps ss sc)
-    (kept_docs docs ps e sc (key_in e sc ps) found found kept
-    refl c.in_ok-found.ensures.found refl c.in_ok-kept.ensures.value)))
+    (kept_docs docs ps e sc found found kept
+    c.in_ok-found.ensures.found refl c.in_ok-kept.ensures.value)))
     c.enter.ensures.keys
 
 pub steps::one_step-returns-in-Pipe-clause-value : goal.steps::one_step-returns-in-Pipe-clause-value
