@@ -1,13 +1,17 @@
 -- Pairs of a set: which one is put or taken out, and which stand under a code.
-use Rattle.std.proofs.Common.{◌≡◌, ◌∙◌, ℕ, List, [], ◌∷◌, Bool, true, false, cond, ◌&&◌, ◌||◌, refl, sym, ap, Ordering, Less, Equal, Greater, is_eq, nat_cmp, nat_eq, arith, filter, true≢false}
+use Rattle.std.proofs.Common.{◌≡◌, ◌∙◌, ℕ, List, [], ◌∷◌, length, Bool, true, false, cond, ◌&&◌, ◌||◌, refl, sym, ap, Ordering, Less, Equal, Greater, is_eq, nat_cmp, nat_eq, arith, filter, true≢false}
 use Rattle.std.proofs.lemmas.Grind.{common_steps}
 use Rattle.std.specs.Ordering.{ordering_then}
 use Rattle.std.specs.BTreeSet.{BTreeSet, keys_between}
 use Rattle.std.specs.BTreeMap.{is_at}
 use Rattle.std.specs.BTreeMap.Range.{range_contains}
 use Rattle.std.specs.List.{list_any}
+use Rattle.std.specs.List.Sorted.{IsStrictlySortedBy}
 use Rattle.std.specs.declared.ops.Bound.TheVariants.{Included}
-use Rattle.cs_interest.specs.Interest.{pair, pair_cmp, has_pair, is_one, IsNumber}
+use Rattle.cs_view.specs.Changes.{Edit}
+use Rattle.cs_codes.specs.Codes.{Seed, id_code}
+use Rattle.cs_interest.specs.Interest.{pair, pair_cmp, has_pair, has_some, side_codes, concerned, is_one, IsNumber, AreAsked}
+use Rattle.cs_interest.specs.declared.interest.Interest.{Interest}
 use Rattle.cs_interest.specs.declared.pair.Pair.{Pair}
 
 pub one_number : (a b : ℕ) → is_eq (nat_cmp a b) ≡ nat_eq b a
@@ -85,3 +89,36 @@ in_turn false true true m x y z e f g = g
 in_turn false true false m x y z e f g = g ∙ f
 in_turn false false true m x y z e f g = g
 in_turn false false false m x y z e f g = g ∙ f ∙ e
+
+-- ---- where no pair stands nothing is asked
+pub no_keys : (ps : List Pair) → length ps ≡ 0 → ps ≡ []
+no_keys [] h = refl
+no_keys (p ∷ ps) h = absurd (omega (arith, h))
+
+module _ (m : BTreeSet Pair) (none : m.keys ≡ []) where
+  none_held : (c n : ℕ) → has_pair m c n ≡ false
+  none_held c n = ap (λ (ps : List Pair). list_any (is_at (pair_cmp (pair c n))) ps) none
+
+  none_some : (cs : List ℕ) (n : ℕ) → has_some m cs n ≡ false
+  none_some [] n = refl
+  none_some (c ∷ cs) n = ap (λ b. b || has_some m cs n) (none_held c n) ∙ none_some cs n
+
+  none_concerned : (seed : Seed) (n : ℕ) (e : Edit) → concerned seed m n e ≡ false
+  none_concerned seed n e =
+      ap (λ b. (b || has_some m (side_codes seed e.1.0) n) || has_some m (side_codes seed e.1.1) n) (none_held (id_code seed e.0) n)
+      ∙ ap (λ b. b || has_some m (side_codes seed e.1.1) n) (none_some (side_codes seed e.1.0) n)
+      ∙ none_some (side_codes seed e.1.1) n
+
+  none_of_changes : (seed : Seed) (n : ℕ) (cs : List Edit) → list_any (concerned seed m n) cs ≡ false
+  none_of_changes seed n [] = refl
+  none_of_changes seed n (e ∷ es) = ap (λ b. b || list_any (concerned seed m n) es) (none_concerned seed n e) ∙ none_of_changes seed n es
+
+none_ascend : IsStrictlySortedBy nat_cmp []
+unfolding IsStrictlySortedBy
+none_ascend = tt
+
+pub none_asked : (i : Interest) → i.pairs.keys ≡ [] → (cs : List Edit) → AreAsked i cs []
+none_asked i none cs = record {
+  ascend = none_ascend;
+  exact = λ n h. sym (ap (λ b. b || list_any (concerned i.seed i.pairs n) cs) (none_held i.pairs none 0 n) ∙ none_of_changes i.pairs none i.seed n cs);
+}

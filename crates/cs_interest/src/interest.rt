@@ -72,6 +72,10 @@ impl Interest {
         ensures { IfOk result
             (λ ns. AreAsked self.now (edits changes.now) ns.items) }
     {
+        // Where no number stands, no code is worked out.
+        if self.pairs.is_empty() {
+            return Ok(Vec::new(alloc));
+        }
         let mut asked = BTreeSet::new(alloc);
         put_under(&self.pairs, 0, &mut asked)?;
         put_changes(alloc, &self.seed, &self.pairs, changes, &mut asked)?;
