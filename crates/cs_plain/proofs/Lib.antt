@@ -1,5 +1,6 @@
 pub mod Agree
 pub mod Items
+pub mod Keying
 pub mod Parts
 pub mod Quiet
 pub mod Shapes

@@ -1,8 +1,8 @@
 //! The laws of plain predicates, for proofs: each function does nothing, and its contract is the
 //! law.
-ghost use Rattle.cs_plain.specs.Laws.{PlainIsQuiet, PlainHoldsAnywhere};
+ghost use Rattle.cs_plain.specs.Laws.{PlainIsQuiet, PlainHoldsAnywhere, TrueHasFilterKey};
 
-use cs_meaning::quiet_asks_nothing;
+use cs_meaning::{quiet_asks_nothing, true_has_key};
 
 /// A filter that a listener may have has neither `*` nor `->`, and is the same over all documents.
 pub fn plain_is_quiet()
@@ -17,4 +17,11 @@ pub fn plain_holds_anywhere()
     ensures { PlainHoldsAnywhere }
 {
     plain_is_quiet();
+}
+
+/// A document of which a filter is true has the filter's key.
+pub fn true_has_filter_key()
+    ensures { TrueHasFilterKey }
+{
+    true_has_key();
 }

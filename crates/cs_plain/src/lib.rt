@@ -1,7 +1,8 @@
-//! Plain predicates, the filters that a listener may have: which they are, and whether one is true
-//! of a document, without memory.
+//! Plain predicates, the filters that a listener may have: which they are, whether one is true of a
+//! document, without memory, and which key each such document has.
 #![tactic(auto)]
 
+mod chosen;
 mod conditions;
 mod forms;
 mod holds;
@@ -11,6 +12,7 @@ mod operand;
 mod predicate;
 mod values;
 
+pub use chosen::key;
 pub use holds::test;
-pub use laws::{plain_holds_anywhere, plain_is_quiet};
+pub use laws::{plain_holds_anywhere, plain_is_quiet, true_has_filter_key};
 pub use predicate::Plain;

@@ -1,11 +1,14 @@
 //! Plain predicates: queries whose filter a listener may have.
 ghost use Rattle.std.specs.Prelude.{◌≡◌, true, is_some, Some, None, IfOk, IfErr, OnErr};
+ghost use Rattle.cs_value.specs.Tree.{null as null_tree};
+ghost use Rattle.cs_value.specs.View.{tree};
 ghost use Rattle.cs_syntax.specs.Queries.{query as expression_of};
 ghost use Rattle.cs_syntax.specs.View.{expression};
 ghost use Rattle.cs_plain.specs.Plain.{listened_filter};
 
 use crate::listened::is_listened;
 use cs_syntax::{Expr, Query};
+use cs_value::Val;
 
 /// A plain predicate: the filter that a listener's query stands for, which is tested without
 /// memory. Contracts speak of it by this filter.
@@ -40,5 +43,11 @@ impl Plain {
         ensures plain { is_some (listened_filter (asked self.now)) ≡ true }
     {
         self.query.expr()
+    }
+    /// What `@` is in the scope of the whole query: null.
+    pub(crate) fn null(&self) -> &Val
+        ensures { tree result.now ≡ null_tree }
+    {
+        self.query.null()
     }
 }
