@@ -1,2 +1,4 @@
+pub mod Concerned
 mod Examples
+pub mod Keeping
 pub mod Without

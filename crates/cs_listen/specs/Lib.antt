@@ -1,2 +1,4 @@
+pub mod Coded
 pub mod Events
 pub mod Listeners
+pub mod Told

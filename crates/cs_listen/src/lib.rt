@@ -1,8 +1,10 @@
 //! Listeners: which ones stand, and what they hear of changes.
 #![tactic(auto)]
 
+mod hearing;
 mod listeners;
 mod listening;
+mod sought;
 mod transition;
 
 pub use cs_reply::{Event, Transition};

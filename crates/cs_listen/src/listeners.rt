@@ -1,20 +1,24 @@
 //! The listeners of a store.
-ghost use Rattle.std.specs.Prelude.{◌≡◌, ◌<◌, [], Some, true, false, IfOk, IfErr, OnOk, OnErr, IsOk, length, map};
+ghost use Rattle.std.specs.Prelude.{◌≡◌, [], Some, true, false, IfOk, IfErr, OnOk, OnErr, map};
 ghost use Rattle.cs_value.specs.View.{fields};
 ghost use Rattle.cs_view.specs.View.{edits};
 ghost use Rattle.cs_syntax.specs.Queries.{query as expression_of};
 ghost use Rattle.cs_plain.specs.Predicates.{filter};
+ghost use Rattle.cs_listen.specs.Coded.{are_coded};
 ghost use Rattle.cs_listen.specs.Events.{events};
-ghost use Rattle.cs_listen.specs.Listeners.{HasRoom, NotAdded, NotTaken, is_listening, listeners, most_listeners, with_one, with_query, without};
 ghost use Rattle.cs_reply.specs.View.{event};
 
+use crate::hearing::hear_all;
 use crate::listening::Listening;
-use cs_plain::Plain;
+use crate::sought::{filter_code, sought_codes};
+use cs_codes::laws::keys_are_listed;
+use cs_plain::{Plain, true_has_filter_key};
 use cs_reply::Event;
 use cs_syntax::Query;
 use cs_value::{Fields, NoMemory, NoName, Txt};
 use cs_view::Change;
 use std::alloc::Global;
+use std::hash::RandomState;
 
 /// How many listeners may stand.
 pub const MOST_LISTENERS: u32 = 1024;
@@ -34,17 +38,29 @@ pub enum ListenFault {
 
 /// The listeners of a store, in the order made. A name is looked for among all of them, which are
 /// few: that happens where one is made or stopped, and not at a change.
+///
+/// Each is held with the code of its filter's key. A change goes to those whose code is one that
+/// its document has, before it or after it, and to those whose filter has the key of every
+/// document.
 #[derive(Drop)]
 pub struct Listeners {
+    alloc: Global,
+    seed: RandomState,
     made: Vec<Listening>,
+    pub ghost coded: { are_coded seed made.items ≡ true },
 }
 
 impl Listeners {
-    /// No listener.
-    pub fn new(alloc: Global) -> Listeners
+    ghost use Rattle.cs_listen.specs.Listeners.{HasRoom, NotAdded, NotTaken, is_listening, listeners, with_one, with_query, without};
+
+    /// No listener. Which keys share a code depends on the seed, so that no one who chooses
+    /// documents can choose it. It takes no memory.
+    pub fn new(alloc: Global, seed: RandomState) -> Listeners
         ensures { listeners result ≡ [] }
     {
         Listeners {
+            alloc,
+            seed,
             made: Vec::new(alloc),
         }
     }
@@ -108,10 +124,14 @@ impl Listeners {
         if self.made.len() >= MOST_LISTENERS as usize {
             return Err(ListenFault::Full);
         }
+        let Ok(code) = filter_code(self.alloc, &self.seed, &predicate, &params) else {
+            return Err(ListenFault::NoMemory);
+        };
         let listening = Listening {
             name,
             predicate,
             params,
+            code,
             include_result,
             include_previous,
         };
@@ -148,10 +168,13 @@ impl Listeners {
         ensures { IfOk result (λ heard. map event heard.items
             ≡ events tx.now moment.now (edits changes.now) (listeners self.now)) }
     {
-        let mut heard = Vec::new(alloc);
-        for listening in &self.made {
-            listening.hear(tx, moment, changes, &mut heard)?;
+        true_has_filter_key();
+        keys_are_listed();
+        // Where no listener stands, no code is worked out.
+        if self.made.is_empty() {
+            return Ok(Vec::new(alloc));
         }
-        Ok(heard)
+        let sought = sought_codes(alloc, &self.seed, changes)?;
+        hear_all(alloc, &self.made, &sought, tx, moment, changes)
     }
 }

@@ -1,0 +1,120 @@
+-- Where the code of a listener's filter is not among the codes of changes, it hears nothing of them.
+use Rattle.std.proofs.Common.{◌≡◌, ◌∙◌, ℕ, ◌<◌, ◌≤◌, List, [], ◌∷◌, ◌++◌, length, map, Option, Some, None, Bool, true, false, cond, ◌&&◌, ◌||◌, refl, sym, ap, true≢false, nat_eq, nat_lt, eqb-true, eq-eqb, arith}
+use Rattle.std.proofs.lemmas.Grind.{common_steps}
+use Rattle.std.proofs.lemmas.List.Folds.{list_any-append}
+use Rattle.std.specs.Prelude.{filter_map, option_map}
+use Rattle.std.specs.List.{cons_option}
+use Rattle.cs_value.specs.Tree.{Tree, Pairs}
+use Rattle.cs_value.specs.View.{fields}
+use Rattle.cs_syntax.specs.Expression.{Expression}
+use Rattle.cs_view.specs.Changes.{Edit}
+use Rattle.cs_view.specs.Document.{id_of}
+use Rattle.cs_view.specs.Keys.{has}
+use Rattle.cs_view.specs.Limits.{most_names}
+use Rattle.cs_view.specs.declared.key.Key.{Key}
+use Rattle.cs_view.specs.declared.key.Key.TheVariants.{All, Id, Path, Elem, Ref}
+use Rattle.cs_view.proofs.Booleans.{and-left, and-right}
+use Rattle.cs_view.proofs.Datasets.{same_id-same}
+use Rattle.cs_codes.specs.Codes.{Seed, codes, id_code, is_among, key_code}
+use Rattle.cs_codes.specs.Kept.{IsKept}
+use Rattle.cs_codes.specs.Laws.{KeysAreListed}
+use Rattle.cs_interest.specs.Interest.{are_few, interest_code}
+use Rattle.cs_reply.specs.Reply.{Event}
+use Rattle.cs_plain.specs.Holds.{holds}
+use Rattle.cs_plain.specs.Keyed.{filter_key}
+use Rattle.cs_plain.specs.Laws.{TrueHasFilterKey}
+use Rattle.cs_plain.specs.Predicates.{filter as filter_of}
+use Rattle.cs_listen.specs.Coded.{filter_code, side_codes, change_codes, changes_codes, is_sought, is_coded, are_coded}
+use Rattle.cs_listen.specs.Events.{Listener, sees, turned, transition, event_of, heard, events}
+use Rattle.cs_listen.specs.Listeners.{listener}
+use Rattle.cs_listen.specs.Told.{told, all_told}
+use Rattle.cs_listen.specs.declared.listening.Listening.{Listening}
+
+or-second : (a b : Bool) → b ≡ true → (a || b) ≡ true
+or-second true b h = refl
+or-second false b h = h
+
+or-first : (a b : Bool) → a ≡ true → (a || b) ≡ true
+or-first a b h = ap (λ c. c || b) h
+
+few : (ns : List (List ℕ)) → are_few ns ≡ true → (0 < length ns) × (length ns ≤ most_names)
+few ns h = (grind (arith, common_steps, and-left (nat_lt 0 (length ns)) _ h), grind (arith, common_steps, and-right (nat_lt 0 (length ns)) _ h))
+
+-- ---- the code of a key that a document has is sought among the document's codes
+module _ (listed : KeysAreListed) (seed : Seed) (d : Tree) where
+  abbrev Sought : ℕ → Type 0
+  Sought c = is_sought c (side_codes seed (Some d)) ≡ true
+
+  among_keys : (c : ℕ) → is_among c (codes seed d) ≡ true → Sought c
+  among_keys c h = or-second (nat_eq c 0) _ (or-second (nat_eq c (id_code seed (id_of d))) (is_among c (codes seed d)) h)
+
+  own_id : (t : List ℕ) → t ≡ id_of d → Sought (id_code seed t)
+  own_id t is = or-second (nat_eq (id_code seed t) 0) _ (or-first (nat_eq (id_code seed t) (id_code seed (id_of d))) (is_among (id_code seed t) (codes seed d)) (eq-eqb _ _ (ap (id_code seed) is)))
+
+  by_names : (k : Key) (b : Bool) → (b ≡ true → IsKept k) → has k d ≡ true → Sought (cond b (key_code seed k) 0)
+  by_names k true kept h = among_keys (key_code seed k) (listed seed k d (kept refl) h)
+  by_names k false kept h = refl
+
+  key_sought : (k : Key) → has k d ≡ true → Sought (interest_code seed k)
+  key_sought All h = refl
+  key_sought (Id t) h = own_id t (same_id-same t (id_of d) h)
+  key_sought (Path ns s) h = by_names (Path ns s) (are_few ns) (few ns) h
+  key_sought (Elem ns s) h = by_names (Elem ns s) (are_few ns) (few ns) h
+  key_sought (Ref t) h = among_keys (key_code seed (Ref t)) (listed seed (Ref t) d tt h)
+
+-- ---- what is sought among neither is not sought among both
+neither : (z a b : Bool) → (z || (a || b)) ≡ false → ((z || a) ≡ false) × ((z || b) ≡ false)
+neither true a b h = absurd (true≢false h)
+neither false true b h = absurd (true≢false h)
+neither false false b h = (refl, h)
+
+unsought : (c : ℕ) (xs ys : List ℕ) → is_sought c (xs ++ ys) ≡ false → (is_sought c xs ≡ false) × (is_sought c ys ≡ false)
+unsought c xs ys h = neither (nat_eq c 0) (is_among c xs) (is_among c ys) (ap (λ b. nat_eq c 0 || b) (sym (list_any-append (λ x. nat_eq c x) xs ys)) ∙ h)
+
+module _ (has_key : TrueHasFilterKey) (listed : KeysAreListed) (seed : Seed) (tx moment : List ℕ) (l : Listener) where
+  abbrev code : ℕ
+  code = filter_code seed l.filter l.params
+
+  not_seen : (o : Option Tree) → is_sought code (side_codes seed o) ≡ false → sees l.filter l.params o ≡ false
+  not_seen None h = refl
+  not_seen (Some d) h = by_test (holds l.filter l.params d) refl where
+    by_test : (b : Bool) → holds l.filter l.params d ≡ b → holds l.filter l.params d ≡ false
+    by_test false f = f
+    by_test true f = absurd (true≢false (sym (key_sought listed seed d (filter_key l.filter l.params) (has_key l.filter l.params d f)) ∙ h))
+
+  not_heard : (e : Edit) → is_sought code (change_codes seed e) ≡ false → heard tx moment l e ≡ None
+  not_heard e h =
+      let sides = unsought code (side_codes seed e.1.0) (side_codes seed e.1.1) h in
+      ap (option_map (event_of tx moment l e))
+      (ap (λ b. turned b (sees l.filter l.params e.1.1)) (not_seen e.1.0 sides.0)
+      ∙ ap (turned false) (not_seen e.1.1 sides.1))
+
+  none_heard : (cs : List Edit) → is_sought code (changes_codes seed cs) ≡ false → filter_map (heard tx moment l) cs ≡ []
+  none_heard [] h = refl
+  none_heard (e ∷ es) h =
+      let parts = unsought code (change_codes seed e) (changes_codes seed es) h in
+      by_first (heard tx moment l e) (not_heard e parts.0) (none_heard es parts.1)
+    where
+      by_first : (o : Option Event) → o ≡ None → filter_map (heard tx moment l) es ≡ [] → cons_option o (filter_map (heard tx moment l) es) ≡ []
+      by_first None is h = h
+      by_first (Some x) is h = absurd (cc)
+
+-- ---- listeners that are asked by their codes are told what they hear
+module _ (has_key : TrueHasFilterKey) (listed : KeysAreListed) (seed : Seed) (sought tx moment : List ℕ) (cs : List Edit) (among : (x : ℕ) → is_among x sought ≡ is_among x (changes_codes seed cs)) where
+  one_told : (l : Listening) → is_coded seed l ≡ true → told sought tx moment cs l ≡ filter_map (heard tx moment (listener l)) cs
+  one_told l coded = by_test (is_sought l.code sought) refl where
+    code_is : l.code ≡ filter_code seed (filter_of l.predicate) (fields l.params)
+    code_is = eqb-true l.code (filter_code seed (filter_of l.predicate) (fields l.params)) coded
+
+    by_test : (b : Bool) → is_sought l.code sought ≡ b → cond b (filter_map (heard tx moment (listener l)) cs) [] ≡ filter_map (heard tx moment (listener l)) cs
+    by_test true f = refl
+    by_test false f = sym (none_heard has_key listed seed tx moment (listener l) cs
+        (ap (λ c. is_sought c (changes_codes seed cs)) (sym code_is)
+        ∙ ap (λ b. nat_eq l.code 0 || b) (sym (among l.code)) ∙ f))
+
+  pub told_is_heard : (ls : List Listening) → are_coded seed ls ≡ true
+      → all_told sought tx moment cs ls ≡ events tx moment cs (map listener ls)
+  told_is_heard [] coded = refl
+  told_is_heard (l ∷ ls) coded =
+      ap (λ es. es ++ all_told sought tx moment cs ls) (one_told l (and-left (is_coded seed l) (are_coded seed ls) coded))
+      ∙ ap (λ es. filter_map (heard tx moment (listener l)) cs ++ es) (told_is_heard ls (and-right (is_coded seed l) (are_coded seed ls) coded))
