@@ -1,0 +1,40 @@
+-- The laws of windows, for all expressions, also those that no text spells.
+use Rattle.std.specs.Prelude.{◌≡◌, Bool, true, false, List, [], ◌∷◌, ◌++◌, filter, not, Some}
+use Rattle.std.specs.Ordering.{is_gt}
+use Rattle.cs_value.specs.Tree.{Tree, null, Pairs}
+use Rattle.cs_value.specs.Words.{list_of}
+use Rattle.cs_syntax.specs.Expression.{Expression}
+use Rattle.cs_plan.specs.Simple.{tail_of, steps_behind}
+use Rattle.cs_meaning.specs.Hits.{tail}
+use Rattle.cs_meaning.specs.Joining.{kind, entrance, entered}
+use Rattle.cs_meaning.specs.Ordered.{Ranked, ranks, sorted}
+use Rattle.cs_meaning.specs.Values.{rest_value, pipes_value}
+use Rattle.cs_window.specs.Window.{Window, window, is_near, first_in, IsBound}
+
+-- With an element each one passes that does not rank behind it.
+abbrev pub IsClosed : List Bool → (Ranked → Bool) → Type 0
+IsClosed ds passes = (x y : Ranked) → passes x ≡ true → is_gt (ranks ds y x) ≡ false
+    → passes y ≡ true
+
+-- By such a test an order is that of the elements that pass, and behind them that of the others.
+abbrev pub SortedInTwo : Type 0
+SortedInTwo = (ds : List Bool) (passes : Ranked → Bool) (xs : List Ranked) → IsClosed ds passes
+    → sorted ds xs
+    ≡ sorted ds (filter passes xs) ++ sorted ds (filter (λ x. not (passes x)) xs)
+
+-- The tail of a query with a window is what the steps behind the order make of the first documents
+-- in it.
+abbrev pub FirstSettleTail : Type 0
+FirstSettleTail = (e : Expression) (params : Pairs) (w : Window) (ds : List Tree)
+    → window e ≡ Some w → let ss = tail_of (tail_of (steps_behind e)) in
+    tail e params ds ≡ pipes_value [] params ss (null ∷ [])
+    (entered (entrance (kind ss)) (rest_value [] params ss (null ∷ []))
+    (list_of (first_in w params ds)))
+
+-- Where a query's window is bounded, lists that have the same documents that do not stand behind the
+-- bound have the same tail, and the bound is one of both.
+abbrev pub WindowSettlesTail : Type 0
+WindowSettlesTail = (e : Expression) (params : Pairs) (bound xs ys : List Tree)
+    → IsBound e params bound xs
+    → filter (is_near e params bound) xs ≡ filter (is_near e params bound) ys
+    → (tail e params xs ≡ tail e params ys) × IsBound e params bound ys

@@ -1,0 +1,21 @@
+//! What an order and a window have in common over all lists. The functions do nothing: each is
+//! there for its clause.
+ghost use Rattle.cs_window.specs.Laws.{SortedInTwo, FirstSettleTail, WindowSettlesTail};
+
+/// Where a test that passes an element passes each one that does not rank behind it, an order is
+/// that of the elements that pass, and behind them that of the others.
+pub fn sorted_in_two()
+    ensures { SortedInTwo }
+{}
+
+/// What the steps behind a filter make of documents, where an order stands first and the step behind
+/// it looks at the first few alone: what the steps behind the order make of these first few.
+pub fn first_settle_tail()
+    ensures { FirstSettleTail }
+{}
+
+/// Two lists of documents give the same answer where those of them that do not stand behind a bound
+/// are the same, and no fewer than the answer is made of.
+pub fn window_settles_tail()
+    ensures { WindowSettlesTail }
+{}

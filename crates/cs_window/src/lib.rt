@@ -1,0 +1,7 @@
+//! The windows of simple queries: which documents settle an answer that is made of the first few of
+//! an order.
+#![tactic(auto)]
+
+mod laws;
+
+pub use laws::{first_settle_tail, sorted_in_two, window_settles_tail};
