@@ -6,3 +6,4 @@ mod Storing
 mod Tallies
 mod Told
 mod Transacting
+mod Visiting

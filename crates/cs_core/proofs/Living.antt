@@ -4,7 +4,7 @@ use Rattle.std.proofs.lemmas.Slice.Eq.{bytes_eq-Decides}
 use Rattle.cs_view.proofs.Booleans.{or-left, or-right}
 use Rattle.cs_live.specs.Fits.{HasRoom}
 use Rattle.cs_live.specs.Lives.{LiveQuery, has_live_name, is_named, made, without_name}
-use Rattle.cs_value.specs.Tree.{Tree, Pairs}
+use Rattle.cs_value.specs.Tree.{Pairs}
 use Rattle.cs_syntax.specs.Expression.{Expression}
 use Rattle.cs_reply.specs.Refusal.{name_used}
 use Rattle.cs_machine.specs.Fold.{Stepped}

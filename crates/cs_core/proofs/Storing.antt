@@ -1,12 +1,12 @@
 -- What installing changes leaves of the machine.
-use Rattle.std.proofs.Common.{◌≡◌, refl, sym, ap, subst, ◌∙◌, Bool, true, false, Result, Ok, Err, OnOk}
+use Rattle.std.proofs.Common.{◌≡◌, refl, sym, subst, ◌∙◌, Bool, true, false, Result, Ok, Err, OnOk}
 use Rattle.cs_docs.specs.Store.{docs}
 use Rattle.cs_docs.specs.declared.docs.Docs.{Docs}
 use Rattle.cs_index.specs.Index.{IsIndexOf}
 use Rattle.cs_machine.specs.Fold.{Stepped}
 use Rattle.cs_machine.specs.State.{State, with_docs}
 use Rattle.cs_core.specs.Core.{state}
-use Rattle.cs_core.specs.Does.{AllButStore, IsInstalled, IsKept, Leaves, LeavesBy}
+use Rattle.cs_core.specs.Does.{AllButStore, IsInstalled, Leaves, LeavesBy}
 use Rattle.cs_core.specs.declared.machine.Core.{Core}
 
 -- the state is another in its documents alone

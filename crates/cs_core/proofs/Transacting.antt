@@ -30,8 +30,20 @@ pub row_accepted : (s : State) (x : Transaction) (after : List Tree) (cs : List 
 row_accepted s x after cs unused ok are =
     rw (unused, ok) (ap (λ (es : List Edit). installed s x.id after es) are)
 
--- An accepted transaction of which the changes are known: that there is one list of changes between
--- two datasets makes these the ones that are told.
+-- That there is one list of changes between two datasets makes these the ones that are told.
+pub changes_known : CommitsKeepDatasets → ChangesAreComputed → ChangesAreOneList
+    → (s : State) (x : Transaction) (cs : List Edit)
+    → is_dataset s.docs ≡ true
+    → commit x s.moment s.docs ≡ Ok (After s.docs cs)
+    → AreChangesBetween s.docs (After s.docs cs) cs
+    → changes_between s.docs (After s.docs cs) ≡ cs
+changes_known keeps computes one s x cs held ok between =
+    let after = After s.docs cs in
+    let kept = keeps x s.moment s.docs after held ok in
+    let computed = computes s.docs after (and-left _ _ held) (and-left _ _ kept.0) in
+    one s.docs after (changes_between s.docs after) cs computed between
+
+-- an accepted transaction of which the changes are known
 pub row_known : CommitsKeepDatasets → ChangesAreComputed → ChangesAreOneList
     → (s : State) (x : Transaction) (cs : List Edit)
     → is_dataset s.docs ≡ true
@@ -40,12 +52,8 @@ pub row_known : CommitsKeepDatasets → ChangesAreComputed → ChangesAreOneList
     → AreChangesBetween s.docs (After s.docs cs) cs
     → by_transaction s x ≡ installed s x.id (After s.docs cs) cs
 row_known keeps computes one s x cs held unused ok between =
-    let after = After s.docs cs in
-    let kept = keeps x s.moment s.docs after held ok in
-    let computed = computes s.docs after (and-left _ _ held) (and-left _ _ kept.0) in
-    let are : changes_between s.docs after ≡ cs =
-    one s.docs after (changes_between s.docs after) cs computed between in
-    row_accepted s x after cs unused ok are
+    row_accepted s x (After s.docs cs) cs unused ok
+    (changes_known keeps computes one s x cs held ok between)
 
 -- a refused one
 pub row_refused : (s : State) (x : Transaction) (r : Refused)

@@ -29,8 +29,8 @@ step_state s n line = (step s n line).state
 abbrev pub step_replies : State → ℕ → List ℕ → List plain.Reply
 step_replies s n line = map counted (step s n line).replies
 
--- What was added to what is written, how many replies these are, and the machine now, are those of a
--- step with the line of the number; and the machine can be used on.
+-- What was added to what is written, how many replies these are, and the machine now, are those of
+-- a step with the line of the number; and the machine can be used on.
 pub record Does (before after : List ℕ) (tally : Tally) (core : Core) (n : ℕ) (out : Stepped State)
     : Type 0 where
   pub written : after ≡ before ++ reply_lines (numbered n out.replies)
@@ -85,8 +85,8 @@ abbrev pub LeavesBy : Bool → Core → Core → Stepped State → Type 0
 LeavesBy false old new out = IsKept old new
 LeavesBy true old new out = IsInstalled new out
 
--- How a step that found no memory leaves the machine: as it was; or spent, which only the line of an
--- accepted transaction does, and then with the documents after it.
+-- How a step that found no memory leaves the machine: as it was; or spent, which only the line of
+-- an accepted transaction does, and then with the documents after it.
 abbrev pub Leaves : Core → Core → Stepped State → Type 0
 Leaves old new out = LeavesBy new.spent old new out
 

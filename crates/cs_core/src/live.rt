@@ -1,10 +1,14 @@
 //! The row of `live`: a query whose answer is told anew where a transaction changes it.
-ghost use Rattle.std.specs.Prelude.{◌≡◌, ◌<◌, ◌^◌, IfOk, IfErr, OnOk, OnErr, length};
+ghost use Rattle.std.specs.Prelude.{◌≡◌, ◌<◌, ◌≤◌, ◌+◌, ◌^◌, IfOk, IfErr, OnOk, OnErr, length, true};
 ghost use Rattle.cs_value.specs.View.{fields};
 ghost use Rattle.cs_syntax.specs.Queries.{query as expression_of};
 ghost use Rattle.cs_live.specs.Entries.{said};
 ghost use Rattle.cs_live.specs.Fits.{HasRoom, IsCause};
 ghost use Rattle.cs_live.specs.Lives.{made, say, without_name};
+ghost use Rattle.cs_meaning.specs.Hits.{cost};
+ghost use Rattle.cs_parse.specs.Verdict.{verdict};
+ghost use Rattle.cs_plan.specs.Simple.{is_simple};
+ghost use Rattle.cs_txn.specs.Visits.{is_simple_reading, reading_cost};
 ghost use Rattle.cs_reply.specs.Reply.{reply_tree};
 ghost use Rattle.cs_reply.specs.View.{Appended};
 ghost use Rattle.cs_machine.specs.Rows.{row_live, subscribing, lively, live_reply};
@@ -56,6 +60,8 @@ impl Core {
         ensures does { IfOk result (λ tally. Does out.old.items out.new.items tally self.new line
             (row_live (state self.old) name text.now (fields params))) }
         ensures kept { OnErr result (IsKept self.old self.new) }
+        ensures visits { is_simple_reading (verdict text.now) ≡ true → steps.new ≤ steps.old
+            + reading_cost (state self.old).docs (fields params) (verdict text.now) }
     {
         match parse(self.alloc, text) {
             Ok(query) => self.subscribe(name, query, params, line, steps, out),
@@ -82,6 +88,8 @@ impl Core {
             (lively (state self.old) (made (state self.old).docs name (expression_of query)
             (fields params))))) }
         ensures kept { OnErr result (IsKept self.old self.new) }
+        ensures visits { is_simple (expression_of query) ≡ true → steps.new ≤ steps.old
+            + cost (expression_of query) (fields params) (state self.old).docs }
     {
         if self.listeners.has(name.as_str()) {
             let name = name.as_str();
@@ -126,6 +134,8 @@ impl Core {
         ensures cause { IfErr result (λ fault. IsCause fault name (state self.old).lives) }
         ensures kept { OnErr result (state self.new ≡ state self.old) }
         ensures usable { IsUsable self.new }
+        ensures visits { is_simple (expression_of query) ≡ true → steps.new ≤ steps.old
+            + cost (expression_of query) (fields params) (state self.old).docs }
     {
         let store = Indexed::of(&self.docs, &self.index);
         let line = self.live.add(name, query, params, &store, steps)?;

@@ -19,6 +19,7 @@ ghost use Rattle.cs_machine.specs.Machine.{by_command, heard, step};
 ghost use Rattle.cs_machine.specs.Refused.{refuse};
 ghost use Rattle.cs_machine.specs.Rows.{row};
 ghost use Rattle.cs_machine.specs.State.{begun};
+ghost use Rattle.cs_core.specs.Visits.{VisitsFew, is_simple_line, is_simple_command, is_simple_request, line_cost, command_cost, request_cost, read_command};
 
 use cs_docs::Docs;
 use cs_gen::Tally;
@@ -68,8 +69,8 @@ pub(crate) const ONE_REFUSAL: Tally = Tally {
 pub enum CoreFault {
     /// The allocator had no memory to give.
     NoMemory,
-    /// The machine is spent: at an earlier line there was no memory for the index, or for the answers
-    /// of live queries, behind a transaction whose documents were installed.
+    /// The machine is spent: at an earlier line there was no memory for the index, or for the
+    /// answers of live queries, behind a transaction whose documents were installed.
     Spent,
 }
 
@@ -102,7 +103,8 @@ impl Replies {
 /// Its index finds the documents that have a key. No reply depends on the seed of the index.
 ///
 /// A machine is spent where a transaction's documents were installed and there was no memory then
-/// for their index, or for what its live queries answer. It can't be used on, and every step says so.
+/// for their index, or for what its live queries answer. It can't be used on, and every step says
+/// so.
 #[derive(Drop)]
 pub struct Core {
     pub(crate) alloc: Global,
@@ -132,7 +134,7 @@ impl Core {
             moment: Txt::copy_of(alloc, FIRST_MOMENT)?,
             used: IndexSet::new(alloc),
             live: Live::new(alloc, seed),
-            listeners: Listeners::new(alloc),
+            listeners: Listeners::new(alloc, seed),
             spent: false,
         })
     }
@@ -159,6 +161,10 @@ impl Core {
     /// After [`CoreFault::NoMemory`] the machine is as before; or it is spent, which only the line
     /// of an accepted transaction leads to, and its documents are those after the transaction.
     /// [`CoreFault::Spent`] comes exactly where the machine was spent before; nothing changes then.
+    ///
+    /// Where each query of the line is refused or simple, and the line's changes touch no record
+    /// that a live query keeps, the counter rises by at most the costs of these queries: not at all
+    /// over a transaction without a query.
     pub fn step<L: Ledger>(
         &mut self,
         line: &Line,
@@ -178,6 +184,9 @@ impl Core {
             (step (state self.old) line.now.number line.now.bytes.items)) }
         ensures blank { self.old.spent ≡ false → is_blank line.now.bytes.items ≡ true
             → IsOk result }
+        ensures visits { VisitsFew (is_simple_line line.now.number line.now.bytes.items)
+            (line_cost (state self.old) line.now.number line.now.bytes.items) self.old
+            (step (state self.old) line.now.number line.now.bytes.items) steps.old steps.new }
     {
         if self.spent {
             return Err(CoreFault::Spent);
@@ -203,6 +212,9 @@ impl Core {
         ensures leaves { OnErr result (Leaves self.old self.new
             (step (state self.old) line.now.number line.now.bytes.items)) }
         ensures blank { is_blank line.now.bytes.items ≡ true → IsOk result }
+        ensures visits { VisitsFew (is_simple_line line.now.number line.now.bytes.items)
+            (line_cost (state self.old) line.now.number line.now.bytes.items) self.old
+            (step (state self.old) line.now.number line.now.bytes.items) steps.old steps.new }
     {
         if is_blank(line.bytes.as_slice()) {
             return Ok(Tally::new());
@@ -239,6 +251,11 @@ impl Core {
             (heard row (state self.old) number (outcome deepest_line line.now))) }
         ensures leaves { OnErr result (Leaves self.old self.new
             (heard row (state self.old) number (outcome deepest_line line.now))) }
+        ensures visits { VisitsFew
+            (is_simple_command number (read_command (outcome deepest_line line.now)))
+            (command_cost (state self.old) number (read_command (outcome deepest_line line.now)))
+            self.old (heard row (state self.old) number (outcome deepest_line line.now))
+            steps.old steps.new }
     {
         match self.reader.read(line, DEEPEST_LINE) {
             Ok(val) => self.command(val, number, steps, out),
@@ -263,6 +280,9 @@ impl Core {
             (by_command row (state self.old) line (command (tree val)))) }
         ensures leaves { OnErr result (Leaves self.old self.new
             (by_command row (state self.old) line (command (tree val)))) }
+        ensures visits { VisitsFew (is_simple_command line (command (tree val)))
+            (command_cost (state self.old) line (command (tree val))) self.old
+            (by_command row (state self.old) line (command (tree val))) steps.old steps.new }
     {
         commands_are_within();
         match Command::read(self.alloc, val) {
@@ -285,6 +305,9 @@ impl Core {
             (row (state self.old) line (request command))) }
         ensures leaves { OnErr result (Leaves self.old self.new
             (row (state self.old) line (request command))) }
+        ensures visits { VisitsFew (is_simple_request line (request command))
+            (request_cost (state self.old) line (request command)) self.old
+            (row (state self.old) line (request command)) steps.old steps.new }
     {
         match command {
             Command::Mutate { body } => self.mutate(body, line, steps, out),

@@ -1,9 +1,13 @@
 //! The row of `query`: the value of a query over the documents as they are.
-ghost use Rattle.std.specs.Prelude.{◌≡◌, ◌<◌, ◌^◌, IfOk, OnOk, length};
+ghost use Rattle.std.specs.Prelude.{◌≡◌, ◌<◌, ◌≤◌, ◌+◌, ◌^◌, IfOk, OnOk, length, true};
 ghost use Rattle.cs_value.specs.View.{fields};
 ghost use Rattle.cs_syntax.specs.Queries.{query as expression_of};
 ghost use Rattle.cs_parts.specs.Parts.{got};
+ghost use Rattle.cs_meaning.specs.Hits.{cost};
 ghost use Rattle.cs_meaning.specs.Values.{query_value};
+ghost use Rattle.cs_parse.specs.Verdict.{verdict};
+ghost use Rattle.cs_plan.specs.Simple.{is_simple};
+ghost use Rattle.cs_txn.specs.Visits.{is_simple_reading, reading_cost};
 ghost use Rattle.cs_docs.specs.Store.{docs as docs_of};
 ghost use Rattle.cs_reply.specs.Reply.{reply_tree, found as found_reply};
 ghost use Rattle.cs_reply.specs.View.{Appended};
@@ -48,8 +52,10 @@ impl Core {
     ) -> Result<Tally, NoMemory>
         requires short { length text.now < 2 ^ 32 }
         requires usable { IsUsable self.now }
-        ensures { IfOk result (λ tally. Does out.old.items out.new.items tally self.now line
+        ensures does { IfOk result (λ tally. Does out.old.items out.new.items tally self.now line
             (row_query (state self.now) text.now (fields params.now))) }
+        ensures visits { is_simple_reading (verdict text.now) ≡ true → steps.new ≤ steps.old
+            + reading_cost (docs_of self.now.docs) (fields params.now) (verdict text.now) }
     {
         match parse(self.alloc, text) {
             Ok(query) => {
@@ -73,8 +79,10 @@ impl Core {
         out: &mut Vec<u8>,
     ) -> Result<(), NoMemory>
         requires fitting { IsFitting self.now }
-        ensures { OnOk result (Appended out.old.items out.new.items (reply_tree line (found_reply
-            (query_value (docs_of self.now.docs) (fields params.now) (expression_of query.now))))) }
+        ensures appended { OnOk result (Appended out.old.items out.new.items (reply_tree line
+            (found_reply (query_value (docs_of self.now.docs) (fields params.now) (expression_of query.now))))) }
+        ensures visits { is_simple (expression_of query.now) ≡ true → steps.new ≤ steps.old
+            + cost (expression_of query.now) (fields params.now) (docs_of self.now.docs) }
     {
         let mut keys = Record::new(self.alloc);
         let store = self.store();

@@ -1,7 +1,7 @@
 //! The row of `mutate`: a transaction, in three parts. What reads and prepares it changes nothing.
 //! Then all is made that needs memory before the documents are installed. Last come the answers of
 //! live queries: where there is no memory for these, the machine is spent.
-ghost use Rattle.std.specs.Prelude.{◌≡◌, ◌++◌, ◌<◌, ◌≤◌, ◌^◌, OnOk, OnErr, IfOk, IfErr, Ok, length, map, string_bytes, false, true};
+ghost use Rattle.std.specs.Prelude.{◌≡◌, ◌++◌, ◌<◌, ◌≤◌, ◌+◌, ◌^◌, OnOk, OnErr, IfOk, IfErr, Ok, length, map, string_bytes, false, true};
 ghost use Rattle.indexmap.specs.IndexSet.{contains_text, spare};
 ghost use Rattle.cs_value.specs.Tree.{widest};
 ghost use Rattle.cs_value.specs.View.{tree};
@@ -10,9 +10,10 @@ ghost use Rattle.cs_view.specs.View.{edit, edits};
 ghost use Rattle.cs_docs.specs.Store.{docs as docs_of, prepared as changes_of};
 ghost use Rattle.cs_docs.specs.Verdict.{AreTaken};
 ghost use Rattle.cs_io.specs.Lines.{longest_line};
+ghost use Rattle.cs_body.specs.Body.{body_of};
 ghost use Rattle.cs_body.specs.View.{txn as plain};
 ghost use Rattle.cs_live.specs.Entries.{lives, said};
-ghost use Rattle.cs_live.specs.Fits.{Fits};
+ghost use Rattle.cs_live.specs.Fits.{Fits, IsUntouched};
 ghost use Rattle.cs_live.specs.Lives.{all_refreshed, news};
 ghost use Rattle.cs_reply.specs.Reply.{reply_tree, committed};
 ghost use Rattle.cs_reply.specs.View.{Appended, event, outcome as outcome_seen};
@@ -22,9 +23,11 @@ ghost use Rattle.cs_machine.specs.Rows.{row_mutate, by_transaction, installed, o
 ghost use Rattle.cs_machine.specs.State.{with_lives, with_used};
 ghost use Rattle.cs_txn.specs.Commit.{commit};
 ghost use Rattle.cs_txn.specs.View.{IsRefusal};
+ghost use Rattle.cs_txn.specs.Visits.{are_simple, costs};
 ghost use Rattle.cs_txn.specs.Within.{AreShort};
 ghost use Rattle.cs_core.specs.Core.{state, IsUsable};
 ghost use Rattle.cs_index.specs.Index.{IsIndexOf};
+ghost use Rattle.cs_core.specs.Visits.{VisitsFew, is_simple_body, body_cost, transaction_cost};
 ghost use Rattle.cs_core.specs.Does.{Does, Leaves, IsTallyOf, AllButStore, heard_lines, live_lines};
 
 use crate::live::write_answer;
@@ -142,6 +145,9 @@ impl Core {
             (row_mutate (state self.old) line (tree body))) }
         ensures leaves { OnErr result (Leaves self.old self.new
             (row_mutate (state self.old) line (tree body))) }
+        ensures visits { VisitsFew (is_simple_body (body_of (tree body) line))
+            (body_cost (state self.old) (body_of (tree body) line)) self.old
+            (row_mutate (state self.old) line (tree body)) steps.old steps.new }
     {
         transactions_are_within();
         within_are_short();
@@ -168,6 +174,9 @@ impl Core {
             (by_transaction (state self.old) (plain txn.now))) }
         ensures leaves { OnErr result (Leaves self.old self.new
             (by_transaction (state self.old) (plain txn.now))) }
+        ensures visits { VisitsFew (are_simple (plain txn.now).actions)
+            (transaction_cost (state self.old) (plain txn.now)) self.old
+            (by_transaction (state self.old) (plain txn.now)) steps.old steps.new }
     {
         commits_keep_datasets();
         changes_are_computed();
@@ -197,6 +206,8 @@ impl Core {
         ensures taken { IfOk result (λ p. AreTaken (docs_of self.now.docs) (changes_of p)) }
         ensures refused { IfErr result (λ r. IsRefusal r
             (commit (plain txn.now) self.now.moment (docs_of self.now.docs))) }
+        ensures visits { are_simple (plain txn.now).actions ≡ true → steps.new ≤ steps.old + costs
+            (plain txn.now).id self.now.moment 0 (plain txn.now).actions (docs_of self.now.docs) }
     {
         let store = self.store();
         let prepared = prepare(self.alloc, store, &store, txn, &self.moment, steps)?;
@@ -220,6 +231,8 @@ impl Core {
             (After (docs_of self.old.docs) (changes_of prepared.now)) (changes_of prepared.now))) }
         ensures leaves { OnErr result (Leaves self.old self.new (installed (state self.old) tx.now
             (After (docs_of self.old.docs) (changes_of prepared.now)) (changes_of prepared.now))) }
+        ensures quiet { IsUntouched self.old.live (changes_of prepared.now)
+            → steps.new ≡ steps.old }
     {
         self.write_committed(tx, prepared, line, out)?;
         let events = self.write_events(tx, prepared, line, out)?;
@@ -326,6 +339,7 @@ impl Core {
         ensures docs { self.new.docs ≡ self.old.docs }
         ensures index_kept { self.new.index ≡ self.old.index }
         ensures spent { self.new.spent ≡ self.old.spent }
+        ensures quiet { IsUntouched self.old.live (edits changes.now) → steps.new ≡ steps.old }
     {
         let store = Indexed::of(&self.docs, &self.index);
         let answers = self.live.after_commit(&store, changes, steps)?;
@@ -338,6 +352,7 @@ impl Core {
         ensures copy { IfOk result (λ id. string_bytes id ≡ tx.now) }
         ensures room { OnOk result (1 ≤ spare self.new.used) }
         ensures same { state self.new ≡ state self.old }
+        ensures live { self.new.live ≡ self.old.live }
         ensures usable { IsUsable self.old → IsUsable self.new }
     {
         let id = String::from_str(self.alloc, tx.as_str())?;

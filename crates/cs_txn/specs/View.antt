@@ -12,8 +12,8 @@ abbrev pub IsReadSo : (Reading → Type 0) → Option Reading → Type 0
 IsReadSo P None = ⊥
 IsReadSo P (Some r) = P r
 
--- The cause that is told is as said. Want of memory tells none, and it is never told as the fault of
--- a query.
+-- The cause that is told is as said. Want of memory tells none, and it is never told as the fault
+-- of a query.
 abbrev pub IsTold : (Cause → Type 0) → Why → Type 0
 IsTold P (why.Exists id) = P (exists id)
 IsTold P (why.Missing id) = P (missing id)

@@ -84,8 +84,8 @@ fn refusal_of(fault: PrepareFault) -> Refusal
 /// that is simple visits no more documents than have its key.
 ///
 /// The first mutation that is refused ends the transaction, and the refusal has its index.
-/// `FullDocuments` and `Dangling` are of the whole transaction and have none. `NoMemory` comes where
-/// the allocator has no room, and says nothing of the transaction.
+/// `FullDocuments` and `Dangling` are of the whole transaction and have none. `NoMemory` comes
+/// where the allocator has no room, and says nothing of the transaction.
 pub fn prepare<R: Referrers, L: Ledger>(
     alloc: Global,
     store: Indexed<'_>,

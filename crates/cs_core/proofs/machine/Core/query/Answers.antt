@@ -11,18 +11,18 @@ use Rattle.cs_machine.specs.State.{answered}
 use Rattle.cs_core.proofs.Replying.{says, does_as, read_text, refused_text}
 use Rattle.cs_core.proofs.machine.Core.query.Goals as goal
 
-pub returns-in-Ok : goal.returns-in-Ok
-returns-in-Ok g c =
+pub returns-in-Ok-clause-does : goal.returns-in-Ok-clause-does
+returns-in-Ok-clause-does g c =
     let s = state c.args.self.now in
     let value = query_value s.docs (fields c.args.params.now) (expression_of c.in-Ok.query) in
     let next = λ (e : Expression). answered s (found (query_value s.docs (fields c.args.params.now) e)) in
     let is = read_text s c.args.text.now next (expression_of c.in-Ok.query) c.in-Ok.ensures in
     does_as _ _ _ c.args.self.now c.args.line _ _ is
     (says _ _ _ c.args.self.now s c.args.line (found value) refl c.requires.usable
-    (record { replies = refl; events = refl; live = refl; refused = refl }) c.in_ok-find-in-Ok.ensures)
+    (record { replies = refl; events = refl; live = refl; refused = refl }) c.in_ok-find-in-Ok.ensures.appended)
 
-pub returns-in-Some : goal.returns-in-Some
-returns-in-Some g c =
+pub returns-in-Some-clause-does : goal.returns-in-Some-clause-does
+returns-in-Some-clause-does g c =
     let s = state c.args.self.now in
     let next = λ (e : Expression). answered s (found (query_value s.docs (fields c.args.params.now) e)) in
     let is = refused_text s c.args.text.now next (reading_of c.in-Err.fault) _ c.in-Err.ensures c.in-Some.ensures in

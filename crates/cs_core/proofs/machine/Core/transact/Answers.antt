@@ -11,7 +11,8 @@ use Rattle.cs_machine.specs.Replies.{reply_tree, not_done}
 use Rattle.cs_core.specs.Core.{state}
 use Rattle.cs_core.proofs.Replying.{does_as, leaves_as, same_kept, kept_leaves, kept_on}
 use Rattle.cs_core.proofs.Told.{told_both}
-use Rattle.cs_core.proofs.Transacting.{row_known, row_refused, says_refused}
+use Rattle.cs_core.proofs.Transacting.{changes_known, row_known, row_refused, says_refused}
+use Rattle.cs_core.proofs.Visiting.{few_accepted, few_refused}
 use Rattle.cs_core.proofs.machine.Core.transact.Goals as goal
 
 pub returns-in-Ok-clause-does : goal.returns-in-Ok-clause-does
@@ -59,3 +60,34 @@ pub returns-in_err-write_refused-in-Err-clause-leaves : goal.returns-in_err-writ
 returns-in_err-write_refused-in-Err-clause-leaves g c =
     let core = c.args.self.now in
     kept_on _ (kept_leaves core core _ (same_kept core c.requires.usable))
+
+pub returns-in-Ok-clause-visits : goal.returns-in-Ok-clause-visits
+returns-in-Ok-clause-visits g c =
+    let core = c.args.self.now in
+    let s = state core in
+    let x = txn c.args.txn.now in
+    let cs = prepared c.in-Ok.prepared in
+    let row = row_known c.commits_keep_datasets.ensures c.changes_are_computed.ensures
+    c.changes_are_one_list.ensures s x cs (is_dataset_of core.docs) (search rules)
+    c.in-Ok.ensures.accepted c.in-Ok.ensures.changes in
+    let are = changes_known c.commits_keep_datasets.ensures c.changes_are_computed.ensures
+    c.changes_are_one_list.ensures s x cs (is_dataset_of core.docs)
+    c.in-Ok.ensures.accepted c.in-Ok.ensures.changes in
+    few_accepted core x cs c.args.steps.now c.prepare.new.steps c.accept.new.steps (search rules)
+    row are c.prepare.ensures.visits c.accept.ensures.quiet
+
+pub returns-in_ok-write_refused-in-Err-clause-visits : goal.returns-in_ok-write_refused-in-Err-clause-visits
+returns-in_ok-write_refused-in-Err-clause-visits g c =
+    let unused : contains_text c.args.self.now.used c.args.txn.now.id ≡ false =
+    ap (contains_text c.args.self.now.used) (sym c.as_str-id.ensures) ∙ sym c.contains.ensures
+    ∙ c.if-contains.false in
+    few_refused c.args.self.now (txn c.args.txn.now) c.args.steps.now c.prepare.new.steps unused
+    c.prepare.ensures.visits
+
+pub returns-in_err-write_refused-in-Err-clause-visits : goal.returns-in_err-write_refused-in-Err-clause-visits
+returns-in_err-write_refused-in-Err-clause-visits g c =
+    let unused : contains_text c.args.self.now.used c.args.txn.now.id ≡ false =
+    ap (contains_text c.args.self.now.used) (sym c.as_str-id.ensures) ∙ sym c.contains.ensures
+    ∙ c.if-contains.false in
+    few_refused c.args.self.now (txn c.args.txn.now) c.args.steps.now c.prepare.new.steps unused
+    c.prepare.ensures.visits
