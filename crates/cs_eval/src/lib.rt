@@ -9,4 +9,4 @@ pub use cs_meaning::{
     true_has_key,
 };
 pub use cs_parts::Got;
-pub use queries::{eval, hit, hits, key_of, tail};
+pub use queries::{eval, hit, hits, keys_of, tail};

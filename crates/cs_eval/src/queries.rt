@@ -132,24 +132,9 @@ fn push_hit(
     Ok(())
 }
 
-/// The key of a simple query. It visits nothing. `NoMemory` where the allocator has no room for the
-/// texts of the key.
-pub fn key_of(alloc: Global, query: &Query, params: &Fields) -> Result<Key, NoMemory>
-    requires { is_simple (expression_of query.now) ≡ true }
-    ensures { IfOk result (λ k. k ≡ query_key (expression_of query.now) (fields params.now)) }
-{
-    let root = Scope {
-        this: query.null(),
-        parent: None,
-    };
-    let Some((condition, _later)) = parts(query.expr()) else {
-        unreachable!()
-    };
-    choose(alloc, condition, &root, params)
-}
-
-// The keys that the filter of a simple query gives.
-fn keys_of(alloc: Global, query: &Query, params: &Fields) -> Result<Vec<Key>, NoMemory>
+/// The keys that the filter of a simple query gives: each of its hits has them all. It visits nothing.
+/// `NoMemory` where the allocator has no room for them.
+pub fn keys_of(alloc: Global, query: &Query, params: &Fields) -> Result<Vec<Key>, NoMemory>
     requires { is_simple (expression_of query.now) ≡ true }
     ensures { IfOk result
         (λ ks. ks.items ≡ query_keys (expression_of query.now) (fields params.now)) }

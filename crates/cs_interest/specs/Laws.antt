@@ -1,9 +1,12 @@
 -- The laws of interest.
 use Rattle.std.specs.Prelude.{◌≡◌, ℕ, List, true}
+use Rattle.cs_value.specs.Tree.{Tree}
 use Rattle.cs_view.specs.Changes.{Edit, are_changes}
+use Rattle.cs_view.specs.Keys.{has, has_all}
 use Rattle.cs_view.specs.Touched.{is_touched}
 use Rattle.cs_view.specs.declared.key.Key.{Key}
 use Rattle.cs_interest.specs.Interest.{holds, interest_code, is_asked}
+use Rattle.cs_interest.specs.Narrow.{narrowest}
 use Rattle.cs_interest.specs.declared.interest.Interest.{Interest}
 
 -- a number that stands under the code of a key that changes touch is asked
@@ -11,3 +14,8 @@ abbrev pub TouchedIsAsked : Type 0
 TouchedIsAsked =
     (i : Interest) (cs : List Edit) (k : Key) (n : ℕ) → are_changes cs ≡ true
     → is_touched cs k ≡ true → holds i (interest_code i.seed k) n ≡ true → is_asked i cs n ≡ true
+
+-- a document that has each of some keys has the narrowest
+abbrev pub NarrowestIsHad : Type 0
+NarrowestIsHad =
+    (ks : List Key) (d : Tree) → has_all ks d ≡ true → has (narrowest ks) d ≡ true

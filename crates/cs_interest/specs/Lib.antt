@@ -1,2 +1,3 @@
 pub mod Interest
 pub mod Laws
+pub mod Narrow

@@ -1,5 +1,5 @@
 //! The laws of interest, for proofs: each function does nothing, and its contract is the law.
-ghost use Rattle.cs_interest.specs.Laws.{TouchedIsAsked};
+ghost use Rattle.cs_interest.specs.Laws.{NarrowestIsHad, TouchedIsAsked};
 
 use cs_codes::laws::keys_are_listed;
 
@@ -9,3 +9,8 @@ pub fn touched_is_asked()
 {
     keys_are_listed();
 }
+
+/// A document that has each of some keys has the narrowest of them.
+pub fn narrowest_is_had()
+    ensures { NarrowestIsHad }
+{}

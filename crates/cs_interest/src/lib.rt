@@ -5,9 +5,11 @@ mod asked;
 mod code;
 mod interest;
 pub mod laws;
+mod narrow;
 mod pair;
 mod put;
 
 pub use code::interest_code;
 pub use interest::Interest;
+pub use narrow::narrowest_code;
 pub use pair::Pair;

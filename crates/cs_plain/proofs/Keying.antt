@@ -1,26 +1,25 @@
--- The key that is found by the form of a query is that of the filter that the query stands for.
-use Rattle.std.proofs.Common.{◌≡◌, Bool, true, cond, refl, ap, sym, ◌∙◌, Option, Some, None}
+-- The keys that are found by the form of a query are those of the filter that the query stands for.
+use Rattle.std.proofs.Common.{◌≡◌, List, [], Bool, true, cond, refl, ap, sym, ◌∙◌, Option, Some, None}
 use Rattle.std.specs.Prelude.{is_some, unwrap_or}
 use Rattle.std.specs.Option.{option_map_or}
 use Rattle.cs_value.specs.Tree.{Pairs}
 use Rattle.cs_syntax.specs.Expression.{Expression, null_literal, everything, chain, Step, bracket, Steps, no_steps, more_steps}
 use Rattle.cs_view.specs.declared.key.Key.{Key}
-use Rattle.cs_view.specs.declared.key.Key.TheVariants.{All}
 use Rattle.cs_plan.specs.Simple.{is_filter}
 use Rattle.cs_plain.specs.Plain.{is_plain, filter_in, filter_alone, listened_filter}
-use Rattle.cs_plain.specs.Keyed.{filter_key, step_condition, first_condition, query_condition}
+use Rattle.cs_plain.specs.Keyed.{alone_keys, step_condition, first_condition, query_condition}
 use Rattle.cs_plain.proofs.Agree.{impossible}
 
 module _ (params : Pairs) where
-  -- the key of a condition, where one was found
-  abbrev of_found : Option Expression → Key
-  of_found o = option_map_or (λ e. filter_key e params) o All
+  -- the keys of a condition, where one was found
+  abbrev of_found : Option Expression → List Key
+  of_found o = option_map_or (λ e. alone_keys e params) o []
 
-  abbrev of_filter : Option Expression → Key
-  of_filter o = filter_key (unwrap_or o null_literal) params
+  abbrev of_filter : Option Expression → List Key
+  of_filter o = alone_keys (unwrap_or o null_literal) params
 
   kept-key : (e : Expression) (b : Bool) → is_some (cond b (Some e) None) ≡ true
-      → filter_key e params ≡ of_filter (cond b (Some e) None)
+      → alone_keys e params ≡ of_filter (cond b (Some e) None)
   kept-key e true h = refl
   kept-key e _ h = impossible h
 
@@ -42,7 +41,7 @@ module _ (params : Pairs) where
   query_keyed (chain _ ss) h = impossible h
   query_keyed _ h = impossible h
 
-  -- a condition that was found has the key of the filter
+  -- a condition that was found has the keys of the filter
   pub some_keyed : (q e : Expression) → is_some (listened_filter q) ≡ true
-      → query_condition q ≡ Some e → filter_key e params ≡ of_filter (listened_filter q)
+      → query_condition q ≡ Some e → alone_keys e params ≡ of_filter (listened_filter q)
   some_keyed q e h is = ap of_found (sym is) ∙ query_keyed q h

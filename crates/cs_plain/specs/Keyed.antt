@@ -1,14 +1,14 @@
--- The key of a plain predicate: which documents alone can make its filter true, as far as its form
+-- The keys of a plain predicate: which documents alone can make its filter true, as far as its form
 -- tells. What the code finds of it by the form of the query.
-use Rattle.std.specs.Prelude.{[], ◌∷◌, Option, Some, None}
+use Rattle.std.specs.Prelude.{List, [], ◌∷◌, Option, Some, None}
 use Rattle.cs_value.specs.Tree.{null, Pairs}
 use Rattle.cs_syntax.specs.Expression.{Expression, chain, Step, bracket, Steps, no_steps, more_steps}
 use Rattle.cs_view.specs.declared.key.Key.{Key}
-use Rattle.cs_plan.specs.Filters.{key_in}
+use Rattle.cs_plan.specs.Filters.{filter_keys}
 
--- the key of a filter, in the scope of null alone
-abbrev pub filter_key : Expression → Pairs → Key
-filter_key filter params = key_in filter (null ∷ []) params
+-- the keys of a filter, in the scope of null alone
+abbrev pub alone_keys : Expression → Pairs → List Key
+alone_keys filter params = filter_keys filter (null ∷ []) params
 
 -- the condition of a step in brackets, of the first of some steps, of a query
 abbrev pub step_condition : Step → Option Expression

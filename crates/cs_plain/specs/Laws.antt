@@ -2,13 +2,13 @@
 use Rattle.std.specs.Prelude.{◌≡◌, List, [], ◌∷◌, Some, IsTrue, true}
 use Rattle.cs_value.specs.Tree.{Tree, null, Pairs}
 use Rattle.cs_syntax.specs.Expression.{Expression}
-use Rattle.cs_view.specs.Keys.{has}
+use Rattle.cs_view.specs.Keys.{has_all}
 use Rattle.cs_plan.specs.Simple.{is_quiet}
 use Rattle.cs_meaning.specs.Operators.{is_true}
 use Rattle.cs_meaning.specs.Values.{value}
 use Rattle.cs_plain.specs.Plain.{listened_filter}
 use Rattle.cs_plain.specs.Holds.{holds}
-use Rattle.cs_plain.specs.Keyed.{filter_key}
+use Rattle.cs_plain.specs.Keyed.{alone_keys}
 
 -- a filter that a listener may have is quiet, and over every dataset it has the same value
 abbrev pub PlainIsQuiet : Type 0
@@ -26,8 +26,8 @@ PlainHoldsAnywhere =
     → listened_filter q ≡ Some filter
     → is_true (value docs params filter (d ∷ null ∷ [])) ≡ holds filter params d
 
--- a document of which a filter is true has the filter's key
-abbrev pub TrueHasFilterKey : Type 0
-TrueHasFilterKey =
+-- a document of which a filter is true has each of the filter's keys
+abbrev pub TrueHasAloneKeys : Type 0
+TrueHasAloneKeys =
     (filter : Expression) (params : Pairs) (d : Tree)
-    → holds filter params d ≡ true → has (filter_key filter params) d ≡ true
+    → holds filter params d ≡ true → has_all (alone_keys filter params) d ≡ true

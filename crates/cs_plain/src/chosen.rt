@@ -1,14 +1,14 @@
-//! The key of a plain predicate.
+//! The keys of a plain predicate.
 ghost use Rattle.std.specs.Prelude.{◌≡◌, IfOk, map, option_map};
 ghost use Rattle.cs_syntax.specs.Expression.{steps_of};
 ghost use Rattle.cs_syntax.specs.View.{expression, step as step_of};
 ghost use Rattle.cs_value.specs.Tree.{null as null_tree};
 ghost use Rattle.cs_value.specs.View.{tree, fields};
-ghost use Rattle.cs_plain.specs.Keyed.{filter_key, step_condition, first_condition, query_condition};
+ghost use Rattle.cs_plain.specs.Keyed.{alone_keys, step_condition, first_condition, query_condition};
 ghost use Rattle.cs_plain.specs.Predicates.{filter};
 
 use crate::predicate::Plain;
-use cs_plan::choose;
+use cs_plan::filter_keys;
 use cs_syntax::{Expr, Step};
 use cs_value::{Fields, NoMemory, Val};
 use cs_view::{Key, Scope};
@@ -45,31 +45,33 @@ fn query_condition(expr: &Expr) -> Option<&Expr>
     }
 }
 
-// The key of a condition in the scope of null alone.
-fn condition_key(
+// The keys of a condition in the scope of null alone.
+fn condition_keys(
     alloc: Global,
     condition: &Expr,
     null: &Val,
     params: &Fields,
-) -> Result<Key, NoMemory>
+) -> Result<Vec<Key>, NoMemory>
     requires { tree null.now ≡ null_tree }
-    ensures { IfOk result (λ k. k ≡ filter_key (expression condition.now) (fields params.now)) }
+    ensures { IfOk result
+        (λ ks. ks.items ≡ alone_keys (expression condition.now) (fields params.now)) }
 {
     let root = Scope {
         this: null,
         parent: None,
     };
-    choose(alloc, condition, &root, params)
+    filter_keys(alloc, condition, &root, params)
 }
 
-/// The key of a predicate, which each document has that makes its filter true: the key of the
-/// filter in the scope of null alone. `NoMemory` where the allocator has no room for the texts of
-/// the key.
-pub fn key(alloc: Global, predicate: &Plain, params: &Fields) -> Result<Key, NoMemory>
-    ensures { IfOk result (λ k. k ≡ filter_key (filter predicate.now) (fields params.now)) }
+/// The keys of a predicate, each of which a document has that makes its filter true: those that the
+/// filter's conjuncts give in the scope of null alone, from the left. `NoMemory` where the allocator
+/// has no room for them.
+pub fn keys(alloc: Global, predicate: &Plain, params: &Fields) -> Result<Vec<Key>, NoMemory>
+    ensures { IfOk result
+        (λ ks. ks.items ≡ alone_keys (filter predicate.now) (fields params.now)) }
 {
     match query_condition(predicate.expr()) {
-        Some(condition) => condition_key(alloc, condition, predicate.null(), params),
-        None => Ok(Key::All),
+        Some(condition) => condition_keys(alloc, condition, predicate.null(), params),
+        None => Ok(Vec::new(alloc)),
     }
 }

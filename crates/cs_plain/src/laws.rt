@@ -1,8 +1,8 @@
 //! The laws of plain predicates, for proofs: each function does nothing, and its contract is the
 //! law.
-ghost use Rattle.cs_plain.specs.Laws.{PlainIsQuiet, PlainHoldsAnywhere, TrueHasFilterKey};
+ghost use Rattle.cs_plain.specs.Laws.{PlainIsQuiet, PlainHoldsAnywhere, TrueHasAloneKeys};
 
-use cs_meaning::{quiet_asks_nothing, true_has_key};
+use cs_meaning::{quiet_asks_nothing, true_has_each_key};
 
 /// A filter that a listener may have has neither `*` nor `->`, and is the same over all documents.
 pub fn plain_is_quiet()
@@ -19,9 +19,9 @@ pub fn plain_holds_anywhere()
     plain_is_quiet();
 }
 
-/// A document of which a filter is true has the filter's key.
-pub fn true_has_filter_key()
-    ensures { TrueHasFilterKey }
+/// A document of which a filter is true has each of the filter's keys.
+pub fn true_has_alone_keys()
+    ensures { TrueHasAloneKeys }
 {
-    true_has_key();
+    true_has_each_key();
 }

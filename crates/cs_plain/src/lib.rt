@@ -1,5 +1,5 @@
 //! Plain predicates, the filters that a listener may have: which they are, whether one is true of a
-//! document, without memory, and which key each such document has.
+//! document, without memory, and which keys each such document has.
 #![tactic(auto)]
 
 mod chosen;
@@ -12,7 +12,7 @@ mod operand;
 mod predicate;
 mod values;
 
-pub use chosen::key;
+pub use chosen::keys;
 pub use holds::test;
-pub use laws::{plain_holds_anywhere, plain_is_quiet, true_has_filter_key};
+pub use laws::{plain_holds_anywhere, plain_is_quiet, true_has_alone_keys};
 pub use predicate::Plain;

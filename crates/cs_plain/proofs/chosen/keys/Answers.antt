@@ -1,11 +1,11 @@
-use Rattle.std.proofs.Common.{◌≡◌, ◌∙◌, ap, sym, subst, Some, IfOk, option_map}
+use Rattle.std.proofs.Common.{◌≡◌, ◌∙◌, ap, sym, subst, List, Some, IfOk, option_map}
 use Rattle.cs_value.specs.View.{fields}
 use Rattle.cs_view.specs.declared.key.Key.{Key}
 use Rattle.cs_syntax.specs.View.{expression}
 use Rattle.cs_plain.specs.Keyed.{query_condition}
 use Rattle.cs_plain.specs.Predicates.{asked}
 use Rattle.cs_plain.proofs.Keying.{some_keyed}
-use Rattle.cs_plain.proofs.chosen.key.Goals as goal
+use Rattle.cs_plain.proofs.chosen.keys.Goals as goal
 
 pub returns-in-Some : goal.returns-in-Some
 returns-in-Some c =
@@ -13,7 +13,7 @@ returns-in-Some c =
     let there : query_condition (asked c.args.predicate.now) ≡ Some condition =
     ap query_condition (sym c.expr.ensures.kept) ∙ sym c.query_condition.ensures
     ∙ ap (option_map (λ e. expression e.now)) c.in-Some.is in
-    subst (λ (k : Key). IfOk c.condition_key.result (λ found. found ≡ k))
+    subst (λ (ks : List Key). IfOk c.condition_keys.result (λ found. found.items ≡ ks))
     (some_keyed (fields c.args.params.now) (asked c.args.predicate.now) condition
     c.expr.ensures.plain there)
-    c.condition_key.ensures
+    c.condition_keys.ensures
