@@ -4,9 +4,8 @@ use Rattle.std.proofs.lemmas.Grind.{common_steps}
 use Rattle.std.proofs.lemmas.List.Folds.{list_any-append}
 use Rattle.std.specs.Prelude.{filter_map, option_map}
 use Rattle.std.specs.List.{cons_option}
-use Rattle.cs_value.specs.Tree.{Tree, Pairs}
+use Rattle.cs_value.specs.Tree.{Tree}
 use Rattle.cs_value.specs.View.{fields}
-use Rattle.cs_syntax.specs.Expression.{Expression}
 use Rattle.cs_view.specs.Changes.{Edit}
 use Rattle.cs_view.specs.Document.{id_of}
 use Rattle.cs_view.specs.Keys.{has}
@@ -19,13 +18,15 @@ use Rattle.cs_codes.specs.Codes.{Seed, codes, id_code, is_among, key_code}
 use Rattle.cs_codes.specs.Kept.{IsKept}
 use Rattle.cs_codes.specs.Laws.{KeysAreListed}
 use Rattle.cs_interest.specs.Interest.{are_few, interest_code}
+use Rattle.cs_interest.specs.Laws.{NarrowestIsHad}
+use Rattle.cs_interest.specs.Narrow.{narrowest}
 use Rattle.cs_reply.specs.Reply.{Event}
 use Rattle.cs_plain.specs.Holds.{holds}
-use Rattle.cs_plain.specs.Keyed.{filter_key}
-use Rattle.cs_plain.specs.Laws.{TrueHasFilterKey}
+use Rattle.cs_plain.specs.Keyed.{alone_keys}
+use Rattle.cs_plain.specs.Laws.{TrueHasAloneKeys}
 use Rattle.cs_plain.specs.Predicates.{filter as filter_of}
 use Rattle.cs_listen.specs.Coded.{filter_code, side_codes, change_codes, changes_codes, is_sought, is_coded, are_coded}
-use Rattle.cs_listen.specs.Events.{Listener, sees, turned, transition, event_of, heard, events}
+use Rattle.cs_listen.specs.Events.{Listener, sees, turned, event_of, heard, events}
 use Rattle.cs_listen.specs.Listeners.{listener}
 use Rattle.cs_listen.specs.Told.{told, all_told}
 use Rattle.cs_listen.specs.declared.listening.Listening.{Listening}
@@ -71,7 +72,7 @@ neither false false b h = (refl, h)
 unsought : (c : ℕ) (xs ys : List ℕ) → is_sought c (xs ++ ys) ≡ false → (is_sought c xs ≡ false) × (is_sought c ys ≡ false)
 unsought c xs ys h = neither (nat_eq c 0) (is_among c xs) (is_among c ys) (ap (λ b. nat_eq c 0 || b) (sym (list_any-append (λ x. nat_eq c x) xs ys)) ∙ h)
 
-module _ (has_key : TrueHasFilterKey) (listed : KeysAreListed) (seed : Seed) (tx moment : List ℕ) (l : Listener) where
+module _ (has_keys : TrueHasAloneKeys) (narrow : NarrowestIsHad) (listed : KeysAreListed) (seed : Seed) (tx moment : List ℕ) (l : Listener) where
   abbrev code : ℕ
   code = filter_code seed l.filter l.params
 
@@ -80,7 +81,10 @@ module _ (has_key : TrueHasFilterKey) (listed : KeysAreListed) (seed : Seed) (tx
   not_seen (Some d) h = by_test (holds l.filter l.params d) refl where
     by_test : (b : Bool) → holds l.filter l.params d ≡ b → holds l.filter l.params d ≡ false
     by_test false f = f
-    by_test true f = absurd (true≢false (sym (key_sought listed seed d (filter_key l.filter l.params) (has_key l.filter l.params d f)) ∙ h))
+    by_test true f =
+        let keys = alone_keys l.filter l.params in
+        absurd (true≢false (sym (key_sought listed seed d (narrowest keys)
+        (narrow keys d (has_keys l.filter l.params d f))) ∙ h))
 
   not_heard : (e : Edit) → is_sought code (change_codes seed e) ≡ false → heard tx moment l e ≡ None
   not_heard e h =
@@ -100,21 +104,29 @@ module _ (has_key : TrueHasFilterKey) (listed : KeysAreListed) (seed : Seed) (tx
       by_first (Some x) is h = absurd (cc)
 
 -- ---- listeners that are asked by their codes are told what they hear
-module _ (has_key : TrueHasFilterKey) (listed : KeysAreListed) (seed : Seed) (sought tx moment : List ℕ) (cs : List Edit) (among : (x : ℕ) → is_among x sought ≡ is_among x (changes_codes seed cs)) where
-  one_told : (l : Listening) → is_coded seed l ≡ true → told sought tx moment cs l ≡ filter_map (heard tx moment (listener l)) cs
+module _ (has_keys : TrueHasAloneKeys) (narrow : NarrowestIsHad) (listed : KeysAreListed) (seed : Seed) (waiting sought tx moment : List ℕ) (cs : List Edit)
+    (among : (x : ℕ) → is_among x sought ≡ (is_among x waiting && is_among x (changes_codes seed cs))) where
+  one_told : (l : Listening) → is_coded seed waiting l ≡ true → told sought tx moment cs l ≡ filter_map (heard tx moment (listener l)) cs
   one_told l coded = by_test (is_sought l.code sought) refl where
-    code_is : l.code ≡ filter_code seed (filter_of l.predicate) (fields l.params)
-    code_is = eqb-true l.code (filter_code seed (filter_of l.predicate) (fields l.params)) coded
+    own_code : ℕ
+    own_code = filter_code seed (filter_of l.predicate) (fields l.params)
+
+    code_is : l.code ≡ own_code
+    code_is = eqb-true l.code own_code (and-left (nat_eq l.code own_code) (is_among l.code waiting) coded)
+
+    sought_is : is_among l.code sought ≡ is_among l.code (changes_codes seed cs)
+    sought_is = among l.code ∙ ap (λ b. b && is_among l.code (changes_codes seed cs))
+        (and-right (nat_eq l.code own_code) (is_among l.code waiting) coded)
 
     by_test : (b : Bool) → is_sought l.code sought ≡ b → cond b (filter_map (heard tx moment (listener l)) cs) [] ≡ filter_map (heard tx moment (listener l)) cs
     by_test true f = refl
-    by_test false f = sym (none_heard has_key listed seed tx moment (listener l) cs
+    by_test false f = sym (none_heard has_keys narrow listed seed tx moment (listener l) cs
         (ap (λ c. is_sought c (changes_codes seed cs)) (sym code_is)
-        ∙ ap (λ b. nat_eq l.code 0 || b) (sym (among l.code)) ∙ f))
+        ∙ ap (λ b. nat_eq l.code 0 || b) (sym sought_is) ∙ f))
 
-  pub told_is_heard : (ls : List Listening) → are_coded seed ls ≡ true
+  pub told_is_heard : (ls : List Listening) → are_coded seed waiting ls ≡ true
       → all_told sought tx moment cs ls ≡ events tx moment cs (map listener ls)
   told_is_heard [] coded = refl
   told_is_heard (l ∷ ls) coded =
-      ap (λ es. es ++ all_told sought tx moment cs ls) (one_told l (and-left (is_coded seed l) (are_coded seed ls) coded))
-      ∙ ap (λ es. filter_map (heard tx moment (listener l)) cs ++ es) (told_is_heard ls (and-right (is_coded seed l) (are_coded seed ls) coded))
+      ap (λ es. es ++ all_told sought tx moment cs ls) (one_told l (and-left (is_coded seed waiting l) (are_coded seed waiting ls) coded))
+      ∙ ap (λ es. filter_map (heard tx moment (listener l)) cs ++ es) (told_is_heard ls (and-right (is_coded seed waiting l) (are_coded seed waiting ls) coded))

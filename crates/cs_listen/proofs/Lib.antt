@@ -1,4 +1,5 @@
 pub mod Concerned
 mod Examples
 pub mod Keeping
+pub mod Waited
 pub mod Without

@@ -1,7 +1,7 @@
 -- Codes by which the listeners that changes concern are found: this project's profile. The code of
--- a listener is that of its filter's key; the codes of changes are those of what stands on their
--- sides.
-use Rattle.std.specs.Prelude.{ℕ, Bool, ◌||◌, List, [], ◌∷◌, ◌++◌, flat_map, Option, Some, None}
+-- a listener is that of the narrowest of its filter's keys; the codes of changes are those of what
+-- stands on their sides.
+use Rattle.std.specs.Prelude.{ℕ, Bool, ◌||◌, ◌&&◌, List, [], ◌∷◌, ◌++◌, flat_map, Option, Some, None}
 use Rattle.std.specs.Bool.{nat_eq}
 use Rattle.std.specs.List.{list_all}
 use Rattle.cs_value.specs.Tree.{Tree, Pairs}
@@ -11,13 +11,14 @@ use Rattle.cs_view.specs.Changes.{Edit}
 use Rattle.cs_view.specs.Document.{id_of}
 use Rattle.cs_codes.specs.Codes.{Seed, codes, id_code, is_among}
 use Rattle.cs_interest.specs.Interest.{interest_code}
-use Rattle.cs_plain.specs.Keyed.{filter_key}
+use Rattle.cs_interest.specs.Narrow.{narrowest}
+use Rattle.cs_plain.specs.Keyed.{alone_keys}
 use Rattle.cs_plain.specs.Predicates.{filter}
 use Rattle.cs_listen.specs.declared.listening.Listening.{Listening}
 
--- the code of a filter's key; that of every document is 0
+-- the code of the narrowest of a filter's keys; that of every document is 0
 abbrev pub filter_code : Seed → Expression → Pairs → ℕ
-filter_code seed f params = interest_code seed (filter_key f params)
+filter_code seed f params = interest_code seed (narrowest (alone_keys f params))
 
 -- the codes of what stands on a side of a change: of its id, and of the other keys that it has
 abbrev pub side_codes : Seed → Option Tree → List ℕ
@@ -34,9 +35,10 @@ changes_codes seed cs = flat_map (change_codes seed) cs
 abbrev pub is_sought : ℕ → List ℕ → Bool
 is_sought c cs = nat_eq c 0 || is_among c cs
 
--- listeners are held with the codes of their filters
-abbrev pub is_coded : Seed → Listening → Bool
-is_coded seed l = nat_eq l.code (filter_code seed (filter l.predicate) (fields l.params))
+-- the listener is held with the code of its filter, which is one of these
+abbrev pub is_coded : Seed → List ℕ → Listening → Bool
+is_coded seed cs l =
+    nat_eq l.code (filter_code seed (filter l.predicate) (fields l.params)) && is_among l.code cs
 
-abbrev pub are_coded : Seed → List Listening → Bool
-are_coded seed ls = list_all (is_coded seed) ls
+abbrev pub are_coded : Seed → List ℕ → List Listening → Bool
+are_coded seed cs ls = list_all (is_coded seed cs) ls

@@ -1,5 +1,6 @@
 //! The listeners of a store.
 ghost use Rattle.std.specs.Prelude.{◌≡◌, [], Some, true, false, IfOk, IfErr, OnOk, OnErr, map};
+ghost use Rattle.std.specs.List.Sorted.{IsNonDecreasing};
 ghost use Rattle.cs_value.specs.View.{fields};
 ghost use Rattle.cs_view.specs.View.{edits};
 ghost use Rattle.cs_syntax.specs.Queries.{query as expression_of};
@@ -10,9 +11,10 @@ ghost use Rattle.cs_reply.specs.View.{event};
 
 use crate::hearing::hear_all;
 use crate::listening::Listening;
-use crate::sought::{filter_code, sought_codes};
+use crate::sought::{filter_code, sought_codes, waiting_codes};
 use cs_codes::laws::keys_are_listed;
-use cs_plain::{Plain, true_has_filter_key};
+use cs_interest::laws::narrowest_is_had;
+use cs_plain::{Plain, true_has_alone_keys};
 use cs_reply::Event;
 use cs_syntax::Query;
 use cs_value::{Fields, NoMemory, NoName, Txt};
@@ -39,15 +41,18 @@ pub enum ListenFault {
 /// The listeners of a store, in the order made. A name is looked for among all of them, which are
 /// few: that happens where one is made or stopped, and not at a change.
 ///
-/// Each is held with the code of its filter's key. A change goes to those whose code is one that
-/// its document has, before it or after it, and to those whose filter has the key of every
-/// document.
+/// Each is held with the code of the narrowest of its filter's keys. A change goes to those whose
+/// code is one that its document has, before it or after it, and to those whose filter gives no
+/// key. The codes of all stand in one list besides, in which the codes of a change are sought
+/// first.
 #[derive(Drop)]
 pub struct Listeners {
     alloc: Global,
     seed: RandomState,
     made: Vec<Listening>,
-    pub ghost coded: { are_coded seed made.items ≡ true },
+    waiting: Vec<u64>,
+    pub ghost coded: { are_coded seed waiting.items made.items ≡ true },
+    pub ghost ascending: { IsNonDecreasing waiting.items },
 }
 
 impl Listeners {
@@ -62,6 +67,7 @@ impl Listeners {
             alloc,
             seed,
             made: Vec::new(alloc),
+            waiting: Vec::new(alloc),
         }
     }
 
@@ -127,6 +133,9 @@ impl Listeners {
         let Ok(code) = filter_code(self.alloc, &self.seed, &predicate, &params) else {
             return Err(ListenFault::NoMemory);
         };
+        let Ok(waiting) = waiting_codes(self.alloc, &self.made, code) else {
+            return Err(ListenFault::NoMemory);
+        };
         let listening = Listening {
             name,
             predicate,
@@ -136,7 +145,10 @@ impl Listeners {
             include_previous,
         };
         match self.made.push(listening) {
-            Ok(()) => Ok(()),
+            Ok(()) => {
+                self.waiting = waiting;
+                Ok(())
+            }
             Err(_refused) => Err(ListenFault::NoMemory),
         }
     }
@@ -168,13 +180,14 @@ impl Listeners {
         ensures { IfOk result (λ heard. map event heard.items
             ≡ events tx.now moment.now (edits changes.now) (listeners self.now)) }
     {
-        true_has_filter_key();
+        true_has_alone_keys();
+        narrowest_is_had();
         keys_are_listed();
         // Where no listener stands, no code is worked out.
         if self.made.is_empty() {
             return Ok(Vec::new(alloc));
         }
-        let sought = sought_codes(alloc, &self.seed, changes)?;
+        let sought = sought_codes(alloc, &self.seed, &self.waiting, changes)?;
         hear_all(alloc, &self.made, &sought, tx, moment, changes)
     }
 }

@@ -1,5 +1,5 @@
 //! The codes by which the listeners that changes concern are found.
-ghost use Rattle.std.specs.Prelude.{◌≡◌, ◌++◌, ℕ, IfOk, OnOk, option_map};
+ghost use Rattle.std.specs.Prelude.{◌≡◌, ◌++◌, ◌∷◌, ◌&&◌, ℕ, IfOk, OnOk, filter as only, map, option_map};
 ghost use Rattle.std.specs.List.Sorted.{IsNonDecreasing};
 ghost use Rattle.cs_value.specs.View.{fields};
 ghost use Rattle.cs_view.specs.View.{doc as document, edit, edits};
@@ -7,15 +7,16 @@ ghost use Rattle.cs_codes.specs.Codes.{is_among};
 ghost use Rattle.cs_plain.specs.Predicates.{filter};
 ghost use Rattle.cs_listen.specs.Coded.{change_codes, changes_codes, filter_code, is_sought, side_codes};
 
+use crate::listening::Listening;
 use cs_codes::{has_code, id_code, put_codes, sort_codes};
-use cs_interest::interest_code;
-use cs_plain::{Plain, key};
+use cs_interest::narrowest_code;
+use cs_plain::{Plain, keys};
 use cs_value::{Fields, NoMemory};
 use cs_view::{Change, Doc};
 use std::alloc::Global;
 use std::hash::RandomState;
 
-/// The code of a predicate's key.
+/// The code of the narrowest of a predicate's keys.
 pub(crate) fn filter_code(
     alloc: Global,
     seed: &RandomState,
@@ -25,8 +26,35 @@ pub(crate) fn filter_code(
     ensures { IfOk result (λ c. c
         ≡ filter_code seed.now (filter predicate.now) (fields params.now)) }
 {
-    let key = key(alloc, predicate, params)?;
-    Ok(interest_code(seed, &key))
+    let keys = keys(alloc, predicate, params)?;
+    Ok(narrowest_code(seed, &keys))
+}
+
+// The code, and those of the listeners.
+fn with_code(alloc: Global, made: &Vec<Listening>, code: u64) -> Result<Vec<u64>, NoMemory>
+    ensures { IfOk result (λ cs. cs.items ≡ code ∷ map (λ l. l.code) made.now.items) }
+{
+    let mut codes = Vec::new(alloc);
+    codes.push(code)?;
+    for listening in made {
+        codes.push(listening.code)?;
+    }
+    Ok(codes)
+}
+
+/// The code and those of the listeners, ascending.
+pub(crate) fn waiting_codes(
+    alloc: Global,
+    made: &Vec<Listening>,
+    code: u64,
+) -> Result<Vec<u64>, NoMemory>
+    ensures among { IfOk result (λ cs. (x : ℕ) → is_among x cs.items
+        ≡ is_among x (code ∷ map (λ l. l.code) made.now.items)) }
+    ensures ascending { IfOk result (λ cs. IsNonDecreasing cs.items) }
+{
+    let mut codes = with_code(alloc, made, code)?;
+    sort_codes(&mut codes);
+    Ok(codes)
 }
 
 // Puts the codes of what stands on a side of a change behind the others.
@@ -67,17 +95,36 @@ fn codes_of_changes(
     Ok(out)
 }
 
-/// The codes of changes, ascending.
+// Those of the codes that are among some which ascend.
+fn waited(alloc: Global, waiting: &Vec<u64>, codes: &Vec<u64>) -> Result<Vec<u64>, NoMemory>
+    requires { IsNonDecreasing waiting.now.items }
+    ensures { IfOk result
+        (λ cs. cs.items ≡ only (λ x. is_among x waiting.now.items) codes.now.items) }
+{
+    let mut out = Vec::new(alloc);
+    for code in codes {
+        if has_code(waiting, *code) {
+            out.push(*code)?;
+        }
+    }
+    Ok(out)
+}
+
+/// The codes of changes that are among some which ascend, ascending.
 pub(crate) fn sought_codes(
     alloc: Global,
     seed: &RandomState,
+    waiting: &Vec<u64>,
     changes: &[Change],
 ) -> Result<Vec<u64>, NoMemory>
+    requires { IsNonDecreasing waiting.now.items }
     ensures among { IfOk result (λ cs. (x : ℕ) → is_among x cs.items
-        ≡ is_among x (changes_codes seed.now (edits changes.now))) }
+        ≡ (is_among x waiting.now.items && is_among x (changes_codes seed.now
+        (edits changes.now)))) }
     ensures ascending { IfOk result (λ cs. IsNonDecreasing cs.items) }
 {
-    let mut codes = codes_of_changes(alloc, seed, changes)?;
+    let all = codes_of_changes(alloc, seed, changes)?;
+    let mut codes = waited(alloc, waiting, &all)?;
     sort_codes(&mut codes);
     Ok(codes)
 }

@@ -16,6 +16,7 @@ pub invariant_of-self : goal.invariant_of-self
 invariant_of-self c =
     let others : Listening → Bool = λ l. not (has_name c.args.name.now (listener l)) in
     record {
-      coded = ap (are_coded c.args.self.now.seed) (filter_same _ others _ (λ x b f' k. search rules) _ _ c.retain.ensures.filtered)
-          ∙ coded_kept c.args.self.now.seed others c.args.self.now.made.items c.args.self.now.coded;
+      coded = ap (are_coded c.args.self.now.seed c.args.self.now.waiting.items) (filter_same _ others _ (λ x b f' k. search rules) _ _ c.retain.ensures.filtered)
+          ∙ coded_kept c.args.self.now.seed c.args.self.now.waiting.items others c.args.self.now.made.items c.args.self.now.coded;
+      ascending = c.args.self.now.ascending;
     }
