@@ -26,6 +26,12 @@ pub struct Index {
     pub(crate) alloc: Global,
 }
 
+// Up to so many entries under a key it is worth to go by them: to test each document in turn costs
+// less than to find one in four by an entry and to bring what is found in order.
+fn worth(docs: &Docs) -> usize {
+    (docs.len() as usize / 4).max(16)
+}
+
 impl Index {
     /// The index of the documents of a store. `NoMemory` where the allocator has no room for it.
     pub fn build(alloc: Global, seed: RandomState, docs: &Docs) -> Result<Index, NoMemory>
@@ -70,7 +76,8 @@ impl Index {
 
     /// The places of the documents that have each of the keys, in the order of their ids. Of the
     /// documents that the index names under one of the keys each is tested: under an id if there is
-    /// one, else under a key of few documents. `NoMemory` where the allocator has no room for them.
+    /// one, else under a key of few documents. Where a quarter of all documents stand under each
+    /// key, every document is tested. `NoMemory` where the allocator has no room for them.
     pub fn select_all(&self, alloc: Global, keys: &[Key], docs: &Docs) -> Result<Vec<u32>, NoMemory>
         requires { IsIndexOf self.now docs.now }
         ensures { IfOk result (λ places. ArePlacesOf keys.now docs.now places.items) }
@@ -78,7 +85,7 @@ impl Index {
         if let Some(id) = id_among(keys) {
             return place_of_id(alloc, id, keys, docs);
         }
-        match rarest(&self.seed, &self.entries, keys) {
+        match rarest(&self.seed, &self.entries, keys, worth(docs)) {
             Some(key) => places_under(alloc, &self.seed, &self.entries, key, keys, docs),
             None => {
                 let places = docs.select_all(alloc, keys)?;

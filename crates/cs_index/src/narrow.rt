@@ -54,18 +54,6 @@ pub(crate) fn id_among(keys: &[Key]) -> Option<&Txt>
     None
 }
 
-// The first key that the index keeps.
-fn first_kept(keys: &[Key]) -> Option<&Key>
-    ensures { IfSome result (λ key. IsKept key.now × IsImplied key.now keys.now) }
-{
-    for key in keys {
-        if is_kept(key) {
-            return Some(key);
-        }
-    }
-    None
-}
-
 // The first key that the index keeps and under which at most so many entries stand.
 fn first_of_few<'k>(
     seed: &RandomState,
@@ -85,20 +73,22 @@ fn first_of_few<'k>(
 
 /// Of the keys that the index keeps one under which hardly more entries stand than under any other.
 /// To find it, no more than some twenty entries are counted for each that stands under it and each
-/// key. `None` where the index keeps none of them.
+/// key. `None` where more than `most` entries stand under each of them.
 pub(crate) fn rarest<'k>(
     seed: &RandomState,
     entries: &BTreeSet<Entry>,
     keys: &'k [Key],
+    most: usize,
 ) -> Option<&'k Key>
     ensures { IfSome result (λ key. IsKept key.now × IsImplied key.now keys.now) }
 {
-    if keys.len() > 1 {
-        for most in [16, 256, 4_096, 65_536] {
-            if let Some(key) = first_of_few(seed, entries, keys, most) {
-                return Some(key);
-            }
+    for few in [16, 256, 4_096, 65_536] {
+        if few >= most {
+            break;
+        }
+        if let Some(key) = first_of_few(seed, entries, keys, few) {
+            return Some(key);
         }
     }
-    first_kept(keys)
+    first_of_few(seed, entries, keys, most)
 }
