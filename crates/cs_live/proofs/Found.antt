@@ -13,13 +13,12 @@ use Rattle.cs_view.proofs.Booleans.{or-left, or-right}
 use Rattle.cs_codes.specs.Codes.{Seed, is_among}
 use Rattle.cs_interest.specs.Interest.{holds, is_of, Entered, Left}
 use Rattle.cs_interest.specs.declared.interest.Interest.{Interest}
-use Rattle.cs_live.specs.Found.{IsFound, IsCoded, KeepsOthers, AreFoundBy, Ascend, numbers, codes_of, has_code}
+use Rattle.cs_live.specs.Found.{IsFound, IsCoded, KeepsOthers, AreFoundBy, Ascend, numbers, codes_of, has_code, hit_key}
 use Rattle.cs_live.specs.declared.entry.Entry.{Entry}
 use Rattle.cs_live.specs.declared.entry.Kept.{Kept}
 use Rattle.cs_live.specs.declared.entry.Kept.TheVariants.{InRows}
 use Rattle.cs_live.specs.declared.rows.Rows.{Rows}
 use Rattle.cs_live.specs.Rows.{AsksTheSame}
-use Rattle.cs_plan.specs.Simple.{query_key}
 
 -- ---- numbers
 pub number-at : (es : List Entry) (j : ℕ) (d : Entry) (x : ℕ) → j < length es → get_or (numbers es) j x ≡ (get_or es j d).number
@@ -224,7 +223,7 @@ module _ (i j k : Interest) (m : ℕ) (old new : Kept) (left : Left m (codes_of 
 pub found-rows : (i : Interest) (m : ℕ) (old new : Rows) → AsksTheSame old new → IsFound i m (InRows old) → IsFound i m (InRows new)
 found-rows i m old new asks found = record {
   stands = λ c. found.stands c ∙ (λ x. is_among c (sym asks.codes x).items);
-  coded = λ c. (λ x. is_among c (asks.codes x).items) ∙ found.coded c ∙ (λ x. has_code i.seed c (query_key (sym asks.query x) (sym asks.params x) ∷ []));
+  coded = λ c. (λ x. is_among c (asks.codes x).items) ∙ found.coded c ∙ (λ x. has_code i.seed c (hit_key (sym asks.query x) (sym asks.params x) ∷ []));
 }
 
 -- codes that were entered and left again

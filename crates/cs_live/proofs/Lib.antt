@@ -7,4 +7,5 @@ mod News
 mod Places
 mod Refreshing
 mod Sames
+mod Simple
 mod Untouched

@@ -38,6 +38,7 @@ still_fits settles untouched back docs cs h changes leads r quiet fits =
     let stays : (k : Key) → Contains (keys_of r.keys) k → Sel k (Before docs cs) ≡ Sel k docs = λ k at. untouched docs cs h changes (keys_of r.keys) quiet k at ∙ ap (Sel k) on.0 in
     let settled = settles (query r.query) (fields r.params) (null ∷ []) (Before docs cs) docs (λ k at. stays k (fits.keys.back k at)) in
     record {
+      compound = fits.compound;
       last = fits.last ∙ settled.0;
       keys = record {
         there = λ k at. subst (λ ks. Contains ks k) settled.1 (fits.keys.there k at);

@@ -1,25 +1,27 @@
 -- An entry that is not asked stays as it is.
 use Rattle.std.proofs.Common.{◌≡◌, ◌∙◌, ℕ, ◌<◌, get_or, arith, List, [], ◌∷◌, Bool, true, false, cond, ◌||◌, refl, sym, ap, true≢false, nat_eq, eq-eqb}
 use Rattle.std.proofs.lemmas.List.Elements.{Contains-push}
-use Rattle.cs_value.specs.Tree.{Tree}
+use Rattle.cs_value.specs.Tree.{Tree, null, Pairs}
 use Rattle.cs_value.specs.View.{fields}
+use Rattle.cs_syntax.specs.Expression.{Expression}
 use Rattle.cs_syntax.specs.Queries.{query}
 use Rattle.cs_view.specs.Changes.{Edit, are_changes, LeadTo, Before}
 use Rattle.cs_view.specs.Dataset.{ascending}
-use Rattle.cs_view.specs.Keys.{Sel}
+use Rattle.cs_view.specs.Keys.{Sel, has}
 use Rattle.cs_view.specs.Laws.{ChangesLeadBackAndOn, UntouchedSelectsTheSame}
 use Rattle.cs_view.specs.Touched.{touched, is_touched}
 use Rattle.cs_view.specs.declared.key.Key.{Key}
-use Rattle.cs_plan.specs.Simple.{query_key}
-use Rattle.cs_meaning.specs.Laws.{LookedSettlesValue, SimpleIsTailOfHits, HitsHaveKey}
-use Rattle.cs_meaning.specs.Hits.{hits, tail}
+use Rattle.cs_plan.specs.Simple.{filter_of, steps_behind, query_keys}
+use Rattle.cs_meaning.specs.Laws.{LookedSettlesValue, SimpleIsTailOfHits, TrueHasEachKey}
+use Rattle.cs_meaning.specs.Hits.{is_hit, hits, tail}
+use Rattle.cs_meaning.proofs.Sound.{filter-within}
 use Rattle.cs_interest.specs.Interest.{holds, interest_code, is_asked}
-use Rattle.cs_interest.specs.Laws.{TouchedIsAsked}
+use Rattle.cs_interest.specs.Laws.{NarrowestIsHad, TouchedIsAsked}
 use Rattle.cs_interest.specs.declared.interest.Interest.{Interest}
 use Rattle.cs_live.specs.Brought.{Still, UnaskedStays}
 use Rattle.cs_live.specs.Entries.{entries, live_query, last_of}
 use Rattle.cs_live.specs.Fits.{FitsKept, FitsRows, RefreshesKept}
-use Rattle.cs_live.specs.Found.{IsFound, has_code, interests}
+use Rattle.cs_live.specs.Found.{IsFound, has_code, hit_key, interests}
 use Rattle.cs_live.specs.Lives.{is_stale, news_of, refreshed, say}
 use Rattle.cs_live.specs.Rows.{rows}
 use Rattle.cs_live.specs.declared.entry.Entry.{Entry}
@@ -49,11 +51,22 @@ module _ (asks : TouchedIsAsked) (i : Interest) (cs : List Edit) (changes : are_
   untouched_keys k found = none_touched (interests k) (λ c h. found.stands c ∙ found.coded c ∙ h)
 
 -- ---- what is untouched is refreshed as it stands
-pub rows-still : SimpleIsTailOfHits → HitsHaveKey → UntouchedSelectsTheSame → ChangesLeadBackAndOn
+-- the hits of a query are hits among the documents that have its hits' key
+abbrev pub HitsHaveHitKey : Type 0
+HitsHaveHitKey = (e : Expression) (params : Pairs) (docs : List Tree)
+    → hits e params docs ≡ hits e params (Sel (hit_key e params) docs)
+
+pub hits_have_hit_key : TrueHasEachKey → NarrowestIsHad → HitsHaveHitKey
+hits_have_hit_key each narrow e params docs =
+    filter-within (is_hit e params) (has (hit_key e params))
+    (λ d h. narrow (query_keys e params) d
+    ((each (filter_of (steps_behind e)) params (null ∷ []) [] d).0 h)) docs
+
+pub rows-still : SimpleIsTailOfHits → HitsHaveHitKey → UntouchedSelectsTheSame → ChangesLeadBackAndOn
     → (docs : List Tree) (cs : List Edit) → ascending docs ≡ true → are_changes cs ≡ true → LeadTo docs cs
-    → (r : Rows) → touched (query_key (query r.query) (fields r.params) ∷ []) cs ≡ false → FitsRows (Before docs cs) r → RefreshesKept docs cs (InRows r) (InRows r)
+    → (r : Rows) → touched (hit_key (query r.query) (fields r.params) ∷ []) cs ≡ false → FitsRows (Before docs cs) r → RefreshesKept docs cs (InRows r) (InRows r)
 rows-still settles have untouched back docs cs h changes leads r quiet fits =
-    let e = query r.query in let params = fields r.params in let key = query_key e params in
+    let e = query r.query in let params = fields r.params in let key = hit_key e params in
     let same : Sel key (Before docs cs) ≡ Sel key docs =
     untouched docs cs h changes (key ∷ []) quiet key (Contains-push [] key) ∙ ap (Sel key) (back docs cs h changes leads).0 in
     let here : rows r ≡ hits e params docs = fits.rows ∙ have e params (Before docs cs) ∙ ap (hits e params) same ∙ sym (have e params docs) in
@@ -67,7 +80,7 @@ rows-still settles have untouched back docs cs h changes leads r quiet fits =
       records = tt;
     }
 
-pub kept-still : LookedSettlesValue → SimpleIsTailOfHits → HitsHaveKey → UntouchedSelectsTheSame → ChangesLeadBackAndOn
+pub kept-still : LookedSettlesValue → SimpleIsTailOfHits → HitsHaveHitKey → UntouchedSelectsTheSame → ChangesLeadBackAndOn
     → (docs : List Tree) (cs : List Edit) → ascending docs ≡ true → are_changes cs ≡ true → LeadTo docs cs
     → (k : Kept) → touched (interests k) cs ≡ false → FitsKept (Before docs cs) k → RefreshesKept docs cs k k
 kept-still looked settles have untouched back docs cs h changes leads (ByRecord r) quiet fits = untouched-refreshed looked untouched back docs cs h changes leads r quiet fits
@@ -82,7 +95,7 @@ still docs cs e m = record {
   silent = no-line docs e false (not_another (last_of e.kept) _ m.answers.last) refl;
 }
 
-pub unasked-still : TouchedIsAsked → LookedSettlesValue → SimpleIsTailOfHits → HitsHaveKey → UntouchedSelectsTheSame → ChangesLeadBackAndOn → UnaskedStays
+pub unasked-still : TouchedIsAsked → LookedSettlesValue → SimpleIsTailOfHits → HitsHaveHitKey → UntouchedSelectsTheSame → ChangesLeadBackAndOn → UnaskedStays
 unasked-still asks looked settles have untouched back docs cs l ns sorted changes leads fits asked j e low none =
     let d : Entry = get_or (entries l) j e in
     let found : IsFound l.interest d.number d.kept = fits.found.found j e low in

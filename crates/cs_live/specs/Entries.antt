@@ -26,7 +26,8 @@ last_of (InRows r) = tree r.answer
 
 abbrev pub live_query : Entry → LiveQuery
 live_query e =
-    record { name = e.name; query = query_of e.kept; params = params_of e.kept; last = last_of e.kept }
+    let k = e.kept in
+    record { name = e.name; query = query_of k; params = params_of k; last = last_of k }
 
 abbrev pub entries : Live → List Entry
 entries l = l.entries.items
@@ -40,7 +41,8 @@ pub record IsAt (name : List ℕ) (es : List Entry) (i : ℕ) : Type 0 where
   pub within : i < length es
   pub named : is_named name (map live_query es) ≡ true
   pub left : without_name name (map live_query es) ≡ map live_query (remove es i)
-  pub answer : (d : Entry) → answer_of name (map live_query es) ≡ Some (last_of (get_or es i d).kept)
+  pub answer : (d : Entry)
+      → answer_of name (map live_query es) ≡ Some (last_of (get_or es i d).kept)
 
 -- where it stands, if it does
 abbrev pub IsPlace : List ℕ → List Entry → Option ℕ → Type 0

@@ -32,9 +32,10 @@ pub record SameKeys (one other : List Key) : Type 0 where
   pub there : (k : Key) → Contains one k → Contains other k
   pub back : (k : Key) → Contains other k → Contains one k
 
--- an answer that is kept by its record fits a dataset: it is the value over it, and the keys are
--- those that finding it looks up, and no other
+-- an answer that is kept by its record fits a dataset: its query is not simple, it is the value
+-- over the dataset, and the keys are those that finding it looks up, and no other
 pub record FitsRecord (docs : List Tree) (r : Recorded) : Type 0 where
+  pub compound : is_simple (query r.query) ≡ false
   pub last : tree r.last ≡ query_value docs (fields r.params) (query r.query)
   pub keys : SameKeys (keys_of r.keys) (query_looked docs (fields r.params) (query r.query))
 

@@ -3,12 +3,15 @@
 use Rattle.std.specs.Prelude.{◌≡◌, ℕ, ◌<◌, ◌≤◌, length, get_or, Bool, false, List, [], ◌∷◌, map, Result, Ok, Err}
 use Rattle.std.specs.Bool.{nat_eq}
 use Rattle.std.specs.List.{All, AllPairs, list_any}
+use Rattle.cs_value.specs.Tree.{Pairs}
 use Rattle.cs_value.specs.View.{fields}
+use Rattle.cs_syntax.specs.Expression.{Expression}
 use Rattle.cs_syntax.specs.Queries.{query}
 use Rattle.cs_view.specs.declared.key.Key.{Key}
-use Rattle.cs_plan.specs.Simple.{query_key}
+use Rattle.cs_plan.specs.Simple.{query_keys}
 use Rattle.cs_codes.specs.Codes.{Seed, is_among}
 use Rattle.cs_interest.specs.Interest.{holds, interest_code}
+use Rattle.cs_interest.specs.Narrow.{narrowest}
 use Rattle.cs_interest.specs.declared.interest.Interest.{Interest}
 use Rattle.cs_live.specs.Entries.{entries}
 use Rattle.cs_live.specs.Keys.{keys_of}
@@ -17,10 +20,15 @@ use Rattle.cs_live.specs.declared.entry.Kept.{Kept}
 use Rattle.cs_live.specs.declared.entry.Kept.TheVariants.{ByRecord, InRows}
 use Rattle.cs_live.specs.declared.live.Live.{Live}
 
--- the keys whose documents an answer depends on: those of its record, or that of its simple query
+-- the narrowest of the keys that each hit of a simple query has
+abbrev pub hit_key : Expression → Pairs → Key
+hit_key e params = narrowest (query_keys e params)
+
+-- the keys whose documents an answer depends on: those of its record, or that of the hits of its
+-- simple query
 abbrev pub interests : Kept → List Key
 interests (ByRecord r) = keys_of r.keys
-interests (InRows r) = query_key (query r.query) (fields r.params) ∷ []
+interests (InRows r) = hit_key (query r.query) (fields r.params) ∷ []
 
 -- the codes that are kept with it
 abbrev pub codes_of : Kept → List ℕ

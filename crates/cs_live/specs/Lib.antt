@@ -3,5 +3,6 @@ pub mod Entries
 pub mod Fits
 pub mod Found
 pub mod Keys
+pub mod Laws
 pub mod Lives
 pub mod Rows

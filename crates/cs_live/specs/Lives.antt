@@ -1,9 +1,10 @@
 -- Live queries as the plain machine holds them: this project's profile.
 use Rattle.std.specs.Prelude.{ℕ, List, [], ◌∷◌, cond, map, filter, Bool, not, Option, Some, None}
-use Rattle.std.specs.List.{list_any}
+use Rattle.std.specs.List.{list_any, list_all}
 use Rattle.std.specs.Str.{bytes_eq}
 use Rattle.cs_value.specs.Tree.{Tree, Pairs}
 use Rattle.cs_syntax.specs.Expression.{Expression}
+use Rattle.cs_plan.specs.Simple.{is_simple}
 use Rattle.cs_meaning.specs.Values.{query_value}
 use Rattle.cs_value.specs.Same.{same_tree}
 
@@ -13,6 +14,10 @@ pub record LiveQuery : Type 0 where
   pub query : Expression
   pub params : Pairs
   pub last : Tree
+
+-- each of the queries is simple
+abbrev pub are_simple_lives : List LiveQuery → Bool
+are_simple_lives es = list_all (λ e. is_simple e.query) es
 
 -- its value over a dataset
 abbrev pub value_of : List Tree → LiveQuery → Tree

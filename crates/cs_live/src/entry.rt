@@ -109,7 +109,8 @@ impl Kept {
         requires found { IsFound interest.old number self.old }
         ensures refreshed { OnOk result
             (RefreshesKept (V.docs view.now) (edits changes.now) self.old self.new) }
-        ensures stale { IfOk result (λ b. b ≡ not (same_tree (last_of self.new) (last_of self.old))) }
+        ensures stale { IfOk result
+            (λ b. b ≡ not (same_tree (last_of self.new) (last_of self.old))) }
         ensures quiet { IsQuiet (edits changes.now) self.old → steps.new ≡ steps.old }
         ensures found { OnOk result (IsFound interest.new number self.new) }
         ensures others { OnOk result (KeepsOthers number interest.old interest.new) }

@@ -10,4 +10,5 @@ mod rows;
 mod same;
 
 pub use entry::LiveLine;
+pub use laws::simple_lives_ask_nothing;
 pub use live::{Live, LiveFault, MOST_LIVES};

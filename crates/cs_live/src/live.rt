@@ -287,9 +287,9 @@ impl Live {
 
     /// After a commit of the changes: one line for each live query whose answer is another tree
     /// now, in the order made. The view is the dataset after the changes, and the live queries fit
-    /// the one before them. It goes to those alone whose keys the changes may touch. Where no change
-    /// touches a record, nothing is asked of the view. After `NoMemory` some answers are those
-    /// before the changes, and some those after.
+    /// the one before them. It goes to those alone whose keys the changes may touch. Where no
+    /// change touches a record, nothing is asked of the view. After `NoMemory` some answers are
+    /// those before the changes, and some those after.
     pub fn after_commit<V: View<L>, L: Ledger>(
         &mut self,
         view: &V,

@@ -6,6 +6,7 @@ ghost use Rattle.cs_syntax.specs.Queries.{query as query_of};
 ghost use Rattle.cs_view.specs.Changes.{are_changes, LeadTo, Before};
 ghost use Rattle.cs_view.specs.Touched.{touched};
 ghost use Rattle.cs_view.specs.View.{edits};
+ghost use Rattle.cs_plan.specs.Simple.{is_simple};
 ghost use Rattle.cs_live.specs.Fits.{Answers, FitsRecord, RefreshesKept};
 ghost use Rattle.cs_live.specs.Found.{IsCoded, IsFound, KeepsOthers};
 ghost use Rattle.cs_live.specs.Keys.{keys_of};
@@ -33,7 +34,7 @@ pub(crate) struct Recorded {
 }
 
 impl Recorded {
-    /// The query with its value over the view as its answer.
+    /// The query, which is not simple, with its value over the view as its answer.
     pub(crate) fn build<V: View<L>, L: Ledger>(
         alloc: Global,
         seed: &RandomState,
@@ -42,6 +43,7 @@ impl Recorded {
         view: &V,
         steps: &mut Steps<L>,
     ) -> Result<Recorded, NoMemory>
+        requires compound { is_simple (query_of query) ≡ false }
         ensures answers { IfOk result (λ r. Answers (V.docs view.now) (query_of query)
             (fields params) (Kept.ByRecord r)) }
         ensures coded { IfOk result (λ r. IsCoded seed.now (Kept.ByRecord r)) }

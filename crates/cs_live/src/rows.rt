@@ -7,17 +7,17 @@ ghost use Rattle.cs_view.specs.Changes.{are_changes, LeadTo, Before, After, chan
 ghost use Rattle.cs_view.specs.Dataset.{ascending, kept_if, placed, with_doc, without};
 ghost use Rattle.cs_view.specs.Document.{id_of};
 ghost use Rattle.cs_view.specs.View.{doc as document, edit, edits};
-ghost use Rattle.cs_plan.specs.Simple.{is_simple, query_key};
+ghost use Rattle.cs_plan.specs.Simple.{is_simple};
 ghost use Rattle.cs_interest.specs.Interest.{interest_code};
 ghost use Rattle.cs_meaning.specs.Hits.{cost};
 ghost use Rattle.cs_live.specs.Fits.{Answers, FitsRows, RefreshesKept};
-ghost use Rattle.cs_live.specs.Found.{IsCoded};
+ghost use Rattle.cs_live.specs.Found.{IsCoded, hit_key};
 ghost use Rattle.cs_live.specs.Rows.{rows, is_row, AsksTheSame, IsAnswered, IsPlaceOf};
 ghost use Rattle.cs_live.specs.declared.entry.Kept.{Kept};
 
 use crate::same::is_same;
-use cs_eval::{hit, hits, key_of, simple_is_tail_of_hits, tail};
-use cs_interest::interest_code;
+use cs_eval::{hit, hits, keys_of, simple_is_tail_of_hits, tail};
+use cs_interest::narrowest_code;
 use cs_syntax::Query;
 use cs_value::{Fields, NoMemory, Steps, Txt, Val};
 use cs_view::laws::{changes_lead_back_and_on, filter_follows_changes};
@@ -27,7 +27,7 @@ use std::hash::RandomState;
 use std::sync::ledger::Ledger;
 
 /// A simple query with the documents that make its filter true, by ascending id, its answer, and
-/// the code under which interest in its key is held.
+/// the code under which interest in these documents is held.
 #[derive(Drop)]
 pub(crate) struct Rows {
     pub(crate) query: Query,
@@ -73,17 +73,7 @@ fn remove(docs: &mut Vec<Doc>, id: &Txt) -> bool
     }
 }
 
-// The code under which interest in the key of a simple query is held.
-fn code(alloc: Global, seed: &RandomState, query: &Query, params: &Fields) -> Result<u64, NoMemory>
-    requires { is_simple (query_of query.now) ≡ true }
-    ensures { IfOk result (λ c. c
-        ≡ interest_code seed.now (query_key (query_of query.now) (fields params.now))) }
-{
-    let key = key_of(alloc, query, params)?;
-    Ok(interest_code(seed, &key))
-}
-
-// That code, as a list.
+// The code under which interest in the hits of a simple query is held, as a list.
 fn codes(
     alloc: Global,
     seed: &RandomState,
@@ -92,10 +82,11 @@ fn codes(
 ) -> Result<Vec<u64>, NoMemory>
     requires { is_simple (query_of query.now) ≡ true }
     ensures { IfOk result (λ cs. cs.items
-        ≡ interest_code seed.now (query_key (query_of query.now) (fields params.now)) ∷ []) }
+        ≡ interest_code seed.now (hit_key (query_of query.now) (fields params.now)) ∷ []) }
 {
+    let keys = keys_of(alloc, query, params)?;
     let mut codes = Vec::new(alloc);
-    codes.push(code(alloc, seed, query, params)?)?;
+    codes.push(narrowest_code(seed, &keys))?;
     Ok(codes)
 }
 
