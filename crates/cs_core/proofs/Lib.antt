@@ -2,6 +2,7 @@ mod Listening
 mod Living
 mod Noting
 mod Replying
+mod Simple
 mod Storing
 mod Tallies
 mod Told

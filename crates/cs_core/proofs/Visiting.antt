@@ -13,12 +13,13 @@ use Rattle.cs_body.specs.Transaction.{Transaction}
 use Rattle.cs_txn.specs.Visits.{are_simple, costs, is_simple_reading, reading_cost}
 use Rattle.cs_docs.specs.Store.{docs}
 use Rattle.cs_live.specs.Fits.{IsUntouched}
+use Rattle.cs_live.specs.Laws.{SimpleLivesAskNothing}
 use Rattle.cs_machine.specs.Fold.{Stepped}
 use Rattle.cs_machine.specs.Machine.{deepest_line, heard, step}
 use Rattle.cs_machine.specs.Rows.{row, installed, by_transaction}
 use Rattle.cs_machine.specs.State.{State}
-use Rattle.cs_core.specs.Core.{state}
-use Rattle.cs_core.specs.Visits.{VisitsFew, transaction_cost, is_simple_command, command_cost, read_command, is_simple_line, line_cost}
+use Rattle.cs_core.specs.Core.{state, IsSound}
+use Rattle.cs_core.specs.Visits.{CostsAtMost, VisitsFew, transaction_cost, is_simple_command, command_cost, read_command, is_simple_line, line_cost}
 use Rattle.cs_core.specs.declared.machine.Core.{Core}
 use Rattle.cs_core.proofs.Replying.{step_heard}
 
@@ -87,3 +88,11 @@ few_heard core n line old new b h =
     (subst (λ c. VisitsFew (is_simple_command n (cond c None read))
     (command_cost (state core) n (cond c None read)) core
     (heard row (state core) n (outcome deepest_line line)) old new) (sym b) h)
+
+-- no live query is asked where each is simple
+pub few_of_simple : SimpleLivesAskNothing → (b : Bool) (n : ℕ) (core : Core)
+    (out : Stepped State) (old new : ℕ) → IsSound core → core.spent ≡ false
+    → VisitsFew b n core out old new → CostsAtMost b n (state core) old new
+few_of_simple quiet b n core out old new sound unspent few simple lives =
+    few simple (quiet core.live (docs core.docs)
+    (changes_between (docs core.docs) out.state.docs) (sound unspent).lives lives)

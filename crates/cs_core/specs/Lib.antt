@@ -1,3 +1,4 @@
 pub mod Core
 pub mod Does
+pub mod Laws
 pub mod Visits

@@ -11,6 +11,7 @@ use Rattle.cs_body.specs.Transaction.{Transaction}
 use Rattle.cs_txn.specs.Visits.{are_simple, costs, is_simple_reading, reading_cost}
 use Rattle.cs_docs.specs.Store.{docs}
 use Rattle.cs_live.specs.Fits.{IsUntouched}
+use Rattle.cs_live.specs.Lives.{are_simple_lives}
 use Rattle.cs_machine.specs.Fold.{Stepped}
 use Rattle.cs_machine.specs.Machine.{deepest_line}
 use Rattle.cs_machine.specs.State.{State}
@@ -83,3 +84,9 @@ abbrev pub VisitsFew : Bool → ℕ → Core → Stepped State → ℕ → ℕ �
 VisitsFew simple cost old out before after =
     simple ≡ true → IsUntouched old.live (changes_between (docs old.docs) out.state.docs)
     → after ≤ before + cost
+
+-- The counter rose by at most this cost, if the queries of the line and all live queries are
+-- simple: a commit adds nothing for these.
+abbrev pub CostsAtMost : Bool → ℕ → State → ℕ → ℕ → Type 0
+CostsAtMost simple cost s before after =
+    simple ≡ true → are_simple_lives s.lives ≡ true → after ≤ before + cost

@@ -19,7 +19,7 @@ ghost use Rattle.cs_machine.specs.Machine.{by_command, heard, step};
 ghost use Rattle.cs_machine.specs.Refused.{refuse};
 ghost use Rattle.cs_machine.specs.Rows.{row};
 ghost use Rattle.cs_machine.specs.State.{begun};
-ghost use Rattle.cs_core.specs.Visits.{VisitsFew, is_simple_line, is_simple_command, is_simple_request, line_cost, command_cost, request_cost, read_command};
+ghost use Rattle.cs_core.specs.Visits.{CostsAtMost, VisitsFew, is_simple_line, is_simple_command, is_simple_request, line_cost, command_cost, request_cost, read_command};
 
 use cs_docs::Docs;
 use cs_gen::Tally;
@@ -27,7 +27,7 @@ use cs_index::{Index, Indexed};
 use cs_io::Line;
 use cs_json::{JsonFault, ValueReader};
 use cs_listen::Listeners;
-use cs_live::Live;
+use cs_live::{Live, simple_lives_ask_nothing};
 use cs_reply::{Refusal, Reply};
 use cs_value::{NoMemory, Steps, Txt, Val};
 use cs_wire::{BadCommand, Command, commands_are_within, is_blank};
@@ -164,7 +164,8 @@ impl Core {
     ///
     /// Where each query of the line is refused or simple, and the line's changes touch no record
     /// that a live query keeps, the counter rises by at most the costs of these queries: not at all
-    /// over a transaction without a query.
+    /// over a transaction without a query. Nor does it rise further where each live query is
+    /// simple, whatever the line changes.
     pub fn step<L: Ledger>(
         &mut self,
         line: &Line,
@@ -187,7 +188,11 @@ impl Core {
         ensures visits { VisitsFew (is_simple_line line.now.number line.now.bytes.items)
             (line_cost (state self.old) line.now.number line.now.bytes.items) self.old
             (step (state self.old) line.now.number line.now.bytes.items) steps.old steps.new }
+        ensures costs { CostsAtMost (is_simple_line line.now.number line.now.bytes.items)
+            (line_cost (state self.old) line.now.number line.now.bytes.items) (state self.old)
+            steps.old steps.new }
     {
+        simple_lives_ask_nothing();
         if self.spent {
             return Err(CoreFault::Spent);
         }

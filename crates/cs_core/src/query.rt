@@ -80,7 +80,8 @@ impl Core {
     ) -> Result<(), NoMemory>
         requires fitting { IsFitting self.now }
         ensures appended { OnOk result (Appended out.old.items out.new.items (reply_tree line
-            (found_reply (query_value (docs_of self.now.docs) (fields params.now) (expression_of query.now))))) }
+            (found_reply (query_value (docs_of self.now.docs) (fields params.now)
+            (expression_of query.now))))) }
         ensures visits { is_simple (expression_of query.now) ≡ true → steps.new ≤ steps.old
             + cost (expression_of query.now) (fields params.now) (docs_of self.now.docs) }
     {

@@ -1,3 +1,4 @@
+mod Costing
 mod Folding
 mod Generating
 mod Headlines

@@ -21,6 +21,11 @@ use Rattle.cs_run.specs.declared.status.Status.{Status}
 use Rattle.cs_run.specs.declared.status.Status.TheVariants as status
 use Rattle.cs_reply.specs.Stated.{stated_line, long_line, much, script as script_source}
 use Rattle.cs_io.proofs.Feeds.{given_line, given_told, given_end, given_long, given_much, left_from_rest, texts_more, texts_end, texts_read, whole_line, whole_plain}
+use Rattle.cs_core.specs.Laws.{SimpleLinesKeepLivesSimple}
+use Rattle.cs_core.specs.Visits.{CostsAtMost, is_simple_line, line_cost}
+use Rattle.cs_live.specs.Lives.{are_simple_lives}
+use Rattle.cs_run.specs.Visits.{are_simple_lines, lines_cost}
+use Rattle.cs_run.proofs.Costing.{cost_taken, spent_more}
 use Rattle.cs_run.proofs.Folding.{next_of, state_push, written_append, written_push}
 
 -- the script is some bytes and the rest, and those are these whole lines
@@ -251,6 +256,28 @@ module _ {s0 : State} {script : List ℕ} {old now : Option (List ℕ)} {state :
               whole = λ q. ap whole_lines (sym (seam cut.front l.bytes.items q)) ∙ cut.whole (l.bytes.items ++ 10 ∷ q) ∙ ap (λ v. take r.given (given_lines (feed_of script)) ++ v) (whole_line l.bytes.items q text.0) ∙ sym (append_assoc (take r.given (given_lines (feed_of script))) (l.bytes.items ∷ []) (whole_lines q)) ∙ ap (λ v. v ++ whole_lines q) (sym taken);
             };
       }
+
+  -- what was visited so far, and behind this line
+  pub visited : SimpleLinesKeepLivesSimple → are_simple_lives s0.lives ≡ true
+      → (was before after : ℕ) → are_simple_lines 1 (given_lines (feed_of script)) ≡ true
+      → before ≤ was + lines_cost s0 1 (take r.given (given_lines (feed_of script)))
+      → CostsAtMost (is_simple_line l.number l.bytes.items) (line_cost state l.number l.bytes.items)
+      state before after
+      → after ≤ was + lines_cost s0 1 (take (suc r.given) (given_lines (feed_of script)))
+  visited keep lives was before after simple low costs =
+      let z = given_line r r' left left' p.rest p.rest_is l a.gives in
+      let rest_lines = given_lines (feed (r'.given + 1) r'.taken [] z.0) in
+      let drops : drop r.given (given_lines (feed_of script)) ≡ l.bytes.items ∷ rest_lines = p.lines ∙ ap given_lines z.2 in
+      spent_more keep s0 state r.given l.number (given_lines (feed_of script)) l.bytes.items rest_lines was before after lives drops p.state_is number simple low costs
+
+  pub visited_all : SimpleLinesKeepLivesSimple → are_simple_lives s0.lives ≡ true
+      → (was before after : ℕ) → are_simple_lines 1 (given_lines (feed_of script)) ≡ true
+      → before ≤ was + lines_cost s0 1 (take r.given (given_lines (feed_of script)))
+      → CostsAtMost (is_simple_line l.number l.bytes.items) (line_cost state l.number l.bytes.items)
+      state before after
+      → after ≤ was + lines_cost s0 1 (given_lines (feed_of script))
+  visited_all keep lives was before after simple low costs =
+      omega (arith, visited keep lives was before after simple low costs, cost_taken s0 (suc r.given) (given_lines (feed_of script)))
 
   stop_write : (now' : Option (List ℕ)) → AppendsPartOf now now' (step_writes state l.number l.bytes.items) → Ends s0 status.WriteFault script old now' left'
   stop_write now' part =

@@ -1,3 +1,4 @@
 pub mod Expected
 pub mod Headline
 pub mod Script
+pub mod Visits

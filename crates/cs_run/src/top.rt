@@ -10,6 +10,7 @@ ghost use Rattle.cs_reply.specs.Stated.{stated_line};
 ghost use Rattle.cs_reply.specs.View.{stop as stop_seen, cause as cause_seen};
 ghost use Rattle.cs_core.specs.Core.{state, IsSound};
 ghost use Rattle.cs_core.specs.Does.{step_writes, step_state};
+ghost use Rattle.cs_core.specs.Visits.{CostsAtMost, is_simple_line, line_cost};
 ghost use Rattle.cs_run.specs.Expected.{Causes, stop_status};
 ghost use Rattle.cs_run.specs.Headline.{ToldRun, Asks, RefusedWrites, GeneratedWrites, IsComplete, added, names_of, task_of};
 ghost use Rattle.cs_load.specs.Loading.{LoadHasCause, cause_of, stop_of};
@@ -17,11 +18,12 @@ ghost use Rattle.cs_run.specs.Script.{Stated, States, LineStops, ToldWrites, Tol
 ghost use Rattle.cs_machine.specs.Expected.{play, generate};
 ghost use Rattle.cs_machine.specs.State.{begun};
 ghost use Rattle.cs_args.specs.Words.{takes_words, most_generated};
+ghost use Rattle.cs_run.specs.Visits.{RunCosts, ScriptCosts};
 
 use crate::generate::summarize;
 use crate::status::Status;
 use cs_args::{Task, WordsFault, read_words};
-use cs_core::Core;
+use cs_core::{Core, simple_lines_keep_lives_simple};
 use cs_docs::Docs;
 use cs_io::{Library, Line, LineFault, Lines, Sink, write_whole};
 use cs_load::{DataCause, LoadFault, load};
@@ -95,6 +97,9 @@ fn run_line<K: Sink, L: Ledger>(
     ensures later { K.faults sink.old ≤ K.faults sink.new }
     ensures cause { IfErr result (λ status. status ≡ Status.WriteFault → Rose (K.faults sink.old)
         (K.faults sink.new)) }
+    ensures costs { CostsAtMost (is_simple_line line.now.number line.now.bytes.items)
+        (line_cost (state core.old) line.now.number line.now.bytes.items) (state core.old)
+        steps.old steps.new }
 {
     let Ok(replies) = core.step(line, steps) else {
         return Err(Status::NoMemory);
@@ -200,7 +205,10 @@ fn run_script<Lb: Library, K: Sink, L: Ledger>(
     ensures files { Lb.files library.new ≡ Lb.files library.old }
     ensures asked { Lb.asked library.new ≡ Lb.asked library.old }
     ensures ends { (result ≢ Status.OpenFault) × (result ≢ Status.Usage) }
+    ensures costs { ScriptCosts (begun (docs_of docs)) (Lb.left library.old number)
+        steps.old steps.new }
 {
+    simple_lines_keep_lives_simple();
     let Ok(mut core) = Core::new(alloc, seed, docs) else {
         return Status::NoMemory;
     };
@@ -251,6 +259,8 @@ fn play_files<Lb: Library, K: Sink, L: Ledger>(
     ensures names { Asks (Lb.asked library.old) (Lb.asked library.new)
         (names_of (play (option_map (λ n. n.now) file.entry) script.now)) }
     ensures usage { result ≢ Status.Usage }
+    ensures costs { RunCosts (play (option_map (λ n. n.now) file.entry) script.now)
+        (Lb.files library.old) steps.old steps.new }
 {
     let docs = match load_named(alloc, library, file) {
         Ok(docs) => docs,
@@ -296,6 +306,9 @@ fn sum_up<K: Sink, L: Ledger>(
 /// number from 0 to 100,000, no name is asked for: the generated script of so many documents is
 /// played, and its summary written in the place of its replies. [`Status`] says how the run ended
 /// and what was written.
+///
+/// Where each query of the script is refused or simple, `steps` rises by at most the sum of their
+/// costs, each over the documents that it is asked of: no commit adds to it.
 pub fn run<Lb: Library, K: Sink, L: Ledger>(
     alloc: Global,
     seed: RandomState,
@@ -320,6 +333,7 @@ pub fn run<Lb: Library, K: Sink, L: Ledger>(
     ensures completes { IsComplete result (task_of words.now) (Lb.files library.old)
         (Lb.open_faults library.old) (Lb.open_faults library.new) (Lb.read_faults library.old)
         (Lb.read_faults library.new) (K.faults sink.old) (K.faults sink.new) }
+    ensures costs { RunCosts (task_of words.now) (Lb.files library.old) steps.old steps.new }
 {
     match read_words(alloc, words) {
         Ok(Task::Play { data: file, script }) => play_files(
