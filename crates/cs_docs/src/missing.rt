@@ -27,7 +27,7 @@ pub(crate) fn change_of<'c>(changes: &'c [Change], id: &Txt) -> Option<&'c Chang
 }
 
 // Whether a document of the id stands after the changes.
-#[tactic(auto, using(crate::proofs::Standing::stands_changed, crate::proofs::Standing::stands_unchanged))]
+#[tactic(auto, using(crate::proofs::Standing::after_changes))]
 fn stands_after(store: &Docs, changes: &[Change], id: &Txt) -> bool
     requires { AreChanges changes.now }
     ensures { result ≡ stands id.now (after store.now changes.now) }

@@ -132,8 +132,8 @@ fn push_hit(
     Ok(())
 }
 
-/// The keys that the filter of a simple query gives: each of its hits has them all. It visits nothing.
-/// `NoMemory` where the allocator has no room for them.
+/// The keys that the filter of a simple query gives: each of its hits has them all. It visits
+/// nothing. `NoMemory` where the allocator has no room for them.
 pub fn keys_of(alloc: Global, query: &Query, params: &Fields) -> Result<Vec<Key>, NoMemory>
     requires { is_simple (expression_of query.now) ≡ true }
     ensures { IfOk result

@@ -152,8 +152,8 @@ fn filtered_all<'s, S: Source<C>, C>(
     )
 }
 
-// The documents at which a filter is tried. The filter's key is noted, by whichever of its keys they
-// are found.
+// The documents at which a filter is tried. The filter's key is noted, by whichever of its keys
+// they are found.
 fn look_up<'s, S: Source<C>, C>(
     alloc: Global,
     condition: &Expr,

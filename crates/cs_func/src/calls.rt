@@ -30,8 +30,8 @@ pub fn call(
     second: Option<&Val>,
 ) -> Result<Val, NoMemory>
     requires { is_some second ≡ has_two function }
-    ensures value { IfOk result
-        (λ v. tree v ≡ value function (tree first.now) (option_map (λ y. tree y.now) second.entry)) }
+    ensures value { IfOk result (λ v. tree v
+        ≡ value function (tree first.now) (option_map (λ y. tree y.now) second.entry)) }
     ensures memory { IfErr result (λ _. IsTrue (makes function)) }
 {
     match function {

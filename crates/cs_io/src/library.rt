@@ -48,7 +48,8 @@ pub trait Library {
         ensures reads { read_faults self.new ≡ read_faults self.old }
         ensures cause { HasCause (open_faults self.old) (open_faults self.new) result }
         ensures fresh { IfOk result (λ number. is_open (asked self.old) number ≡ false) }
-        ensures bytes { IfOk result (λ number. left self.new number ≡ told_bytes (files self.old) name.now) }
+        ensures bytes { IfOk result (λ number.
+            left self.new number ≡ told_bytes (files self.old) name.now) }
         ensures others { IfOk result (λ number.
             (other : ℕ) → other ≢ number → left self.new other ≡ left self.old other) }
         ensures added { IfOk result (λ number. asked self.new

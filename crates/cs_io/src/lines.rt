@@ -61,9 +61,12 @@ fn fill<Lb: Library>(library: &mut Lb, which: u32, piece: &mut Vec<u8>) -> Resul
         (take n piece.new.items)) }
     ensures end { IfOk result (λ n. n ≡ 0 → IsAtEnd (Lb.left library.new which)) }
     ensures kept { OnErr result (Keeps (Lb.left library.old which) (Lb.left library.new which)) }
-    ensures calls { OnlyReads Lb.files Lb.asked Lb.open_faults Lb.read_faults library.old library.new }
-    ensures others { (other : ℕ) → other ≢ which → Lb.left library.new other ≡ Lb.left library.old other }
-    ensures fault { IfErr result (FillFails (Lb.read_faults library.old) (Lb.read_faults library.new)) }
+    ensures calls { OnlyReads Lb.files Lb.asked Lb.open_faults Lb.read_faults
+        library.old library.new }
+    ensures others { (other : ℕ) → other ≢ which
+        → Lb.left library.new other ≡ Lb.left library.old other }
+    ensures fault { IfErr result
+        (FillFails (Lb.read_faults library.old) (Lb.read_faults library.new)) }
 {
     if piece.is_empty() && piece.resize(PIECE, 0).is_err() {
         return Err(LineFault::NoMemory);
@@ -151,10 +154,12 @@ impl Lines {
         ensures kept { OnErr result
             (Keeps (Lb.left library.old self.old.which) (Lb.left library.new self.old.which)) }
         ensures stands { OnErr result ((self.old.ended ≡ false) × (self.new.ahead ≡ [])) }
-        ensures calls { OnlyReads Lb.files Lb.asked Lb.open_faults Lb.read_faults library.old library.new }
+        ensures calls { OnlyReads Lb.files Lb.asked Lb.open_faults Lb.read_faults
+            library.old library.new }
         ensures others { (other : ℕ) → other ≢ self.old.which
             → Lb.left library.new other ≡ Lb.left library.old other }
-        ensures fault { IfErr result (FillFails (Lb.read_faults library.old) (Lb.read_faults library.new)) }
+        ensures fault { IfErr result
+            (FillFails (Lb.read_faults library.old) (Lb.read_faults library.new)) }
     {
         if self.ended {
             return Ok(false);
@@ -211,10 +216,12 @@ impl Lines {
             × (self.new.ahead ≡ [])
             × IsAtEnd (Lb.left library.new self.old.which)) }
         ensures stands { OnErr result ((self.old.ended ≡ false) × (self.new.ahead ≡ [])) }
-        ensures calls { OnlyReads Lb.files Lb.asked Lb.open_faults Lb.read_faults library.old library.new }
+        ensures calls { OnlyReads Lb.files Lb.asked Lb.open_faults Lb.read_faults
+            library.old library.new }
         ensures others { (other : ℕ) → other ≢ self.old.which
             → Lb.left library.new other ≡ Lb.left library.old other }
-        ensures fault { IfErr result (FillFails (Lb.read_faults library.old) (Lb.read_faults library.new)) }
+        ensures fault { IfErr result
+            (FillFails (Lb.read_faults library.old) (Lb.read_faults library.new)) }
     {
         if self.from < self.to {
             return Ok(true);
@@ -265,7 +272,8 @@ impl Lines {
         ensures in_step { OnOk result (InStep self.new (Lb.left library.new self.old.which)) }
         ensures which { self.new.which ≡ self.old.which }
         ensures count { IfOk result (λ o. IfSome o (λ line. IsNext self.old self.new line)) }
-        ensures calls { OnlyReads Lb.files Lb.asked Lb.open_faults Lb.read_faults library.old library.new }
+        ensures calls { OnlyReads Lb.files Lb.asked Lb.open_faults Lb.read_faults
+            library.old library.new }
         ensures others { (other : ℕ) → other ≢ self.old.which
             → Lb.left library.new other ≡ Lb.left library.old other }
         ensures fault { IfErr result

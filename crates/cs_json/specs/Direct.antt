@@ -17,7 +17,8 @@ Named = List ℕ × Tree
 abbrev pub named_trees : List (List ℕ × Val) → List Named
 named_trees ms = map (λ m. (m.0, tree m.1)) ms
 
--- the pairs, with the named trees put among them one after another, so that the last of a name stays
+-- the pairs, with the named trees put among them one after another, so that the last of a name
+-- stays
 abbrev pub put_all : List Named → Pairs → Pairs
 put_all [] ps = ps
 put_all (e ∷ es) ps = put_all es (put e.0 e.1 ps)
@@ -37,11 +38,13 @@ abbrev mutual
 
   pub made_items : json.Items → Option Trees
   made_items json.no_items = Some no_trees
-  made_items (json.item j js) = option_and_then (λ t. option_map (more_trees t) (made_items js)) (made j)
+  made_items (json.item j js) =
+      option_and_then (λ t. option_map (more_trees t) (made_items js)) (made j)
 
   pub named : json.Members → Option (List Named)
   named json.no_members = Some []
-  named (json.member k j ms) = option_and_then (λ t. option_map (λ es. (k, t) ∷ es) (named ms)) (made j)
+  named (json.member k j ms) =
+      option_and_then (λ t. option_map (λ es. (k, t) ∷ es) (named ms)) (made j)
 
 -- a value whose lists and objects nest at most so many levels
 abbrev pub Fits : ℕ → Tree → Type 0

@@ -22,8 +22,8 @@ use Rattle.cs_interest.specs.Laws.{NarrowestIsHad}
 use Rattle.cs_interest.specs.Narrow.{narrowest}
 use Rattle.cs_reply.specs.Reply.{Event}
 use Rattle.cs_plain.specs.Holds.{holds}
-use Rattle.cs_plain.specs.Keyed.{alone_keys}
-use Rattle.cs_plain.specs.Laws.{TrueHasAloneKeys}
+use Rattle.cs_plain.specs.Keyed.{predicate_keys}
+use Rattle.cs_plain.specs.Laws.{TrueHasPredicateKeys}
 use Rattle.cs_plain.specs.Predicates.{filter as filter_of}
 use Rattle.cs_listen.specs.Coded.{filter_code, side_codes, change_codes, changes_codes, is_sought, is_coded, are_coded}
 use Rattle.cs_listen.specs.Events.{Listener, sees, turned, event_of, heard, events}
@@ -72,7 +72,7 @@ neither false false b h = (refl, h)
 unsought : (c : ℕ) (xs ys : List ℕ) → is_sought c (xs ++ ys) ≡ false → (is_sought c xs ≡ false) × (is_sought c ys ≡ false)
 unsought c xs ys h = neither (nat_eq c 0) (is_among c xs) (is_among c ys) (ap (λ b. nat_eq c 0 || b) (sym (list_any-append (λ x. nat_eq c x) xs ys)) ∙ h)
 
-module _ (has_keys : TrueHasAloneKeys) (narrow : NarrowestIsHad) (listed : KeysAreListed) (seed : Seed) (tx moment : List ℕ) (l : Listener) where
+module _ (has_keys : TrueHasPredicateKeys) (narrow : NarrowestIsHad) (listed : KeysAreListed) (seed : Seed) (tx moment : List ℕ) (l : Listener) where
   abbrev code : ℕ
   code = filter_code seed l.filter l.params
 
@@ -82,7 +82,7 @@ module _ (has_keys : TrueHasAloneKeys) (narrow : NarrowestIsHad) (listed : KeysA
     by_test : (b : Bool) → holds l.filter l.params d ≡ b → holds l.filter l.params d ≡ false
     by_test false f = f
     by_test true f =
-        let keys = alone_keys l.filter l.params in
+        let keys = predicate_keys l.filter l.params in
         absurd (true≢false (sym (key_sought listed seed d (narrowest keys)
         (narrow keys d (has_keys l.filter l.params d f))) ∙ h))
 
@@ -104,7 +104,7 @@ module _ (has_keys : TrueHasAloneKeys) (narrow : NarrowestIsHad) (listed : KeysA
       by_first (Some x) is h = absurd (cc)
 
 -- ---- listeners that are asked by their codes are told what they hear
-module _ (has_keys : TrueHasAloneKeys) (narrow : NarrowestIsHad) (listed : KeysAreListed) (seed : Seed) (waiting sought tx moment : List ℕ) (cs : List Edit)
+module _ (has_keys : TrueHasPredicateKeys) (narrow : NarrowestIsHad) (listed : KeysAreListed) (seed : Seed) (waiting sought tx moment : List ℕ) (cs : List Edit)
     (among : (x : ℕ) → is_among x sought ≡ (is_among x waiting && is_among x (changes_codes seed cs))) where
   one_told : (l : Listening) → is_coded seed waiting l ≡ true → told sought tx moment cs l ≡ filter_map (heard tx moment (listener l)) cs
   one_told l coded = by_test (is_sought l.code sought) refl where

@@ -12,13 +12,13 @@ use Rattle.cs_view.specs.Document.{id_of}
 use Rattle.cs_codes.specs.Codes.{Seed, codes, id_code, is_among}
 use Rattle.cs_interest.specs.Interest.{interest_code}
 use Rattle.cs_interest.specs.Narrow.{narrowest}
-use Rattle.cs_plain.specs.Keyed.{alone_keys}
+use Rattle.cs_plain.specs.Keyed.{predicate_keys}
 use Rattle.cs_plain.specs.Predicates.{filter}
 use Rattle.cs_listen.specs.declared.listening.Listening.{Listening}
 
 -- the code of the narrowest of a filter's keys; that of every document is 0
 abbrev pub filter_code : Seed → Expression → Pairs → ℕ
-filter_code seed f params = interest_code seed (narrowest (alone_keys f params))
+filter_code seed f params = interest_code seed (narrowest (predicate_keys f params))
 
 -- the codes of what stands on a side of a change: of its id, and of the other keys that it has
 abbrev pub side_codes : Seed → Option Tree → List ℕ

@@ -14,7 +14,7 @@ use crate::listening::Listening;
 use crate::sought::{filter_code, sought_codes, waiting_codes};
 use cs_codes::laws::keys_are_listed;
 use cs_interest::laws::narrowest_is_had;
-use cs_plain::{Plain, true_has_alone_keys};
+use cs_plain::{Plain, true_has_predicate_keys};
 use cs_reply::Event;
 use cs_syntax::Query;
 use cs_value::{Fields, NoMemory, NoName, Txt};
@@ -180,7 +180,7 @@ impl Listeners {
         ensures { IfOk result (λ heard. map event heard.items
             ≡ events tx.now moment.now (edits changes.now) (listeners self.now)) }
     {
-        true_has_alone_keys();
+        true_has_predicate_keys();
         narrowest_is_had();
         keys_are_listed();
         // Where no listener stands, no code is worked out.

@@ -15,8 +15,8 @@ pub fn true_has_key()
     ensures { TrueHasKey }
 {}
 
-/// A document that makes a filter true has each of the keys that the filter gives, over every dataset
-/// and in every scope; and a document that has each of them has the filter's key.
+/// A document that makes a filter true has each of the keys that the filter gives, over every
+/// dataset and in every scope; and a document that has each of them has the filter's key.
 pub fn true_has_each_key()
     ensures { TrueHasEachKey }
 {}

@@ -19,4 +19,5 @@ abbrev pub number_at : NumberAt → List ℕ × ℤ
 number_at e = (e.text.now, e.number)
 
 abbrev pub insertion_at : InsertAt → Insertion
-insertion_at e = record { side = side e.side; path = e.text.now; items = list_tree e.items.now.items }
+insertion_at e =
+    record { side = side e.side; path = e.text.now; items = list_tree e.items.now.items }

@@ -31,10 +31,12 @@ pub record Seen : Type 0 where
   pub stands : Stands
 
 abbrev pub seen : List (List ℕ) → Target → Seen
-seen ns t = record { place = t.place.items; names = ns; location = t.location.items; stands = t.stands }
+seen ns t =
+    record { place = t.place.items; names = ns; location = t.location.items; stands = t.stands }
 
 abbrev pub seen_of : SpecTarget → Seen
-seen_of t = record { place = t.place; names = t.names; location = location t; stands = value_of t.value }
+seen_of t =
+    record { place = t.place; names = t.names; location = location t; stands = value_of t.value }
 
 abbrev pub outer_seen : List Seen → List Seen
 outer_seen xs = filter (λ x. not (list_any (λ y. is_inside x.location y.location) xs)) xs

@@ -7,19 +7,19 @@ use Rattle.cs_syntax.specs.Expression.{Expression, null_literal, everything, cha
 use Rattle.cs_view.specs.declared.key.Key.{Key}
 use Rattle.cs_plan.specs.Simple.{is_filter}
 use Rattle.cs_plain.specs.Plain.{is_plain, filter_in, filter_alone, listened_filter}
-use Rattle.cs_plain.specs.Keyed.{alone_keys, step_condition, first_condition, query_condition}
+use Rattle.cs_plain.specs.Keyed.{predicate_keys, step_condition, first_condition, query_condition}
 use Rattle.cs_plain.proofs.Agree.{impossible}
 
 module _ (params : Pairs) where
   -- the keys of a condition, where one was found
   abbrev of_found : Option Expression → List Key
-  of_found o = option_map_or (λ e. alone_keys e params) o []
+  of_found o = option_map_or (λ e. predicate_keys e params) o []
 
   abbrev of_filter : Option Expression → List Key
-  of_filter o = alone_keys (unwrap_or o null_literal) params
+  of_filter o = predicate_keys (unwrap_or o null_literal) params
 
   kept-key : (e : Expression) (b : Bool) → is_some (cond b (Some e) None) ≡ true
-      → alone_keys e params ≡ of_filter (cond b (Some e) None)
+      → predicate_keys e params ≡ of_filter (cond b (Some e) None)
   kept-key e true h = refl
   kept-key e _ h = impossible h
 
@@ -43,5 +43,5 @@ module _ (params : Pairs) where
 
   -- a condition that was found has the keys of the filter
   pub some_keyed : (q e : Expression) → is_some (listened_filter q) ≡ true
-      → query_condition q ≡ Some e → alone_keys e params ≡ of_filter (listened_filter q)
+      → query_condition q ≡ Some e → predicate_keys e params ≡ of_filter (listened_filter q)
   some_keyed q e h is = ap of_found (sym is) ∙ query_keyed q h

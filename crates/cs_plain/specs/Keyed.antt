@@ -7,8 +7,8 @@ use Rattle.cs_view.specs.declared.key.Key.{Key}
 use Rattle.cs_plan.specs.Filters.{filter_keys}
 
 -- the keys of a filter, in the scope of null alone
-abbrev pub alone_keys : Expression → Pairs → List Key
-alone_keys filter params = filter_keys filter (null ∷ []) params
+abbrev pub predicate_keys : Expression → Pairs → List Key
+predicate_keys filter params = filter_keys filter (null ∷ []) params
 
 -- the condition of a step in brackets, of the first of some steps, of a query
 abbrev pub step_condition : Step → Option Expression

@@ -8,7 +8,7 @@ use Rattle.cs_meaning.specs.Operators.{is_true}
 use Rattle.cs_meaning.specs.Values.{value}
 use Rattle.cs_plain.specs.Plain.{listened_filter}
 use Rattle.cs_plain.specs.Holds.{holds}
-use Rattle.cs_plain.specs.Keyed.{alone_keys}
+use Rattle.cs_plain.specs.Keyed.{predicate_keys}
 
 -- a filter that a listener may have is quiet, and over every dataset it has the same value
 abbrev pub PlainIsQuiet : Type 0
@@ -27,7 +27,7 @@ PlainHoldsAnywhere =
     → is_true (value docs params filter (d ∷ null ∷ [])) ≡ holds filter params d
 
 -- a document of which a filter is true has each of the filter's keys
-abbrev pub TrueHasAloneKeys : Type 0
-TrueHasAloneKeys =
+abbrev pub TrueHasPredicateKeys : Type 0
+TrueHasPredicateKeys =
     (filter : Expression) (params : Pairs) (d : Tree)
-    → holds filter params d ≡ true → has_all (alone_keys filter params) d ≡ true
+    → holds filter params d ≡ true → has_all (predicate_keys filter params) d ≡ true

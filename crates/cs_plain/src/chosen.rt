@@ -4,7 +4,7 @@ ghost use Rattle.cs_syntax.specs.Expression.{steps_of};
 ghost use Rattle.cs_syntax.specs.View.{expression, step as step_of};
 ghost use Rattle.cs_value.specs.Tree.{null as null_tree};
 ghost use Rattle.cs_value.specs.View.{tree, fields};
-ghost use Rattle.cs_plain.specs.Keyed.{alone_keys, step_condition, first_condition, query_condition};
+ghost use Rattle.cs_plain.specs.Keyed.{predicate_keys, step_condition, first_condition, query_condition};
 ghost use Rattle.cs_plain.specs.Predicates.{filter};
 
 use crate::predicate::Plain;
@@ -35,7 +35,7 @@ fn first_condition(steps: &[Step]) -> Option<&Expr>
 }
 
 // The condition of a query's filter.
-#[tactic(auto, using(cs_syntax::proofs::Views::expression_chain), unfolding(cs_syntax::specs::View::expression))]
+#[tactic(auto, using(crate::proofs::Sets::steps), unfolding(cs_syntax::specs::View::expression))]
 fn query_condition(expr: &Expr) -> Option<&Expr>
     ensures { option_map (λ e. expression e.now) result ≡ query_condition (expression expr.now) }
 {
@@ -54,7 +54,7 @@ fn condition_keys(
 ) -> Result<Vec<Key>, NoMemory>
     requires { tree null.now ≡ null_tree }
     ensures { IfOk result
-        (λ ks. ks.items ≡ alone_keys (expression condition.now) (fields params.now)) }
+        (λ ks. ks.items ≡ predicate_keys (expression condition.now) (fields params.now)) }
 {
     let root = Scope {
         this: null,
@@ -64,11 +64,11 @@ fn condition_keys(
 }
 
 /// The keys of a predicate, each of which a document has that makes its filter true: those that the
-/// filter's conjuncts give in the scope of null alone, from the left. `NoMemory` where the allocator
-/// has no room for them.
+/// filter's conjuncts give in the scope of null alone, from the left. `NoMemory` where the
+/// allocator has no room for them.
 pub fn keys(alloc: Global, predicate: &Plain, params: &Fields) -> Result<Vec<Key>, NoMemory>
     ensures { IfOk result
-        (λ ks. ks.items ≡ alone_keys (filter predicate.now) (fields params.now)) }
+        (λ ks. ks.items ≡ predicate_keys (filter predicate.now) (fields params.now)) }
 {
     match query_condition(predicate.expr()) {
         Some(condition) => condition_keys(alloc, condition, predicate.null(), params),

@@ -194,7 +194,7 @@ pub(crate) fn is_path(name: &str) -> bool
 }
 
 // Whether the value is in what stands on the right of `in`.
-#[tactic(auto, using(cs_syntax::proofs::Views::expression_call, cs_syntax::proofs::Views::expression_array), unfolding(cs_syntax::specs::View::expression))]
+#[tactic(auto, using(crate::proofs::Sets::array), unfolding(cs_syntax::specs::View::expression))]
 fn contained(right: &Expr, params: &Fields, doc: &Val, a: Operand<'_>) -> Option<bool>
     ensures { result ≡ contained (fields params.now) (tree doc.now) (expression right.now)
         (tree_of a.entry) }
@@ -229,7 +229,7 @@ fn tested(callee: Callee, args: &[Arg], params: &Fields, doc: &Val) -> Option<bo
 
 /// The truth of a condition over the document.
 #[cycle(condition)]
-#[tactic(auto, using(cs_syntax::proofs::Views::expression_call, cs_syntax::proofs::Views::expression_run), unfolding(cs_syntax::specs::View::expression))]
+#[tactic(auto, using(crate::proofs::Sets::run), unfolding(cs_syntax::specs::View::expression))]
 pub(crate) fn condition(expr: &Expr, params: &Fields, doc: &Val) -> Option<bool>
     ensures { result ≡ condition_truth (fields params.now) (tree doc.now) (expression expr.now) }
 {

@@ -51,7 +51,7 @@ fn is_negative(signs: &[PreSign], operand: &Expr) -> bool
 
 /// Whether the expression is an operand.
 #[cycle(is_operand)]
-#[tactic(auto, using(cs_syntax::proofs::Views::expression_call, cs_syntax::proofs::Views::expression_chain), unfolding(cs_syntax::specs::View::expression))]
+#[tactic(auto, using(crate::proofs::Sets::chain), unfolding(cs_syntax::specs::View::expression))]
 fn is_operand(expr: &Expr) -> bool
     ensures { result ≡ is_operand (expression expr.now) }
 {
@@ -173,7 +173,7 @@ fn are_some_elements(elements: &[Elem]) -> bool
 }
 
 // What may stand on the right of `in`, ranges aside.
-#[tactic(auto, using(cs_syntax::proofs::Views::expression_call, cs_syntax::proofs::Views::expression_array), unfolding(cs_syntax::specs::View::expression))]
+#[tactic(auto, using(crate::proofs::Sets::array), unfolding(cs_syntax::specs::View::expression))]
 fn is_container(expr: &Expr) -> bool
     ensures { result ≡ is_container (expression expr.now) }
 {
@@ -238,7 +238,7 @@ fn all_not(signs: &[PreSign]) -> bool
 
 /// Whether the expression is a condition.
 #[cycle(is_plain)]
-#[tactic(auto, using(cs_syntax::proofs::Views::expression_call, cs_syntax::proofs::Views::expression_run), unfolding(cs_syntax::specs::View::expression))]
+#[tactic(auto, using(crate::proofs::Sets::run), unfolding(cs_syntax::specs::View::expression))]
 pub(crate) fn is_plain(expr: &Expr) -> bool
     ensures { result ≡ is_plain (expression expr.now) }
 {

@@ -40,7 +40,7 @@ fn first_truth(steps: &[Step], params: &Fields, doc: &Val) -> bool
     }
 }
 
-#[tactic(auto, using(cs_syntax::proofs::Views::expression_chain), unfolding(cs_syntax::specs::View::expression))]
+#[tactic(auto, using(crate::proofs::Sets::steps), unfolding(cs_syntax::specs::View::expression))]
 fn query_truth(expr: &Expr, params: &Fields, doc: &Val) -> bool
     ensures { result ≡ query_truth (fields params.now) (tree doc.now) (expression expr.now) }
 {

@@ -1,6 +1,6 @@
 //! The laws of plain predicates, for proofs: each function does nothing, and its contract is the
 //! law.
-ghost use Rattle.cs_plain.specs.Laws.{PlainIsQuiet, PlainHoldsAnywhere, TrueHasAloneKeys};
+ghost use Rattle.cs_plain.specs.Laws.{PlainIsQuiet, PlainHoldsAnywhere, TrueHasPredicateKeys};
 
 use cs_meaning::{quiet_asks_nothing, true_has_each_key};
 
@@ -20,8 +20,8 @@ pub fn plain_holds_anywhere()
 }
 
 /// A document of which a filter is true has each of the filter's keys.
-pub fn true_has_alone_keys()
-    ensures { TrueHasAloneKeys }
+pub fn true_has_predicate_keys()
+    ensures { TrueHasPredicateKeys }
 {
     true_has_each_key();
 }

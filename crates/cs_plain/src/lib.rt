@@ -14,5 +14,5 @@ mod values;
 
 pub use chosen::keys;
 pub use holds::test;
-pub use laws::{plain_holds_anywhere, plain_is_quiet, true_has_alone_keys};
+pub use laws::{plain_holds_anywhere, plain_is_quiet, true_has_predicate_keys};
 pub use predicate::Plain;

@@ -19,7 +19,7 @@ fn is_condition(expr: &Expr) -> bool
 }
 
 // A filter with a plain condition.
-#[tactic(auto, using(crate::proofs::Tested::filter_in_bracket), unfolding(cs_syntax::specs::View::step, cs_syntax::specs::View::expression))]
+#[tactic(auto, using(crate::proofs::Sets::filter), unfolding(cs_syntax::proofs::Open::of_step))]
 fn is_plain_filter(step: &Step) -> bool
     ensures { result ≡ is_some (filter_in (step_of step.now)) }
 {
@@ -43,7 +43,7 @@ fn is_filter_alone(steps: &[Step]) -> bool
 }
 
 /// Whether a listener may have the query.
-#[tactic(auto, using(crate::proofs::Tested::listened_chain), unfolding(cs_syntax::specs::View::expression))]
+#[tactic(auto, using(crate::proofs::Sets::listened), unfolding(cs_syntax::specs::View::expression))]
 pub(crate) fn is_listened(expr: &Expr) -> bool
     ensures { result ≡ is_some (listened_filter (expression expr.now)) }
 {

@@ -61,7 +61,8 @@ fn field<'v>(val: Option<&'v Val>, name: &str) -> Option<&'v Val>
     }
 }
 
-// The value at these names. A step that is no name leads to none, as a value that is not there does.
+// The value at these names. A step that is no name leads to none, as a value that is not there
+// does.
 #[tactic(auto, using(crate::proofs::Parts::tree_at_more))]
 fn at_names<'v>(val: Option<&'v Val>, steps: &[Step]) -> Option<&'v Val>
     ensures { unwrap_or (option_map (λ v. tree v.now) result) null
@@ -101,7 +102,7 @@ fn measured<'v>(callee: Callee, a: Operand<'_>) -> Operand<'v>
 
 /// The value of an operand over the document.
 #[cycle(operand)]
-#[tactic(auto, using(cs_syntax::proofs::Views::expression_call, cs_syntax::proofs::Views::expression_chain), unfolding(cs_syntax::specs::View::expression))]
+#[tactic(auto, using(crate::proofs::Sets::chain), unfolding(cs_syntax::specs::View::expression))]
 pub(crate) fn operand<'v>(expr: &'v Expr, params: &'v Fields, doc: &'v Val) -> Operand<'v>
     ensures { tree_of result ≡ operand_value (fields params.now) (tree doc.now)
         (expression expr.now) }

@@ -26,8 +26,8 @@ pub trait View<L: Ledger> {
     /// The places of the documents that have the key, in the order of their ids. `NoMemory` where
     /// the allocator has no room for them.
     fn select(&self, alloc: Global, key: &Key) -> Result<Vec<u32>, NoMemory>
-        ensures { IfOk result
-            (λ places. map (doc_at self.now) places.items ≡ map Some (Sel key.now (docs self.now))) };
+        ensures { IfOk result (λ places. map (doc_at self.now) places.items
+            ≡ map Some (Sel key.now (docs self.now))) };
 
     /// The places of the documents that have each of the keys, in the order of their ids: those of
     /// all documents where there is no key. A view may look up by whichever key it likes best, and

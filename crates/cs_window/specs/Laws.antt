@@ -31,8 +31,8 @@ FirstSettleTail = (e : Expression) (params : Pairs) (w : Window) (ds : List Tree
     (entered (entrance (kind ss)) (rest_value [] params ss (null ∷ []))
     (list_of (first_in w params ds)))
 
--- Where a query's window is bounded, lists that have the same documents that do not stand behind the
--- bound have the same tail, and the bound is one of both.
+-- Where a query's window is bounded, lists that have the same documents that do not stand behind
+-- the bound have the same tail, and the bound is one of both.
 abbrev pub WindowSettlesTail : Type 0
 WindowSettlesTail = (e : Expression) (params : Pairs) (bound xs ys : List Tree)
     → IsBound e params bound xs

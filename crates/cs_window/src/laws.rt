@@ -8,8 +8,9 @@ pub fn sorted_in_two()
     ensures { SortedInTwo }
 {}
 
-/// What the steps behind a filter make of documents, where an order stands first and the step behind
-/// it looks at the first few alone: what the steps behind the order make of these first few.
+/// What the steps behind a filter make of documents, where an order stands first and the step
+/// behind it looks at the first few alone: what the steps behind the order make of these first
+/// few.
 pub fn first_settle_tail()
     ensures { FirstSettleTail }
 {}
