@@ -8,4 +8,4 @@ mod steps;
 
 pub use chains::{enter, pipes};
 pub use expressions::eval;
-pub use steps::{holds, keep_lent};
+pub use steps::{holds, keep_lent, rank_each, rank_keys};

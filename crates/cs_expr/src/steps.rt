@@ -297,10 +297,11 @@ fn sorted_list<'s, S: Source<C>, C>(
     list_in_order(alloc, ranked, &directions, limit)
 }
 
-// Each element beside the values of its keys, or those alone that are among the first.
+/// Each element beside the values of its keys, or those alone that are among the first, where there
+/// is a limit; and what finding the keys looks up.
 #[cycle(eval)]
 #[tactic(auto, using(cs_order::proofs::Kept::can_keep_none))]
-fn rank_each<'k, 's: 'k, S: Source<C>, C>(
+pub fn rank_each<'k, 's: 'k, S: Source<C>, C>(
     alloc: Global,
     order: &'k [OrderKey],
     directions: &[bool],
@@ -363,9 +364,10 @@ fn rank_one<'k, 's: 'k, S: Source<C>, C>(
     }
 }
 
-// The values of the keys in the scope of the element in front.
+/// The values of an order's keys in the scope of the element in front, and what finding them looks
+/// up.
 #[cycle(eval)]
-fn rank_keys<'k, S: Source<C>, C>(
+pub fn rank_keys<'k, S: Source<C>, C>(
     alloc: Global,
     order: &'k [OrderKey],
     frame: &'k Scope<'k>,

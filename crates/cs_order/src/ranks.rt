@@ -85,8 +85,8 @@ fn by_keys(directions: &[bool], xs: &[Item<'_>], ys: &[Item<'_>]) -> Ordering
     Ordering::Equal
 }
 
-// Whether the first element stands above the second.
-pub(crate) fn is_above(directions: &[bool], x: &Ranked<'_, '_>, y: &Ranked<'_, '_>) -> bool
+/// Whether the first element stands above the second, which is to say behind it in the order.
+pub fn is_above(directions: &[bool], x: &Ranked<'_, '_>, y: &Ranked<'_, '_>) -> bool
     ensures { result ≡ is_gt (ranks directions.now (ranked x.now) (ranked y.now)) }
 {
     match by_keys(directions, &x.by, &y.by) {
