@@ -108,6 +108,15 @@ module _ (ds : List Bool) (passes : Ranked → Bool) (closed : IsClosed ds passe
       either true h = among x (sorted ds (filter passes xs)) (sorted ds (filter (λ x. not (passes x)) xs)) h (failed xs)
       either false h = past x (sorted ds (filter passes xs)) (sorted ds (filter (λ x. not (passes x)) xs)) h (passed xs)
 
+  pass-at : (ys : List Ranked) (i : ℕ) (d : Ranked) → Pass ys → i < length ys → passes (get_or ys i d) ≡ true
+  pass-at [] i d h low = absurd (omega (arith, low))
+  pass-at (y ∷ ys) zero d h low = h.0
+  pass-at (y ∷ ys) (suc i) d h low = pass-at ys i d h.1 (omega (arith, low))
+
+  -- each of the order of those that pass does so
+  pub all-pass : (xs : List Ranked) (i : ℕ) (d : Ranked) → i < length (filter passes xs) → passes (get_or (sorted ds (filter passes xs)) i d) ≡ true
+  all-pass xs i d low = pass-at (sorted ds (filter passes xs)) i d (passed xs) (omega (arith, low, sorted-many ds (filter passes xs)))
+
   -- the first of the order are settled by those that pass, where these are enough
   pub first-pass : (k : ℕ) (xs : List Ranked) → k ≤ length (filter passes xs) → take k (sorted ds xs) ≡ take k (sorted ds (filter passes xs))
   first-pass k xs h =

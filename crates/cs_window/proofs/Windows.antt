@@ -1,9 +1,10 @@
 -- The tails of queries with a window.
-use Rattle.std.proofs.Common.{◌≡◌, ℕ, suc, ◌+◌, ◌≤◌, Bool, true, false, cond, List, [], ◌∷◌, take, map, length, get_or, arith, refl, sym, ap, subst, ◌∙◌, is_gt, Option, Some, None}
+use Rattle.std.proofs.Common.{◌≡◌, ℕ, suc, ◌+◌, ◌<◌, ◌≤◌, option_and_then, slice_get, Bool, true, false, cond, List, [], ◌∷◌, take, map, length, get_or, arith, refl, sym, ap, subst, ◌∙◌, is_gt, Option, Some, None}
 use Rattle.std.specs.Prelude.{filter, not}
 use Rattle.std.specs.Option.{option_map, option_map_or}
 use Rattle.std.proofs.lemmas.Cmp.{upto}
 use Rattle.std.proofs.lemmas.List.{take-map}
+use Rattle.std.proofs.lemmas.Option.{get_or_from_slice_get, slice_get_within}
 use Rattle.cs_value.specs.Words.{list_of}
 use Rattle.cs_value.specs.Tree.{Tree, null, Pairs}
 use Rattle.cs_value.proofs.Views.{members-trees}
@@ -13,15 +14,16 @@ use Rattle.cs_plan.specs.Simple.{tail_of, steps_behind}
 use Rattle.cs_ops.proofs.Ranked.{total-laws}
 use Rattle.cs_meaning.specs.Hits.{tail}
 use Rattle.cs_meaning.specs.Joining.{kind, entrance, entered}
-use Rattle.cs_meaning.specs.Ordered.{Ranked, ranks, ranked, sorted, in_order, ordered, directions}
+use Rattle.cs_meaning.specs.Ordered.{Ranked, by_keys, ranks, ranked, sorted, in_order, ordered, directions}
 use Rattle.cs_meaning.specs.Values.{rest_value, pipes_value}
 use Rattle.cs_meaning.proofs.Sorting.{ranks-total}
+use Rattle.cs_meaning.proofs.Sound.{filter-within}
 use Rattle.cs_order.specs.Asked.{first_asked}
 use Rattle.cs_order.specs.First.{first_elements}
 use Rattle.cs_order.proofs.Enters.{first_enters, first-of-list}
-use Rattle.cs_window.specs.Window.{Window, window, window_of, order_of, order_keys, not_behind, is_near, first_in, IsBound}
+use Rattle.cs_window.specs.Window.{Window, window, window_of, order_of, order_keys, not_behind, is_near, by_order, first_in, keys_at, IsBound}
 use Rattle.cs_window.specs.Laws.{IsClosed}
-use Rattle.cs_window.proofs.Parted.{first-same, last-passes, not-above}
+use Rattle.cs_window.proofs.Parted.{all-pass, first-same, last-passes, not-above, sorted-many}
 
 abbrev entered_rest : Pairs → Steps → Tree → Tree
 entered_rest params ss v = entered (entrance (kind ss)) (rest_value [] params ss (null ∷ [])) v
@@ -162,16 +164,16 @@ tail-near e params bound xs ys b same =
       },
     )
 
--- the last of the first in an order bounds them
-pub last-bounds : (e : Expression) (params : Pairs) (w : Window) (ds : List Tree) (i : ℕ) (d : Ranked) → window e ≡ Some w → i + 1 ≡ w.many → w.many ≤ length ds
-    → IsBound e params (get_or (sorted (directions w.keys) (map (ranked (order_keys w.keys params)) ds)) i d).by ds
-last-bounds e params w ds i d h next many =
+-- one in an order bounds those before it
+one-bounds : (e : Expression) (params : Pairs) (w : Window) (ds : List Tree) (i : ℕ) (d : Ranked) → window e ≡ Some w → w.many ≤ i + 1 → i < length ds
+    → IsBound e params (get_or (by_order w.keys params ds) i d).by ds
+one-bounds e params w ds i d h next many =
     let os = directions w.keys in
     let rs = map (ranked (order_keys w.keys params)) ds in
     let bound = (get_or (sorted os rs) i d).by in
     let enough : w.many ≤ length (filter (λ x. not_behind w.keys bound x.by) rs)
     = last-passes os (λ x. not_behind w.keys bound x.by) (closed-near w.keys bound) rs w.many
-    (omega (arith, many, as-many (ranked (order_keys w.keys params)) ds))
+    (omega (arith, next, many, as-many (ranked (order_keys w.keys params)) ds))
     (λ j e low. ap not (not-above os rs i j d e (omega (arith, next, low)) (omega (arith, next, many, as-many (ranked (order_keys w.keys params)) ds)))) in
     record {
       within = w;
@@ -179,3 +181,78 @@ last-bounds e params w ds i d h next many =
       enough = subst (λ (p : Tree → Bool). w.many ≤ length (filter p ds)) (sym (near-is e params w bound h))
           (subst (λ (n : ℕ). w.many ≤ n) (near-many w.keys params bound ds) enough);
     }
+
+-- what stands at a place of the order of a list, by its keys
+at-order : (ks : OrderKeys) (params : Pairs) (ds : List Tree) (i : ℕ) (bound : List Tree) (found : Option Ranked) → slice_get (by_order ks params ds) i ≡ found
+    → option_map (λ (x : Ranked). x.by) found ≡ Some bound
+    → (i < length ds) × ((get_or (by_order ks params ds) i (record { by = bound; item = null })).by ≡ bound)
+at-order ks params ds i bound None is h = cc
+at-order ks params ds i bound (Some x) is h =
+    let low : i < length (by_order ks params ds) = slice_get_within (by_order ks params ds) i x is in
+    let by : x.by ≡ bound = cc in (
+      omega (arith, low, sorted-many (directions ks) (map (ranked (order_keys ks params)) ds), as-many (ranked (order_keys ks params)) ds),
+      ap (λ (r : Ranked). r.by) (get_or_from_slice_get (by_order ks params ds) i x (record { by = bound; item = null }) is) ∙ by,
+    )
+
+keys-order : (e : Expression) (params : Pairs) (ds : List Tree) (i : ℕ) (ks : OrderKeys) → order_of (tail_of (steps_behind e)) ≡ Some ks
+    → keys_at e params ds i ≡ option_map (λ (x : Ranked). x.by) (slice_get (by_order ks params ds) i)
+keys-order e params ds i ks h =
+    ap (option_and_then (λ (ks' : OrderKeys). option_map (λ (x : Ranked). x.by) (slice_get (by_order ks' params ds) i))) h
+
+pub place-bounds : (e : Expression) (params : Pairs) (w : Window) (ds : List Tree) (place : ℕ) (bound : List Tree) → window e ≡ Some w → w.many ≤ place + 1
+    → keys_at e params ds place ≡ Some bound → IsBound e params bound ds
+place-bounds e params w ds place bound h many is =
+    let order = window-order (tail_of (steps_behind e)) w h in
+    let at = at-order w.keys params ds place bound (slice_get (by_order w.keys params ds) place) refl (sym (keys-order e params ds place w.keys order) ∙ is) in
+    subst (λ (b : List Tree). IsBound e params b ds) at.1 (one-bounds e params w ds place (record { by = bound; item = null }) h many at.0)
+
+-- what is near by the query is near by the keys of its order
+near-order : (e : Expression) (params : Pairs) (ks : OrderKeys) (bound : List Tree) → order_of (tail_of (steps_behind e)) ≡ Some ks → is_near e params bound ≡ near ks params bound
+near-order e params ks bound h =
+    let test : Option OrderKeys → Tree → Bool = λ o d. option_map_or (λ ks. not_behind ks bound (order_keys ks params d)) o true in
+    ap test h
+
+-- one in the order of those near does not stand behind the bound
+near-at : (ks : OrderKeys) (params : Pairs) (bound ds : List Tree) (place : ℕ) (nearer : List Tree)
+    → option_map (λ (x : Ranked). x.by) (slice_get (by_order ks params (filter (near ks params bound) ds)) place) ≡ Some nearer
+    → not_behind ks bound nearer ≡ true
+near-at ks params bound ds place nearer is =
+    let os = directions ks in
+    let rs = map (ranked (order_keys ks params)) ds in
+    let passes : Ranked → Bool = λ x. not_behind ks bound x.by in
+    let d : Ranked = record { by = nearer; item = null } in
+    let at = at-order ks params (filter (near ks params bound) ds) place nearer (slice_get (by_order ks params (filter (near ks params bound) ds)) place) refl is in
+    let same : by_order ks params (filter (near ks params bound) ds) ≡ sorted os (filter passes rs) = ap (sorted os) (sym (near-ranked ks params bound ds)) in
+    let low : place < length (filter passes rs) = subst (λ (n : ℕ). place < n) (sym (near-many ks params bound ds)) at.0 in
+    let all : passes (get_or (sorted os (filter passes rs)) place d) ≡ true = all-pass os passes (closed-near ks bound) rs place d low in
+    ap (not_behind ks bound) (sym at.1 ∙ ap (λ (us : List Ranked). (get_or us place d).by) same) ∙ all
+
+nearer-near : (ks : OrderKeys) (params : Pairs) (bound nearer : List Tree) → not_behind ks bound nearer ≡ true
+    → (d : Tree) → near ks params nearer d ≡ true → near ks params bound d ≡ true
+nearer-near ks params bound nearer h d k =
+    closed-near ks bound (record { by = nearer; item = null }) (record { by = order_keys ks params d; item = null }) h
+    (not-true (is_gt (by_keys (directions ks) (order_keys ks params d) nearer)) k)
+
+within-order : (e : Expression) (params : Pairs) (bound ds : List Tree) (place : ℕ) (nearer : List Tree) (o : Option OrderKeys) → order_of (tail_of (steps_behind e)) ≡ o
+    → keys_at e params (filter (is_near e params bound) ds) place ≡ Some nearer
+    → filter (is_near e params nearer) (filter (is_near e params bound) ds) ≡ filter (is_near e params nearer) ds
+within-order e params bound ds place nearer None h is =
+    absurd (some-none nearer (sym is ∙ ap (option_and_then (λ (ks : OrderKeys). option_map (λ (x : Ranked). x.by) (slice_get (by_order ks params (filter (is_near e params bound) ds)) place))) h))
+  where
+    some-none : (x : List Tree) → Some x ≡ None → ⊥
+    some-none x h = cc
+within-order e params bound ds place nearer (Some ks) h is =
+    let far = near-order e params ks bound h in
+    let close = near-order e params ks nearer h in
+    let there : option_map (λ (x : Ranked). x.by) (slice_get (by_order ks params (filter (near ks params bound) ds)) place) ≡ Some nearer
+    = ap (λ (p : Tree → Bool). option_map (λ (x : Ranked). x.by) (slice_get (by_order ks params (filter p ds)) place)) (sym far)
+    ∙ (sym (keys-order e params (filter (is_near e params bound) ds) place ks h) ∙ is) in
+    ap (λ (p : Tree → Bool). filter p (filter (is_near e params bound) ds)) close
+    ∙ (ap (λ (p : Tree → Bool). filter (near ks params nearer) (filter p ds)) far
+    ∙ (sym (filter-within (near ks params nearer) (near ks params bound) (nearer-near ks params bound nearer (near-at ks params bound ds place nearer there)) ds)
+    ∙ ap (λ (p : Tree → Bool). filter p ds) (sym close)))
+
+pub nearer-within : (e : Expression) (params : Pairs) (bound ds : List Tree) (place : ℕ) (nearer : List Tree)
+    → keys_at e params (filter (is_near e params bound) ds) place ≡ Some nearer
+    → filter (is_near e params nearer) (filter (is_near e params bound) ds) ≡ filter (is_near e params nearer) ds
+nearer-within e params bound ds place nearer is = within-order e params bound ds place nearer (order_of (tail_of (steps_behind e))) refl is

@@ -1,5 +1,5 @@
 -- The laws of windows, for all expressions, also those that no text spells.
-use Rattle.std.specs.Prelude.{◌≡◌, Bool, true, false, List, [], ◌∷◌, ◌++◌, filter, not, Some}
+use Rattle.std.specs.Prelude.{◌≡◌, ◌≤◌, ◌+◌, ℕ, Bool, true, false, List, [], ◌∷◌, ◌++◌, filter, not, Some}
 use Rattle.std.specs.Ordering.{is_gt}
 use Rattle.cs_value.specs.Tree.{Tree, null, Pairs}
 use Rattle.cs_value.specs.Words.{list_of}
@@ -9,7 +9,7 @@ use Rattle.cs_meaning.specs.Hits.{tail}
 use Rattle.cs_meaning.specs.Joining.{kind, entrance, entered}
 use Rattle.cs_meaning.specs.Ordered.{Ranked, ranks, sorted}
 use Rattle.cs_meaning.specs.Values.{rest_value, pipes_value}
-use Rattle.cs_window.specs.Window.{Window, window, is_near, first_in, IsBound}
+use Rattle.cs_window.specs.Window.{Window, window, is_near, first_in, keys_at, IsBound}
 
 -- With an element each one passes that does not rank behind it.
 abbrev pub IsClosed : List Bool → (Ranked → Bool) → Type 0
@@ -38,3 +38,20 @@ WindowSettlesTail = (e : Expression) (params : Pairs) (bound xs ys : List Tree)
     → IsBound e params bound xs
     → filter (is_near e params bound) xs ≡ filter (is_near e params bound) ys
     → (tail e params xs ≡ tail e params ys) × IsBound e params bound ys
+
+-- What the document at a place of the order is ordered by bounds a window that does not reach beyond
+-- the place.
+abbrev pub PlaceBoundsWindow : Type 0
+PlaceBoundsWindow = (e : Expression) (params : Pairs) (w : Window) (ds : List Tree) (place : ℕ)
+    (bound : List Tree)
+    → window e ≡ Some w → w.many ≤ place + 1 → keys_at e params ds place ≡ Some bound
+    → IsBound e params bound ds
+
+-- What one of the documents that do not stand behind a bound is ordered by is a nearer bound: those
+-- that do not stand behind it are all among them.
+abbrev pub NearerIsWithin : Type 0
+NearerIsWithin = (e : Expression) (params : Pairs) (bound ds : List Tree) (place : ℕ)
+    (nearer : List Tree)
+    → keys_at e params (filter (is_near e params bound) ds) place ≡ Some nearer
+    → filter (is_near e params nearer) (filter (is_near e params bound) ds)
+    ≡ filter (is_near e params nearer) ds

@@ -1,13 +1,13 @@
 -- The window of a simple query: the first documents in an order, which are all that its answer is
 -- made of. This project's profile.
-use Rattle.std.specs.Prelude.{◌≡◌, ◌≤◌, ℕ, Bool, true, filter, length, List, [], ◌∷◌, map, take, not, Option, Some, None, if◌then◌else◌}
+use Rattle.std.specs.Prelude.{◌≡◌, ◌≤◌, ℕ, Bool, true, filter, length, List, [], ◌∷◌, map, take, not, Option, Some, None, option_and_then, slice_get, if◌then◌else◌}
 use Rattle.std.specs.Option.{option_map, option_map_or}
 use Rattle.std.specs.Ordering.{is_gt}
 use Rattle.cs_value.specs.Tree.{Tree, null, Pairs}
 use Rattle.cs_syntax.specs.Expression.{Expression, pipe, Steps, more_steps, OrderKeys}
 use Rattle.cs_plan.specs.Steps.{is_order_name}
 use Rattle.cs_plan.specs.Simple.{tail_of, steps_behind}
-use Rattle.cs_meaning.specs.Ordered.{by_keys, sorted, ranked, directions}
+use Rattle.cs_meaning.specs.Ordered.{Ranked, by_keys, sorted, ranked, directions}
 use Rattle.cs_meaning.specs.Values.{keys_values}
 use Rattle.cs_order.specs.Asked.{first_asked}
 
@@ -46,10 +46,20 @@ is_near e params bound d =
     option_map_or (λ ks. not_behind ks bound (order_keys ks params d))
     (order_of (tail_of (steps_behind e))) true
 
+-- Documents in an order, each beside what it is ordered by.
+abbrev pub by_order : OrderKeys → Pairs → List Tree → List Ranked
+by_order ks params ds = sorted (directions ks) (map (ranked (order_keys ks params)) ds)
+
 -- The first documents in the order.
 abbrev pub first_in : Window → Pairs → List Tree → List Tree
-first_in w params ds = map (λ x. x.item)
-    (take w.many (sorted (directions w.keys) (map (ranked (order_keys w.keys params)) ds)))
+first_in w params ds = map (λ x. x.item) (take w.many (by_order w.keys params ds))
+
+-- What the document at a place of the order is ordered by, where an order stands first behind the
+-- filter of a query.
+abbrev pub keys_at : Expression → Pairs → List Tree → ℕ → Option (List Tree)
+keys_at e params ds place =
+    option_and_then (λ ks. option_map (λ x. x.by) (slice_get (by_order ks params ds) place))
+    (order_of (tail_of (steps_behind e)))
 
 -- Of these documents no fewer than the query's window has do not stand behind the bound.
 pub record IsBound (e : Expression) (params : Pairs) (bound ds : List Tree) : Type 0 where

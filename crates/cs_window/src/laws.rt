@@ -1,6 +1,7 @@
 //! What an order and a window have in common over all lists. The functions do nothing: each is
 //! there for its clause.
-ghost use Rattle.cs_window.specs.Laws.{SortedInTwo, FirstSettleTail, WindowSettlesTail};
+ghost use Rattle.cs_window.specs.Laws.{FirstSettleTail, NearerIsWithin, PlaceBoundsWindow};
+ghost use Rattle.cs_window.specs.Laws.{SortedInTwo, WindowSettlesTail};
 
 /// Where a test that passes an element passes each one that does not rank behind it, an order is
 /// that of the elements that pass, and behind them that of the others.
@@ -19,4 +20,16 @@ pub fn first_settle_tail()
 /// are the same, and no fewer than the answer is made of.
 pub fn window_settles_tail()
     ensures { WindowSettlesTail }
+{}
+
+/// What the document at a place of the order is ordered by bounds a window that does not reach beyond
+/// the place.
+pub fn place_bounds_window()
+    ensures { PlaceBoundsWindow }
+{}
+
+/// What one of the documents that do not stand behind a bound is ordered by is a nearer bound: those
+/// that do not stand behind it are all among them.
+pub fn nearer_is_within()
+    ensures { NearerIsWithin }
 {}

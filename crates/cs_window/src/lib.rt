@@ -4,4 +4,6 @@
 
 mod laws;
 
-pub use laws::{first_settle_tail, sorted_in_two, window_settles_tail};
+pub use laws::{
+    first_settle_tail, nearer_is_within, place_bounds_window, sorted_in_two, window_settles_tail,
+};
