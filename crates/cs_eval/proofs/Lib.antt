@@ -1,2 +1,3 @@
 mod Found
 pub mod Simples
+mod Bounded

@@ -1,18 +1,18 @@
 -- A simple query by its parts.
-use Rattle.std.proofs.Common.{◌≡◌, ◌≤◌, ◌+◌, ℕ, List, [], ◌∷◌, map, length, sym, ap, ◌∙◌, rules, Vec, Box, Global, refl, true, false, true≢false, cond, Bool, ◌&&◌, IfNone, arith}
+use Rattle.std.proofs.Common.{◌≡◌, ◌≤◌, ◌+◌, ℕ, List, [], ◌∷◌, map, length, sym, ap, ◌∙◌, rules, Vec, Box, Global, refl, true, false, true≢false, cond, Bool, IfNone, arith}
 use Rattle.std.specs.Prelude.{filter, IfSome}
 use Rattle.std.proofs.Common.{Option, None, Some}
 use Rattle.cs_value.specs.Words.{list_of}
 use Rattle.cs_value.specs.Tree.{Tree, null, Pairs}
 use Rattle.cs_view.specs.Keys.{Sel, has, has_all, selected}
 use Rattle.cs_view.specs.declared.key.Key.{Key}
-use Rattle.cs_syntax.specs.Expression.{Expression, everything, chain, bracket, Steps, no_steps, more_steps, steps_of}
+use Rattle.cs_syntax.specs.Expression.{Expression, everything, chain, bracket, Steps, more_steps, steps_of}
 use Rattle.cs_syntax.specs.View.{expression, step}
 use Rattle.cs_syntax.specs.declared.tree.Expr.{Expr, the_lemmas}
 use Rattle.cs_syntax.specs.declared.tree.Expr as code
 use Rattle.cs_syntax.specs.declared.tree.Step.{Step as CodeStep}
 use Rattle.cs_plan.specs.Filters.{filter_keys, key_in}
-use Rattle.cs_plan.specs.Simple.{is_simple, is_simple_rest, quiet_step, quiet_steps, are_tail_steps, filter_of, steps_behind, query_key, query_keys}
+use Rattle.cs_plan.specs.Simple.{is_simple, filter_of, steps_behind, query_key, query_keys}
 use Rattle.cs_meaning.specs.Hits.{is_hit, hits, tail, cost}
 use Rattle.cs_meaning.specs.Looked.{query_looked, starts_with_filter}
 use Rattle.cs_meaning.specs.Operators.{is_true}
@@ -21,6 +21,7 @@ use Rattle.cs_meaning.proofs.Simple.{simple-looked, simple-tail}
 use Rattle.cs_meaning.proofs.Sound.{filter-within}
 use Rattle.cs_meaning.proofs.TrueKey.{true-has_all, all-have_key}
 use Rattle.cs_expr.specs.Starts.{enter_value}
+use Rattle.cs_window.specs.Tails.{is_filtered}
 
 pub expression_chain : (base : Box Expr Global) (ss : Vec CodeStep Global) → expression (code.Chain base ss) ≡ chain (expression base.value) (steps_of (map step ss.items))
 unfolding expression step
@@ -96,10 +97,6 @@ pub none_then : {A : Type 0} (r : Option A) {P Q : Type 0} → (P → Q) → IfN
 none_then None f h = f h
 none_then (Some x) f h = tt
 
-rest_not_simple : (ss : Steps) → starts_with_filter ss ≡ false → is_simple_rest ss ≡ false
-rest_not_simple no_steps h = refl
-rest_not_simple (more_steps s ss) h = ap (λ (b : Bool). (b && quiet_step s) && (are_tail_steps ss && quiet_steps ss)) h
-
-pub not_simple : (e : Expr) (base : Box Expr Global) (v : Vec CodeStep Global) (b : Expr) (ss : List CodeStep) → e ≡ code.Chain base v → b ≡ base.value → b ≡ code.All → ss ≡ v.items
-    → starts_with_filter (steps_of (map step ss)) ≡ false → is_simple (expression e) ≡ false
-not_simple e base v b ss is there all same h = ap is_simple (star_chain e base v b ss is there all same) ∙ rest_not_simple (steps_of (map step ss)) h
+pub not_filtered : (e : Expr) (base : Box Expr Global) (v : Vec CodeStep Global) (b : Expr) (ss : List CodeStep) → e ≡ code.Chain base v → b ≡ base.value → b ≡ code.All → ss ≡ v.items
+    → starts_with_filter (steps_of (map step ss)) ≡ false → is_filtered (expression e) ≡ false
+not_filtered e base v b ss is there all same h = ap is_filtered (star_chain e base v b ss is there all same) ∙ h

@@ -2,6 +2,7 @@
 #![tactic(auto)]
 
 mod queries;
+mod windows;
 
 pub use cs_meaning::{
     functions_are_evaluated, hits_have_key, looked_settles_value, quiet_asks_nothing,
@@ -9,4 +10,5 @@ pub use cs_meaning::{
     true_has_key,
 };
 pub use cs_parts::Got;
-pub use queries::{eval, hit, hits, keys_of, tail};
+pub use queries::{eval, hit, hits, key_of, keys_of, tail};
+pub use windows::{is_near, keys_at, tail_over, window, windowed};

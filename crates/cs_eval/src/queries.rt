@@ -1,4 +1,4 @@
-//! Queries: any one over a view, and simple ones over the documents that have their key.
+//! Queries: any one over a view, and those of one filter over the documents that have their key.
 ghost use Rattle.std.specs.Prelude.{◌≡◌, ◌≤◌, ◌+◌, ◌∷◌, ◌++◌, [], true, false, IfNone, IfOk, IfSome, OnOk, map, filter};
 ghost use Rattle.cs_value.specs.Words.{list_of};
 ghost use Rattle.cs_value.specs.Tree.{null as null_tree};
@@ -9,12 +9,14 @@ ghost use Rattle.cs_syntax.specs.View.{expression, step as step_of};
 ghost use Rattle.cs_view.specs.Scopes.{scope};
 ghost use Rattle.cs_view.specs.View.{doc as document};
 ghost use Rattle.cs_plan.specs.Simple.{is_simple, query_key, query_keys};
+ghost use Rattle.cs_plan.specs.Steps.{bracketed, condition};
 ghost use Rattle.cs_meaning.specs.Hits.{is_hit, hits, tail, cost};
 ghost use Rattle.cs_meaning.specs.Looked.{query_looked};
 ghost use Rattle.cs_meaning.specs.Operators.{is_true};
 ghost use Rattle.cs_parts.specs.Parts.{got};
 ghost use Rattle.cs_meaning.specs.Values.{value as value_of, pipes_value, query_value};
 ghost use Rattle.cs_expr.specs.Starts.{enter_value};
+ghost use Rattle.cs_window.specs.Tails.{is_filtered};
 
 use cs_expr::{enter, eval as evaluate, holds, keep_lent, pipes};
 use cs_parts::{Got, NoDocs, Source, head_filter, kinds, push};
@@ -22,11 +24,12 @@ use cs_plan::{choose, filter_keys, simple};
 use cs_syntax::{Expr, Query, Step};
 use cs_value::{Fields, NoMemory, Steps, Val};
 use cs_view::{Doc, Key, Record, Scope, View};
+use cs_window::simple_is_filtered;
 use std::alloc::Global;
 use std::sync::ledger::Ledger;
 
 // The dataset of an evaluation that asks for no document.
-static NO_DOCS: NoDocs = NoDocs;
+pub(crate) static NO_DOCS: NoDocs = NoDocs;
 
 /// The value of a query over the documents of a view: that of GROQ-1.revision1 as this project's
 /// profile has it, in a scope whose `@` is null and which has no parent. What is borrowed is lent
@@ -61,10 +64,10 @@ pub fn eval<'s, V: View<L>, L: Ledger>(
     evaluate(alloc, query.expr(), &root, params, view, keys, steps)
 }
 
-/// Whether the filter of a simple query is true of the document. It visits nothing, and no counter
-/// is handed over.
+/// Whether the filter of a query is true of the document, where no dataset is asked. It visits
+/// nothing, and no counter is handed over.
 pub fn hit(alloc: Global, query: &Query, params: &Fields, doc: &Doc) -> Result<bool, NoMemory>
-    requires { is_simple (expression_of query.now) ≡ true }
+    requires { is_filtered (expression_of query.now) ≡ true }
     ensures { IfOk result (λ b. b
         ≡ is_hit (expression_of query.now) (fields params.now) (document doc.now)) }
 {
@@ -89,8 +92,8 @@ pub fn hit(alloc: Global, query: &Query, params: &Fields, doc: &Doc) -> Result<b
     )
 }
 
-/// Copies of the documents of a view that make the filter of a simple query true, in the order of
-/// the dataset. No more documents are visited than have the key of the query.
+/// Copies of the documents of a view that make the filter of a query true, in the order of the
+/// dataset. No more documents are visited than have the key of the query.
 pub fn hits<V: View<L>, L: Ledger>(
     alloc: Global,
     query: &Query,
@@ -98,7 +101,7 @@ pub fn hits<V: View<L>, L: Ledger>(
     view: &V,
     steps: &mut Steps<L>,
 ) -> Result<Vec<Doc>, NoMemory>
-    requires { is_simple (expression_of query.now) ≡ true }
+    requires { is_filtered (expression_of query.now) ≡ true }
     ensures hits { IfOk result (λ v. map document v.items
         ≡ hits (expression_of query.now) (fields params.now) (V.docs view.now)) }
     ensures visits { steps.new
@@ -121,7 +124,7 @@ fn push_hit(
     doc: &Doc,
     found: &mut Vec<Doc>,
 ) -> Result<(), NoMemory>
-    requires { is_simple (expression_of query.now) ≡ true }
+    requires { is_filtered (expression_of query.now) ≡ true }
     ensures { OnOk result (map document found.new.items
         ≡ map document found.old.items
         ++ hits (expression_of query.now) (fields params.now) (document doc.now ∷ [])) }
@@ -132,10 +135,10 @@ fn push_hit(
     Ok(())
 }
 
-/// The keys that the filter of a simple query gives: each of its hits has them all. It visits
-/// nothing. `NoMemory` where the allocator has no room for them.
+/// The keys that the filter of a query gives: each of its hits has them all. It visits nothing.
+/// `NoMemory` where the allocator has no room for them.
 pub fn keys_of(alloc: Global, query: &Query, params: &Fields) -> Result<Vec<Key>, NoMemory>
-    requires { is_simple (expression_of query.now) ≡ true }
+    requires { is_filtered (expression_of query.now) ≡ true }
     ensures { IfOk result
         (λ ks. ks.items ≡ query_keys (expression_of query.now) (fields params.now)) }
 {
@@ -149,15 +152,32 @@ pub fn keys_of(alloc: Global, query: &Query, params: &Fields) -> Result<Vec<Key>
     filter_keys(alloc, condition, &root, params)
 }
 
-/// What the steps behind the filter of a simple query make of the documents that make it true. It
-/// visits nothing, and no counter is handed over.
+/// The key by which a query of one filter looks its documents up. It visits nothing. `NoMemory` where
+/// the allocator has no room for it.
+pub fn key_of(alloc: Global, query: &Query, params: &Fields) -> Result<Key, NoMemory>
+    requires { is_filtered (expression_of query.now) ≡ true }
+    ensures { IfOk result
+        (λ k. k ≡ query_key (expression_of query.now) (fields params.now)) }
+{
+    let root = Scope {
+        this: query.null(),
+        parent: None,
+    };
+    let Some((condition, _later)) = parts(query.expr()) else {
+        unreachable!()
+    };
+    choose(alloc, condition, &root, params)
+}
+
+/// What the steps behind the filter of a query make of documents, where no dataset is asked: of its
+/// hits, the value of a simple query. It visits nothing, and no counter is handed over.
 pub fn tail<'s>(
     alloc: Global,
     query: &'s Query,
     params: &'s Fields,
     hits: &'s [Doc],
 ) -> Result<Val, NoMemory>
-    requires { is_simple (expression_of query.now) ≡ true }
+    requires { is_filtered (expression_of query.now) ≡ true }
     ensures { IfOk result (λ v. tree v
         ≡ tail (expression_of query.now) (fields params.now) (map document hits.now)) }
 {
@@ -173,7 +193,7 @@ pub fn tail<'s>(
 }
 
 // The documents as values.
-fn vals_of<'d>(alloc: Global, docs: &'d [Doc]) -> Result<Vec<&'d Val>, NoMemory>
+pub(crate) fn vals_of<'d>(alloc: Global, docs: &'d [Doc]) -> Result<Vec<&'d Val>, NoMemory>
     ensures { IfOk result (λ v. map (λ r. tree r.now) v.items ≡ map document docs.now) }
 {
     let mut vals = Vec::new(alloc);
@@ -183,12 +203,13 @@ fn vals_of<'d>(alloc: Global, docs: &'d [Doc]) -> Result<Vec<&'d Val>, NoMemory>
     Ok(vals)
 }
 
-// The filter of a simple query and the steps behind it.
+// The filter of a query and the steps behind it.
 #[tactic(auto, using(crate::proofs::Simples::form), unfolding(cs_syntax::specs::View::expression))]
-fn parts(expr: &Expr) -> Option<(&Expr, &[Step])>
+pub(crate) fn parts(expr: &Expr) -> Option<(&Expr, &[Step])>
     ensures some { IfSome result (λ x. expression expr.now ≡ chain everything
         (more_steps (bracket_step (expression x.0.now)) (steps_of (map step_of x.1.now)))) }
-    ensures none { IfNone result (is_simple (expression expr.now) ≡ false) }
+    ensures filter { IfSome result (λ x. bracketed (expression x.0.now) ≡ condition) }
+    ensures none { IfNone result (is_filtered (expression expr.now) ≡ false) }
 {
     match expr {
         Expr::Chain { base, steps } => match &**base {
@@ -289,6 +310,7 @@ fn simple_value<'s, V: View<L>, L: Ledger>(
     ensures visits { count.new
         ≤ count.old + cost (expression_of query.now) (fields params.now) (V.docs view.now) }
 {
+    simple_is_filtered();
     let Some((condition, later)) = parts(query.expr()) else {
         unreachable!()
     };

@@ -6,7 +6,7 @@ use Rattle.std.specs.BTreeMap.{insert_entry, is_at}
 use Rattle.std.specs.List.{list_any}
 use Rattle.std.specs.Map.{lookup, keys_of as names_of}
 use Rattle.std.specs.Option.{option_copied}
-use Rattle.std.proofs.lemmas.List.{drop_all, drop_more}
+use Rattle.std.proofs.lemmas.List.{append-nil, drop_all, drop_more}
 use Rattle.std.proofs.lemmas.List.Elements.{Contains-push, Contains-push_cases, Contains-append_left, Contains-append_right, Contains-append_cases}
 use Rattle.std.proofs.lemmas.Map.Lookups.{exact_bytes}
 use Rattle.std.proofs.lemmas.Map.Made.{is_some-lookup}
@@ -30,10 +30,10 @@ use Rattle.cs_live.specs.Fits.{SameKeys}
 itself : (ks : List Key) → SameKeys ks ks
 itself ks = record { there = λ k at. at; back = λ k at. at }
 
-are_one : (xs ys : List Key) → xs ≡ ys → SameKeys xs ys
+pub are_one : (xs ys : List Key) → xs ≡ ys → SameKeys xs ys
 are_one xs ys h = record { there = λ k at. subst (λ ks. Contains ks k) h at; back = λ k at. subst (λ ks. Contains ks k) (sym h) at }
 
-in_turn : (xs ys zs : List Key) → SameKeys xs ys → SameKeys ys zs → SameKeys xs zs
+pub in_turn : (xs ys zs : List Key) → SameKeys xs ys → SameKeys ys zs → SameKeys xs zs
 in_turn xs ys zs g h = record { there = λ k at. h.there k (g.there k at); back = λ k at. g.back k (h.back k at) }
 
 single : (a k : Key) → Contains (a ∷ []) k → a ≡ k
@@ -46,13 +46,13 @@ with_first os xs ys h = record {
   back = λ k at. ⊎_elim (Contains-append_left os xs k) (λ c. Contains-append_right os xs k (h.back k c)) (Contains-append_cases os ys k at);
 }
 
-with_last : (xs ys os : List Key) → SameKeys xs ys → SameKeys (xs ++ os) (ys ++ os)
+pub with_last : (xs ys os : List Key) → SameKeys xs ys → SameKeys (xs ++ os) (ys ++ os)
 with_last xs ys os h = record {
   there = λ k at. ⊎_elim (λ c. Contains-append_left ys os k (h.there k c)) (Contains-append_right ys os k) (Contains-append_cases xs os k at);
   back = λ k at. ⊎_elim (λ c. Contains-append_left xs os k (h.back k c)) (Contains-append_right xs os k) (Contains-append_cases ys os k at);
 }
 
-turned : (xs ys : List Key) → SameKeys (xs ++ ys) (ys ++ xs)
+pub turned : (xs ys : List Key) → SameKeys (xs ++ ys) (ys ++ xs)
 turned xs ys = record {
   there = λ k at. ⊎_elim (Contains-append_right ys xs k) (Contains-append_left ys xs k) (Contains-append_cases xs ys k at);
   back = λ k at. ⊎_elim (Contains-append_right xs ys k) (Contains-append_left xs ys k) (Contains-append_cases ys xs k at);
@@ -64,6 +64,25 @@ had xs a c = record {
   there = λ k at. Contains-append_left xs (a ∷ []) k at;
   back = λ k at. ⊎_elim (λ b. b) (λ is. subst (Contains xs) is c) (Contains-push_cases xs a k at);
 }
+
+-- keys with none of their own
+pub whole_keys : (rest own looked : List Key) → own ≡ [] → SameKeys rest looked → SameKeys (rest ++ own) looked
+whole_keys rest own looked h same = in_turn (rest ++ own) rest looked (are_one (rest ++ own) rest (ap (λ (o : List Key). rest ++ o) h ∙ append-nil rest)) same
+
+pub rest_keys : (rest own looked : List Key) → own ≡ [] → SameKeys (rest ++ own) looked → SameKeys rest looked
+rest_keys rest own looked h same = in_turn rest (rest ++ own) looked (are_one rest (rest ++ own) (sym (ap (λ (o : List Key). rest ++ o) h ∙ append-nil rest))) same
+
+-- keys with one of their own
+pub with_own : (rest own looked : List Key) (k : Key) → SameKeys rest looked → own ≡ k ∷ [] → SameKeys (rest ++ own) (looked ++ k ∷ [])
+with_own rest own looked k same is =
+    in_turn (rest ++ own) (rest ++ k ∷ []) (looked ++ k ∷ [])
+    (are_one (rest ++ own) (rest ++ k ∷ []) (ap (λ (o : List Key). rest ++ o) is)) (with_last rest looked (k ∷ []) same)
+
+pub own_keys : (rest own looked ks : List Key) (k : Key) → SameKeys rest looked → own ≡ k ∷ [] → ks ≡ k ∷ looked → SameKeys (rest ++ own) ks
+own_keys rest own looked ks k same is all =
+    in_turn (rest ++ own) (looked ++ k ∷ []) ks
+    (with_own rest own looked k same is)
+    (in_turn (looked ++ k ∷ []) (k ∷ looked) ks (turned looked (k ∷ [])) (are_one (k ∷ looked) ks (sym all)))
 
 -- ---- ids
 module _ {V : Type 0} where

@@ -3,9 +3,11 @@ mod Coded
 mod Found
 mod Keyed
 mod Named
+mod Nearing
 mod News
 mod Places
 mod Refreshing
 mod Sames
 mod Simple
 mod Untouched
+mod Windowed

@@ -13,7 +13,7 @@ use Rattle.cs_view.specs.Document.{id_of}
 use Rattle.cs_view.specs.View.{doc}
 use Rattle.cs_view.specs.declared.doc.Doc.{Doc}
 use Rattle.cs_view.proofs.Booleans.{and-left, and-right}
-use Rattle.cs_live.specs.Rows.{IsPlaceOf}
+use Rattle.cs_live.specs.Held.{IsPlaceOf}
 
 flip : (a b : List ℕ) (o : Ordering) → id_cmp a b ≡ o → id_cmp b a ≡ ordering_reverse o
 flip a b o h = nat_list_cmp_total.antisymm b a ∙ ap ordering_reverse h

@@ -1,6 +1,6 @@
 -- When entries fit a dataset: their last answers are the values over it, and what each keeps beside
 -- its answer belongs to it. This project's profile.
-use Rattle.std.specs.Prelude.{◌≡◌, ℕ, ◌<◌, ◌≤◌, length, List, true, false, IsTrue, Contains, ⊤}
+use Rattle.std.specs.Prelude.{◌≡◌, ℕ, ◌<◌, ◌≤◌, length, List, true, false, IsTrue, IfSome, Contains, ⊤}
 use Rattle.std.specs.List.{All, AllZip}
 use Rattle.cs_value.specs.Tree.{Tree, Pairs}
 use Rattle.cs_value.specs.View.{tree, fields}
@@ -13,13 +13,16 @@ use Rattle.cs_plan.specs.Simple.{is_simple}
 use Rattle.cs_meaning.specs.Hits.{hits}
 use Rattle.cs_meaning.specs.Looked.{query_looked}
 use Rattle.cs_meaning.specs.Values.{query_value}
-use Rattle.cs_live.specs.Keys.{keys_of}
-use Rattle.cs_live.specs.Rows.{rows as rows_of, IsAnswered}
+use Rattle.cs_window.specs.Tails.{is_windowed, tail_looked}
+use Rattle.cs_live.specs.Hits.{AreHits, docs_of}
+use Rattle.cs_live.specs.Keys.{keys_of, rest_of}
+use Rattle.cs_live.specs.Rows.{rows as rows_of, IsSettled}
 use Rattle.cs_live.specs.Lives.{LiveQuery, refreshed, is_named, most_lives}
 use Rattle.cs_live.specs.Found.{AreFound}
 use Rattle.cs_live.specs.Entries.{query_of, params_of, last_of, live_query, entries}
 use Rattle.cs_live.specs.declared.entry.Entry.{Entry}
 use Rattle.cs_live.specs.declared.recorded.Recorded.{Recorded}
+use Rattle.cs_live.specs.declared.hits.Hits.{Hits}
 use Rattle.cs_live.specs.declared.entry.Kept.{Kept}
 use Rattle.cs_live.specs.declared.entry.Kept.TheVariants.{ByRecord, InRows}
 use Rattle.cs_live.specs.declared.rows.Rows.{Rows}
@@ -32,19 +35,28 @@ pub record SameKeys (one other : List Key) : Type 0 where
   pub there : (k : Key) → Contains one k → Contains other k
   pub back : (k : Key) → Contains other k → Contains one k
 
+-- documents that are kept beside a record fit a dataset: the query is windowed, they are its hits,
+-- and the rest of the keys are those that the steps behind its filter look up
+pub record FitsWindow (docs : List Tree) (e : Expression) (ps : Pairs) (behind : List Key)
+    (h : Hits) : Type 0 where
+  pub windowed : IsTrue (is_windowed e)
+  pub hits : AreHits docs e ps h
+  pub rest : SameKeys behind (tail_looked docs e ps (docs_of h))
+
 -- an answer that is kept by its record fits a dataset: its query is not simple, it is the value
 -- over the dataset, and the keys are those that finding it looks up, and no other
 pub record FitsRecord (docs : List Tree) (r : Recorded) : Type 0 where
   pub compound : is_simple (query r.query) ≡ false
   pub last : tree r.last ≡ query_value docs (fields r.params) (query r.query)
   pub keys : SameKeys (keys_of r.keys) (query_looked docs (fields r.params) (query r.query))
+  pub hits : IfSome r.hits (FitsWindow docs (query r.query) (fields r.params) (rest_of r.keys))
 
 -- one that is kept in rows fits a dataset: the query is simple, the rows are its hits, and the
--- answer is what its tail makes of them
+-- answer is what its tail makes of them; rows that are kept near its window settle the answer
 pub record FitsRows (docs : List Tree) (r : Rows) : Type 0 where
   pub simple : IsTrue (is_simple (query r.query))
   pub rows : rows_of r ≡ hits (query r.query) (fields r.params) docs
-  pub answered : IsAnswered r
+  pub settled : IsSettled r
 
 abbrev pub FitsKept : List Tree → Kept → Type 0
 FitsKept docs (ByRecord r) = FitsRecord docs r

@@ -8,6 +8,10 @@ use Rattle.cs_live.specs.declared.keys.Keys.{Keys}
 abbrev pub ids_of : Keys → List Key
 ids_of k = map (λ p. Id p.0) k.ids
 
--- the ids, and the others
+-- the ids, and the others; where the query is windowed, without its own key
+abbrev pub rest_of : Keys → List Key
+rest_of k = ids_of k ++ k.others
+
+-- all of them
 abbrev pub keys_of : Keys → List Key
-keys_of k = ids_of k ++ k.others
+keys_of k = rest_of k ++ k.own

@@ -1,8 +1,13 @@
 pub mod Brought
 pub mod Entries
+pub mod Evaluated
 pub mod Fits
+pub mod Followed
 pub mod Found
+pub mod Held
+pub mod Hits
 pub mod Keys
 pub mod Laws
 pub mod Lives
+pub mod Near
 pub mod Rows

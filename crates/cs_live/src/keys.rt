@@ -6,7 +6,7 @@ ghost use Rattle.cs_view.specs.Touched.{touched, touches};
 ghost use Rattle.cs_view.specs.View.{edit, edits};
 ghost use Rattle.cs_interest.specs.Interest.{interest_code};
 ghost use Rattle.cs_live.specs.Fits.{SameKeys};
-ghost use Rattle.cs_live.specs.Keys.{ids_of, keys_of};
+ghost use Rattle.cs_live.specs.Keys.{ids_of, keys_of, rest_of};
 
 use cs_interest::interest_code;
 use cs_value::{NoMemory, OrderedMap};
@@ -15,11 +15,13 @@ use std::alloc::Global;
 use std::hash::RandomState;
 
 /// The keys that finding an answer looked up: ids, each once, apart from the others, so that a
-/// change finds its id among them. With the codes under which interest in them is held.
+/// change finds its id among them; and the own key of a windowed query, apart from those that the
+/// steps behind its filter looked up. With the codes under which interest in them is held.
 #[derive(Drop)]
 pub(crate) struct Keys {
     ids: OrderedMap<()>,
     others: Record,
+    own: Record,
     pub(crate) codes: Vec<u64>,
 }
 
@@ -27,12 +29,14 @@ impl Keys {
     /// The keys of the record.
     pub(crate) fn of(alloc: Global, seed: &RandomState, looked: Record) -> Result<Keys, NoMemory>
         ensures keys { IfOk result (λ keys. SameKeys (keys_of keys) looked) }
+        ensures own { IfOk result (λ keys. keys.own ≡ []) }
         ensures codes { IfOk result
             (λ keys. keys.codes.items ≡ map (interest_code seed.now) looked) }
     {
         let mut keys = Keys {
             ids: OrderedMap::new(alloc),
             others: Record::new(alloc),
+            own: Record::new(alloc),
             codes: Vec::new(alloc),
         };
         for key in looked.into_keys() {
@@ -41,9 +45,28 @@ impl Keys {
         Ok(keys)
     }
 
+    /// The own key of a windowed query, and the keys of the record.
+    pub(crate) fn with(
+        alloc: Global,
+        seed: &RandomState,
+        own: Key,
+        looked: Record,
+    ) -> Result<Keys, NoMemory>
+        ensures rest { IfOk result (λ keys. SameKeys (rest_of keys) looked) }
+        ensures own { IfOk result (λ keys. keys.own ≡ own ∷ []) }
+        ensures codes { IfOk result
+            (λ keys. keys.codes.items ≡ map (interest_code seed.now) (looked ++ own ∷ [])) }
+    {
+        let mut keys = Keys::of(alloc, seed, looked)?;
+        keys.codes.push(interest_code(seed, &own))?;
+        keys.own.add(own)?;
+        Ok(keys)
+    }
+
     // Adds the key and its code; an id that is there stays as it is.
     fn add(&mut self, seed: &RandomState, key: Key) -> Result<(), NoMemory>
-        ensures keys { OnOk result (SameKeys (keys_of self.new) (keys_of self.old ++ key ∷ [])) }
+        ensures keys { OnOk result (SameKeys (rest_of self.new) (rest_of self.old ++ key ∷ [])) }
+        ensures own { self.new.own ≡ self.old.own }
         ensures codes { OnOk result
             (self.new.codes.items ≡ self.old.codes.items ++ interest_code seed.now key ∷ []) }
     {
@@ -54,7 +77,8 @@ impl Keys {
 
     // Puts the key beside the others.
     fn put_key(&mut self, key: Key) -> Result<(), NoMemory>
-        ensures keys { OnOk result (SameKeys (keys_of self.new) (keys_of self.old ++ key ∷ [])) }
+        ensures keys { OnOk result (SameKeys (rest_of self.new) (rest_of self.old ++ key ∷ [])) }
+        ensures own { self.new.own ≡ self.old.own }
         ensures codes { self.new.codes ≡ self.old.codes }
     {
         match key {
@@ -70,6 +94,14 @@ impl Keys {
     pub(crate) fn touched(&self, changes: &[Change]) -> bool
         requires { are_changes (edits changes.now) ≡ true }
         ensures { result ≡ touched (keys_of self.now) (edits changes.now) }
+    {
+        self.rest_touched(changes) || self.own.touched(changes)
+    }
+
+    /// The same of the keys without the own key of a windowed query.
+    pub(crate) fn rest_touched(&self, changes: &[Change]) -> bool
+        requires { are_changes (edits changes.now) ≡ true }
+        ensures { result ≡ touched (rest_of self.now) (edits changes.now) }
     {
         self.has_some_id(changes) || self.others.touched(changes)
     }

@@ -2,9 +2,13 @@
 #![tactic(auto)]
 
 mod entry;
+mod evaluated;
+mod held;
+mod hits;
 mod keys;
 mod laws;
 mod live;
+mod near;
 mod recorded;
 mod rows;
 mod same;

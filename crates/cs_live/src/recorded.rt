@@ -1,5 +1,5 @@
 //! Answers that are kept with the keys that finding them looked up.
-ghost use Rattle.std.specs.Prelude.{◌≡◌, false, true, not, IfOk, OnOk};
+ghost use Rattle.std.specs.Prelude.{◌≡◌, false, true, not, IfOk, IfSome, OnOk};
 ghost use Rattle.cs_value.specs.Same.{same_tree};
 ghost use Rattle.cs_value.specs.View.{tree, fields};
 ghost use Rattle.cs_syntax.specs.Queries.{query as query_of};
@@ -7,30 +7,41 @@ ghost use Rattle.cs_view.specs.Changes.{are_changes, LeadTo, Before};
 ghost use Rattle.cs_view.specs.Touched.{touched};
 ghost use Rattle.cs_view.specs.View.{edits};
 ghost use Rattle.cs_plan.specs.Simple.{is_simple};
-ghost use Rattle.cs_live.specs.Fits.{Answers, FitsRecord, RefreshesKept};
+ghost use Rattle.cs_window.specs.Tails.{is_windowed};
+ghost use Rattle.cs_live.specs.Evaluated.{IsEvaluated};
+ghost use Rattle.cs_live.specs.Fits.{Answers, FitsRecord, FitsWindow, RefreshesKept};
+ghost use Rattle.cs_live.specs.Followed.{AreHeld, CanFollow, Followed, KeepsAnswer, StaysSettled};
 ghost use Rattle.cs_live.specs.Found.{IsCoded, IsFound, KeepsOthers};
-ghost use Rattle.cs_live.specs.Keys.{keys_of};
+ghost use Rattle.cs_live.specs.Keys.{keys_of, rest_of};
 ghost use Rattle.cs_live.specs.declared.entry.Kept.{Kept};
 
+use crate::evaluated::{Evaluated, evaluate, evaluate_hits};
+use crate::hits::Hits;
 use crate::keys::Keys;
 use crate::same::is_same;
-use cs_eval::{eval, looked_settles_value};
+use cs_eval::{hits_have_key, looked_settles_value, windowed};
 use cs_interest::Interest;
 use cs_syntax::Query;
 use cs_value::{Fields, NoMemory, Steps, Val};
-use cs_view::laws::{changes_lead_back_and_on, untouched_selects_the_same};
-use cs_view::{Change, Record, View};
+use cs_view::laws::{changes_lead_back_and_on, filter_follows_changes, untouched_selects_the_same};
+use cs_view::{Change, View};
+use cs_window::{
+    looked_settles_tail, window_settles_tail, window_settles_tail_over, windowed_is_filtered,
+    windowed_is_tail_of_hits,
+};
 use std::alloc::Global;
 use std::hash::RandomState;
 use std::sync::ledger::Ledger;
 
-/// A query with its last answer, and the keys that finding it looked up.
+/// A query with its last answer, and the keys that finding it looked up. Where it is windowed, with
+/// the documents that make its filter true besides.
 #[derive(Drop)]
 pub(crate) struct Recorded {
     pub(crate) query: Query,
     pub(crate) params: Fields,
     pub(crate) last: Val,
     pub(crate) keys: Keys,
+    pub(crate) hits: Option<Hits>,
 }
 
 impl Recorded {
@@ -48,15 +59,86 @@ impl Recorded {
             (fields params) (Kept.ByRecord r)) }
         ensures coded { IfOk result (λ r. IsCoded seed.now (Kept.ByRecord r)) }
     {
-        let mut record = Record::new(alloc);
-        let last = eval(alloc, &query, &params, view, &mut record, steps)?.into_val(alloc)?;
-        let keys = Keys::of(alloc, seed, record)?;
+        if windowed(&query) {
+            return Recorded::build_windowed(alloc, seed, query, params, view, steps);
+        }
+        let found = evaluate(alloc, seed, &query, &params, view, steps)?;
         Ok(Recorded {
             query,
             params,
-            last,
-            keys,
+            last: found.answer,
+            keys: found.keys,
+            hits: None,
         })
+    }
+
+    // The same of a windowed query.
+    fn build_windowed<V: View<L>, L: Ledger>(
+        alloc: Global,
+        seed: &RandomState,
+        query: Query,
+        params: Fields,
+        view: &V,
+        steps: &mut Steps<L>,
+    ) -> Result<Recorded, NoMemory>
+        requires compound { is_simple (query_of query) ≡ false }
+        requires windowed { is_windowed (query_of query) ≡ true }
+        ensures answers { IfOk result (λ r. Answers (V.docs view.now) (query_of query)
+            (fields params) (Kept.ByRecord r)) }
+        ensures coded { IfOk result (λ r. IsCoded seed.now (Kept.ByRecord r)) }
+    {
+        windowed_is_filtered();
+        let mut hits = Hits::find(alloc, &query, &params, view, steps)?;
+        let found = evaluate_hits(&mut hits, alloc, seed, &query, &params, view, steps)?;
+        Ok(Recorded {
+            query,
+            params,
+            last: found.answer,
+            keys: found.keys,
+            hits: Some(hits),
+        })
+    }
+
+    // Brings the hits of a windowed query behind the changes: whether the answer has to be found
+    // anew.
+    fn follow(&mut self, alloc: Global, changes: &[Change]) -> Result<bool, NoMemory>
+        requires changes { are_changes (edits changes.now) ≡ true }
+        requires hits { IfSome self.old.hits (CanFollow self.old) }
+        ensures followed { OnOk result (Followed (edits changes.now) self.old self.new) }
+        ensures settled { IfOk result (λ b. b ≡ false
+            → StaysSettled (edits changes.now) self.old self.new) }
+        ensures asks { KeepsAnswer self.old self.new }
+    {
+        match &mut self.hits {
+            Some(hits) => {
+                let moved = hits.follow(alloc, &self.query, &self.params, changes)?;
+                Ok(moved || self.keys.rest_touched(changes))
+            }
+            None => Ok(true),
+        }
+    }
+
+    // The value over the view, from the hits of a windowed query, and from all documents of another.
+    fn evaluate<V: View<L>, L: Ledger>(
+        &mut self,
+        alloc: Global,
+        seed: &RandomState,
+        view: &V,
+        steps: &mut Steps<L>,
+    ) -> Result<Evaluated, NoMemory>
+        requires { IfSome self.old.hits (AreHeld (V.docs view.now) self.old) }
+        ensures evaluated { IfOk result (IsEvaluated (V.docs view.now) (query_of self.old.query)
+            (fields self.old.params) seed.now) }
+        ensures fits { IfOk result (λ found. IfSome self.new.hits (FitsWindow (V.docs view.now)
+            (query_of self.old.query) (fields self.old.params) (rest_of found.keys))) }
+        ensures asks { KeepsAnswer self.old self.new }
+    {
+        match &mut self.hits {
+            Some(hits) => {
+                evaluate_hits(hits, alloc, seed, &self.query, &self.params, view, steps)
+            }
+            None => evaluate(alloc, seed, &self.query, &self.params, view, steps),
+        }
     }
 
     /// Brings the answer to the dataset after the changes, and the number to the keys that finding
@@ -84,22 +166,28 @@ impl Recorded {
         ensures found { OnOk result (IsFound interest.new number (Kept.ByRecord self.new)) }
         ensures others { OnOk result (KeepsOthers number interest.old interest.new) }
     {
+        looked_settles_value();
+        untouched_selects_the_same();
+        changes_lead_back_and_on();
+        hits_have_key();
+        windowed_is_filtered();
+        windowed_is_tail_of_hits();
+        looked_settles_tail();
         if !self.keys.touched(changes) {
-            looked_settles_value();
-            untouched_selects_the_same();
-            changes_lead_back_and_on();
             return Ok(false);
         }
-        let mut record = Record::new(alloc);
-        let answer = eval(alloc, &self.query, &self.params, view, &mut record, steps)?.into_val(
-            alloc,
-        )?;
-        let keys = Keys::of(alloc, interest.seed(), record)?;
+        filter_follows_changes();
+        window_settles_tail();
+        window_settles_tail_over();
+        if !self.follow(alloc, changes)? {
+            return Ok(false);
+        }
+        let found = self.evaluate(alloc, interest.seed(), view, steps)?;
         interest.leave(number, &self.keys.codes);
-        interest.enter(number, &keys.codes)?;
-        let stale = !is_same(&answer, &self.last);
-        self.keys = keys;
-        self.last = answer;
+        interest.enter(number, &found.keys.codes)?;
+        let stale = !is_same(&found.answer, &self.last);
+        self.keys = found.keys;
+        self.last = found.answer;
         Ok(stale)
     }
 }

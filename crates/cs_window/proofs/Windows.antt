@@ -29,7 +29,7 @@ abbrev entered_rest : Pairs → Steps → Tree → Tree
 entered_rest params ss v = entered (entrance (kind ss)) (rest_value [] params ss (null ∷ [])) v
 
 -- the first of a list that is ordered
-first-ordered : (ds : List Bool) (f : Tree → List Tree) (k : ℕ) (ts : List Tree)
+pub first-ordered : (ds : List Bool) (f : Tree → List Tree) (k : ℕ) (ts : List Tree)
     → first_elements (Some k) (ordered ds f (list_of ts)) ≡ list_of (map (λ (x : Ranked). x.item) (take k (sorted ds (map (ranked f) ts))))
 first-ordered ds f k ts =
     ap (λ (us : List Tree). first_elements (Some k) (in_order ds (map (ranked f) us))) (members-trees ts)
@@ -144,16 +144,22 @@ near-is e params w bound h =
     let test : Option OrderKeys → Tree → Bool = λ o d. option_map_or (λ ks. not_behind ks bound (order_keys ks params d)) o true in
     ap test (window-order (tail_of (steps_behind e)) w h)
 
+-- lists that have the same documents near a bound have the same first documents
+pub near-first : (e : Expression) (params : Pairs) (bound xs ys : List Tree) (b : IsBound e params bound xs)
+    → filter (is_near e params bound) xs ≡ filter (is_near e params bound) ys → first_in b.within params xs ≡ first_in b.within params ys
+near-first e params bound xs ys b same =
+    let w = b.within in
+    let by = near-is e params w bound b.is in
+    first-near w params bound xs ys
+    (ap (λ (p : Tree → Bool). filter p xs) (sym by) ∙ (same ∙ ap (λ (p : Tree → Bool). filter p ys) by))
+    (subst (λ (p : Tree → Bool). w.many ≤ length (filter p xs)) by b.enough)
+
 pub tail-near : (e : Expression) (params : Pairs) (bound xs ys : List Tree) → IsBound e params bound xs
     → filter (is_near e params bound) xs ≡ filter (is_near e params bound) ys
     → (tail e params xs ≡ tail e params ys) × IsBound e params bound ys
 tail-near e params bound xs ys b same =
     let w = b.within in
-    let by = near-is e params w bound b.is in
-    let first : first_in w params xs ≡ first_in w params ys
-    = first-near w params bound xs ys
-    (ap (λ (p : Tree → Bool). filter p xs) (sym by) ∙ (same ∙ ap (λ (p : Tree → Bool). filter p ys) by))
-    (subst (λ (p : Tree → Bool). w.many ≤ length (filter p xs)) by b.enough) in (
+    let first : first_in w params xs ≡ first_in w params ys = near-first e params bound xs ys b same in (
       tail-first e params w xs b.is
           ∙ (ap (tail_value params (tail_of (tail_of (steps_behind e)))) first
           ∙ sym (tail-first e params w ys b.is)),

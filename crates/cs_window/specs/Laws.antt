@@ -1,14 +1,17 @@
 -- The laws of windows, for all expressions, also those that no text spells.
-use Rattle.std.specs.Prelude.{◌≡◌, ◌≤◌, ◌+◌, ℕ, Bool, true, false, List, [], ◌∷◌, ◌++◌, filter, not, Some}
+use Rattle.std.specs.Prelude.{◌≡◌, ◌≤◌, ◌+◌, ℕ, IsTrue, Bool, true, false, List, [], ◌∷◌, ◌++◌, filter, not, Some}
 use Rattle.std.specs.Ordering.{is_gt}
 use Rattle.cs_value.specs.Tree.{Tree, null, Pairs}
 use Rattle.cs_value.specs.Words.{list_of}
 use Rattle.cs_syntax.specs.Expression.{Expression}
-use Rattle.cs_plan.specs.Simple.{tail_of, steps_behind}
-use Rattle.cs_meaning.specs.Hits.{tail}
+use Rattle.cs_plan.specs.Simple.{is_simple, query_key, tail_of, steps_behind}
+use Rattle.cs_meaning.specs.Hits.{hits, tail}
 use Rattle.cs_meaning.specs.Joining.{kind, entrance, entered}
+use Rattle.cs_meaning.specs.Laws.{AgreeOn}
+use Rattle.cs_meaning.specs.Looked.{query_looked}
 use Rattle.cs_meaning.specs.Ordered.{Ranked, ranks, sorted}
-use Rattle.cs_meaning.specs.Values.{rest_value, pipes_value}
+use Rattle.cs_meaning.specs.Values.{rest_value, pipes_value, query_value}
+use Rattle.cs_window.specs.Tails.{is_filtered, is_windowed, tail_looked, tail_over}
 use Rattle.cs_window.specs.Window.{Window, window, is_near, first_in, keys_at, IsBound}
 
 -- With an element each one passes that does not rank behind it.
@@ -55,3 +58,34 @@ NearerIsWithin = (e : Expression) (params : Pairs) (bound ds : List Tree) (place
     → keys_at e params (filter (is_near e params bound) ds) place ≡ Some nearer
     → filter (is_near e params nearer) (filter (is_near e params bound) ds)
     ≡ filter (is_near e params nearer) ds
+
+-- A simple query is filtered.
+abbrev pub SimpleIsFiltered : Type 0
+SimpleIsFiltered = (e : Expression) → IsTrue (is_simple e) → IsTrue (is_filtered e)
+
+-- So is a windowed one.
+abbrev pub WindowedIsFiltered : Type 0
+WindowedIsFiltered = (e : Expression) → IsTrue (is_windowed e) → IsTrue (is_filtered e)
+
+-- A windowed query's value is what the steps behind its filter make of its hits, and it looks up its
+-- key and what these steps look up.
+abbrev pub WindowedIsTailOfHits : Type 0
+WindowedIsTailOfHits = (e : Expression) (params : Pairs) (docs : List Tree) → IsTrue (is_windowed e)
+    → (query_value docs params e ≡ tail_over docs e params (hits e params docs))
+    × (query_looked docs params e ≡ query_key e params ∷ tail_looked docs e params (hits e params docs))
+
+-- What the steps behind a filter look up settles what they make of documents.
+abbrev pub LookedSettlesTail : Type 0
+LookedSettlesTail = (e : Expression) (params : Pairs) (ds d1 d2 : List Tree)
+    → AgreeOn (tail_looked d1 e params ds) d1 d2
+    → (tail_over d1 e params ds ≡ tail_over d2 e params ds)
+    × (tail_looked d1 e params ds ≡ tail_looked d2 e params ds)
+
+-- Where a windowed query's window is bounded, lists that have the same documents that do not stand
+-- behind the bound give the same over each dataset, and the same is looked up.
+abbrev pub WindowSettlesTailOver : Type 0
+WindowSettlesTailOver = (e : Expression) (params : Pairs) (bound xs ys docs : List Tree)
+    → IsTrue (is_windowed e) → IsBound e params bound xs
+    → filter (is_near e params bound) xs ≡ filter (is_near e params bound) ys
+    → (tail_over docs e params xs ≡ tail_over docs e params ys)
+    × (tail_looked docs e params xs ≡ tail_looked docs e params ys)

@@ -1,7 +1,9 @@
 //! What an order and a window have in common over all lists. The functions do nothing: each is
 //! there for its clause.
 ghost use Rattle.cs_window.specs.Laws.{FirstSettleTail, NearerIsWithin, PlaceBoundsWindow};
-ghost use Rattle.cs_window.specs.Laws.{SortedInTwo, WindowSettlesTail};
+ghost use Rattle.cs_window.specs.Laws.{LookedSettlesTail, SimpleIsFiltered, SortedInTwo};
+ghost use Rattle.cs_window.specs.Laws.{WindowSettlesTail, WindowSettlesTailOver};
+ghost use Rattle.cs_window.specs.Laws.{WindowedIsFiltered, WindowedIsTailOfHits};
 
 /// Where a test that passes an element passes each one that does not rank behind it, an order is
 /// that of the elements that pass, and behind them that of the others.
@@ -32,4 +34,31 @@ pub fn place_bounds_window()
 /// that do not stand behind it are all among them.
 pub fn nearer_is_within()
     ensures { NearerIsWithin }
+{}
+
+/// A simple query is filtered: `*` and a filter behind it.
+pub fn simple_is_filtered()
+    ensures { SimpleIsFiltered }
+{}
+
+/// So is a windowed query.
+pub fn windowed_is_filtered()
+    ensures { WindowedIsFiltered }
+{}
+
+/// The value of a windowed query is what the steps behind its filter make of its hits, and it looks
+/// up its key and what these steps look up.
+pub fn windowed_is_tail_of_hits()
+    ensures { WindowedIsTailOfHits }
+{}
+
+/// What the steps behind a filter look up settles what they make of documents.
+pub fn looked_settles_tail()
+    ensures { LookedSettlesTail }
+{}
+
+/// Two lists of documents give the same over each dataset, and the same is looked up, where those of
+/// them that do not stand behind a bound are the same, and no fewer than a windowed query has.
+pub fn window_settles_tail_over()
+    ensures { WindowSettlesTailOver }
 {}

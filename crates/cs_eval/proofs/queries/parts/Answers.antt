@@ -1,6 +1,6 @@
 use Rattle.std.proofs.Common.{ap, ◌∙◌}
 use Rattle.cs_syntax.specs.Expression.{chain, everything}
-use Rattle.cs_eval.proofs.Simples.{star_chain, some_then, none_then, not_simple}
+use Rattle.cs_eval.proofs.Simples.{star_chain, some_then, none_then, not_filtered}
 use Rattle.cs_eval.proofs.queries.parts.Goals as goal
 
 pub returns-in-All-clause-some : goal.returns-in-All-clause-some
@@ -10,5 +10,5 @@ returns-in-All-clause-some c = some_then c.head_filter.result
 
 pub returns-in-All-clause-none : goal.returns-in-All-clause-none
 returns-in-All-clause-none c = none_then c.head_filter.result
-    (λ h. not_simple c.args.expr.now c.in-Chain.base c.in-Chain.steps c.deref.result.now c.deref-in-All.result.now c.in-Chain.is c.deref.ensures c.in-All.is c.deref-in-All.ensures.value h)
+    (λ h. not_filtered c.args.expr.now c.in-Chain.base c.in-Chain.steps c.deref.result.now c.deref-in-All.result.now c.in-Chain.is c.deref.ensures c.in-All.is c.deref-in-All.ensures.value h)
     c.head_filter.ensures.none

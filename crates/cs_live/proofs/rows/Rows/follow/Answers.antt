@@ -1,36 +1,24 @@
-use Rattle.std.proofs.Common.{◌≡◌, ◌∙◌, ◌+◌, ◌-◌, ℕ, ap, sym, subst, drop, arith}
-use Rattle.cs_value.specs.View.{tree}
-use Rattle.cs_view.specs.Changes.{After, changes_where}
-use Rattle.cs_view.specs.Dataset.{ascending}
-use Rattle.cs_view.specs.View.{edits}
-use Rattle.cs_view.proofs.Booleans.{or-left, or-right}
-use Rattle.cs_view.proofs.Datasets.{ascending-placed}
-use Rattle.cs_live.proofs.Refreshing.{rows-more, asks-on}
+use Rattle.std.proofs.Common.{◌∙◌, sym, refl}
+use Rattle.cs_value.specs.View.{tree, fields}
+use Rattle.cs_syntax.specs.Queries.{query}
+use Rattle.cs_meaning.specs.Hits.{tail}
+use Rattle.cs_live.specs.Hits.{docs_of}
+use Rattle.cs_live.proofs.Nearing.{stays_by, stays_enough}
 use Rattle.cs_live.proofs.Sames.{not_another}
-use Rattle.cs_live.specs.Rows.{rows, is_row}
 use Rattle.cs_live.proofs.rows.Rows.follow.Goals as goal
 
-pub loop-left-preserved : goal.loop-left-preserved
-loop-left-preserved c =
-    let old = c.args.self.now in let cur = c.loop-left.self in let new = c.place.new.self in
-    let changes = c.args.changes.now in let i = c.loop-left.left - 1 in
-    let inv = c.loop-left.invariant in
-    let moved = c.in_ok-moved.ensures in
-    let next : c.loop-left.left ≡ i + 1 = omega arith in
+pub returns-then-not-branch-clause-settled : goal.returns-then-not-branch-clause-settled
+returns-then-not-branch-clause-settled c =
+    let e = query c.args.self.now.query in let ps = fields c.args.self.now.params in
+    let old = c.args.self.now.hits in let new = c.follow.new.self in
+    let f = c.in_ok-follow.ensures in
+    let s = c.requires.settled in
+    let same = f.same (cc c.if-not-branch.true) in
     record {
-      within = omega arith;
-      placed = rows-more old cur new changes i c.index-changes-left.result (omega arith) c.index-changes-left.is inv.asks
-          (subst (λ (k : ℕ). rows cur ≡ After (rows old) (changes_where (is_row old) (edits (drop k changes)))) next inv.placed) moved.placed;
-      sorted = ap ascending moved.placed ∙ ascending-placed _ _ (rows cur) inv.sorted;
-      same = λ h. moved.same (or-right _ _ h) ∙ inv.same (or-left _ _ h);
-      asks = asks-on old cur new inv.asks c.place.ensures.asks;
-      answer = c.place.ensures.answer ∙ inv.answer;
+      answered = s.answered ∙ sym (stays_by e ps (tail e ps) (λ bound xs ys n h. (c.window_settles_tail.ensures e ps bound xs ys n h).0) old.near new.near (docs_of old) (docs_of new) s.near f.near s.enough f.bound same);
+      near = f.near;
+      enough = stays_enough e ps old.near new.near (docs_of old) (docs_of new) s.near f.near s.enough f.bound same;
     }
 
-pub returns-then-not-touched-clause-stale : goal.returns-then-not-touched-clause-stale
-returns-then-not-touched-clause-stale c = not_another (tree c.args.self.now.answer) (tree c.loop-left.self.answer) (ap tree (sym c.loop-left.invariant.answer))
-
-pub returns-clause-rows : goal.returns-clause-rows
-returns-clause-rows c =
-    let none : c.loop-left.left ≡ 0 = omega arith in
-    c.loop-left.invariant.placed ∙ ap (λ (k : ℕ). After (rows c.args.self.now) (changes_where (is_row c.args.self.now) (edits (drop k c.args.changes.now)))) none
+pub returns-then-not-branch-clause-stale : goal.returns-then-not-branch-clause-stale
+returns-then-not-branch-clause-stale c = not_another (tree c.args.self.now.answer) (tree c.args.self.now.answer) refl

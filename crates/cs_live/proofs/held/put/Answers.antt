@@ -4,7 +4,7 @@ use Rattle.cs_view.specs.Dataset.{with_doc}
 use Rattle.cs_view.specs.View.{doc}
 use Rattle.cs_view.specs.declared.doc.Doc.{Doc}
 use Rattle.cs_live.proofs.Places.{set_docs, insert_docs}
-use Rattle.cs_live.proofs.rows.put.Goals as goal
+use Rattle.cs_live.proofs.held.put.Goals as goal
 
 pub returns-in-Ok : goal.returns-in-Ok
 returns-in-Ok c =

@@ -4,7 +4,7 @@ use Rattle.cs_view.specs.Dataset.{without}
 use Rattle.cs_view.specs.View.{doc}
 use Rattle.cs_view.specs.declared.doc.Doc.{Doc}
 use Rattle.cs_live.proofs.Places.{remove_docs}
-use Rattle.cs_live.proofs.rows.remove.Goals as goal
+use Rattle.cs_live.proofs.held.remove.Goals as goal
 
 pub returns-in-Ok-clause-left : goal.returns-in-Ok-clause-left
 returns-in-Ok-clause-left c =

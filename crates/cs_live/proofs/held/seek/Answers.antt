@@ -5,7 +5,7 @@ use Rattle.cs_view.specs.Document.{id_of}
 use Rattle.cs_view.specs.View.{doc}
 use Rattle.cs_view.specs.declared.doc.Doc.{Doc}
 use Rattle.cs_live.proofs.Places.{sought}
-use Rattle.cs_live.proofs.rows.seek.Goals as goal
+use Rattle.cs_live.proofs.held.seek.Goals as goal
 
 pub returns : goal.returns
 returns c =

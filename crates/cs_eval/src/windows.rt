@@ -1,0 +1,279 @@
+//! Windows of queries: the first documents in an order, which alone an answer is made of; which
+//! documents do not stand behind a bound; and what the steps behind a filter make of documents.
+ghost use Rattle.std.specs.Prelude.{◌≡◌, ◌<◌, ◌∷◌, ◌++◌, [], IfOk, IfSome, OnOk, Some, length, map, option_map, take, true};
+ghost use Rattle.cs_value.specs.Tree.{null};
+ghost use Rattle.cs_value.specs.View.{tree, fields};
+ghost use Rattle.cs_syntax.specs.Expression.{keys_of, steps_of};
+ghost use Rattle.cs_syntax.specs.Queries.{query as expression_of};
+ghost use Rattle.cs_syntax.specs.View.{step as step_of, key as order_key_of};
+ghost use Rattle.cs_view.specs.Scopes.{scope};
+ghost use Rattle.cs_view.specs.View.{doc as document};
+ghost use Rattle.cs_plan.specs.Simple.{quiet_keys, tail_of};
+ghost use Rattle.cs_meaning.specs.Ordered.{ranked};
+ghost use Rattle.cs_order.specs.Ranked.{ranked as ranked_of};
+ghost use Rattle.cs_parts.specs.Parts.{item};
+ghost use Rattle.cs_window.specs.Tails.{is_filtered, is_windowed, tail_looked, tail_over};
+ghost use Rattle.cs_window.specs.Window.{by_order, is_near, keys_at, order_keys, order_of, window};
+
+use crate::queries::{NO_DOCS, parts, vals_of};
+use cs_expr::{enter, pipes, rank_each, rank_keys};
+use cs_order::{Ranked, first_asked, is_above, pipe_of};
+use cs_parts::{Got, Item, directions, kinds, push};
+use cs_plan::is_quiet;
+use cs_syntax::{OrderKey, Query, Step};
+use cs_value::{Fields, NoMemory, Steps, Val};
+use cs_view::{Doc, Record, Scope, View};
+use std::alloc::Global;
+use std::sync::ledger::Ledger;
+
+// The keys of the order that stands first among steps, and the steps behind it.
+#[tactic(auto, using(crate::proofs::Bounded::order))]
+fn order_of(steps: &[Step]) -> Option<(&[OrderKey], &[Step])>
+    ensures order { option_map (λ x. keys_of (map order_key_of x.0.now)) result
+        ≡ order_of (steps_of (map step_of steps.now)) }
+    ensures behind { IfSome result (λ x. steps_of (map step_of x.1.now)
+        ≡ tail_of (steps_of (map step_of steps.now))) }
+{
+    let (first, behind) = steps.split_first()?;
+    let (name, keys) = pipe_of(first)?;
+    if name.as_str() == "order" {
+        Some((keys, behind))
+    } else {
+        None
+    }
+}
+
+/// How many documents the window of a query has: the first in the order that stands behind its
+/// filter, which alone the answer is made of. `None` where no order stands there, or the step behind
+/// it does not say that it looks at a few alone.
+pub fn window(query: &Query) -> Option<usize>
+    ensures { IfSome result (λ many. option_map (λ w. w.many) (window (expression_of query.now))
+        ≡ Some many) }
+{
+    let (_condition, later) = parts(query.expr())?;
+    let (_order, behind) = order_of(later)?;
+    first_asked(behind)
+}
+
+// Whether the keys of an order look nothing up.
+#[tactic(auto, unfolding(cs_syntax::specs::View::key, cs_syntax::specs::View::expression))]
+fn are_quiet(order: &[OrderKey]) -> bool
+    ensures { result ≡ quiet_keys (keys_of (map order_key_of order.now)) }
+{
+    for key in order {
+        if !is_quiet(&key.key) {
+            return false;
+        }
+    }
+    true
+}
+
+/// Whether a query is windowed: its filter looks nothing up, and behind it stands an order by keys
+/// that look nothing up, and then a step that says that it looks at a few alone. What stands behind
+/// may look up anything.
+pub fn windowed(query: &Query) -> bool
+    ensures { result ≡ true → is_windowed (expression_of query.now) ≡ true }
+{
+    let Some((condition, later)) = parts(query.expr()) else {
+        return false;
+    };
+    let Some((order, behind)) = order_of(later) else {
+        return false;
+    };
+    if !is_quiet(condition) {
+        return false;
+    }
+    if first_asked(behind).is_none() {
+        return false;
+    }
+    are_quiet(order)
+}
+
+// Values as elements that are lent.
+fn lent<'v>(alloc: Global, vals: &'v [Val]) -> Result<Vec<Item<'v>>, NoMemory>
+    ensures { IfOk result (λ v. map item v.items ≡ map tree vals.now) }
+{
+    let mut items = Vec::new(alloc);
+    for val in vals {
+        push(&mut items, Item::Lent(val))?;
+    }
+    Ok(items)
+}
+
+// Documents as elements that are lent.
+fn lent_docs<'d>(alloc: Global, docs: &'d [Doc]) -> Result<Vec<Item<'d>>, NoMemory>
+    ensures { IfOk result (λ v. map item v.items ≡ map document docs.now) }
+{
+    let mut items = Vec::new(alloc);
+    for doc in docs {
+        push(&mut items, Item::Lent(doc.val()))?;
+    }
+    Ok(items)
+}
+
+// Copies of the values.
+fn copies(alloc: Global, items: &[Item<'_>]) -> Result<Vec<Val>, NoMemory>
+    ensures { IfOk result (λ v. map tree v.items ≡ map item items.now) }
+{
+    let mut vals = Vec::new(alloc);
+    for one in items {
+        push(&mut vals, one.val().copy(alloc)?)?;
+    }
+    Ok(vals)
+}
+
+// A value beside what an order ranks it by, in the scope of null alone. No dataset is asked.
+fn ranked<'k>(
+    alloc: Global,
+    order: &'k [OrderKey],
+    root: &'k Scope<'k>,
+    params: &'k Fields,
+    this: &'k Val,
+) -> Result<Ranked<'k, 'k>, NoMemory>
+    requires { scope root.now ≡ null ∷ [] }
+    ensures { IfOk result (λ r. ranked_of r ≡ ranked (order_keys
+        (keys_of (map order_key_of order.now)) (fields params.now)) (tree this.now)) }
+{
+    let mut aside = Record::new(alloc);
+    let mut nothing = ();
+    let by = rank_keys(
+        alloc,
+        order,
+        root,
+        params,
+        &NO_DOCS,
+        this,
+        &mut aside,
+        &mut nothing,
+    )?;
+    Ok(Ranked {
+        by,
+        item: Item::Lent(this),
+    })
+}
+
+// The first documents in an order, each beside what it is ranked by.
+fn first_ranked<'k>(
+    alloc: Global,
+    order: &'k [OrderKey],
+    limit: usize,
+    root: &'k Scope<'k>,
+    params: &'k Fields,
+    docs: &'k [Doc],
+) -> Result<Vec<Ranked<'k, 'k>>, NoMemory>
+    requires { scope root.now ≡ null ∷ [] }
+    ensures { IfOk result (λ v. map ranked_of v.items ≡ take limit (by_order
+        (keys_of (map order_key_of order.now)) (fields params.now) (map document docs.now))) }
+{
+    let directions = directions(alloc, order)?;
+    let items = lent_docs(alloc, docs)?;
+    let mut aside = Record::new(alloc);
+    let mut nothing = ();
+    rank_each(
+        alloc,
+        order,
+        &directions,
+        Some(limit),
+        root,
+        params,
+        &NO_DOCS,
+        items,
+        &mut aside,
+        &mut nothing,
+    )
+}
+
+/// Whether a document does not stand behind a bound in the order that stands first behind the filter
+/// of a query; where no order stands there, each document is near. The bound is what
+/// `keys_at` tells of a document. It visits nothing.
+pub fn is_near(
+    alloc: Global,
+    query: &Query,
+    params: &Fields,
+    bound: &[Val],
+    doc: &Doc,
+) -> Result<bool, NoMemory>
+    requires { is_filtered (expression_of query.now) ≡ true }
+    ensures { IfOk result (λ b. b ≡ is_near (expression_of query.now) (fields params.now)
+        (map tree bound.now) (document doc.now)) }
+{
+    let root = Scope {
+        this: query.null(),
+        parent: None,
+    };
+    let Some((_condition, later)) = parts(query.expr()) else {
+        unreachable!()
+    };
+    let Some((order, _behind)) = order_of(later) else {
+        return Ok(true);
+    };
+    let directions = directions(alloc, order)?;
+    let near = ranked(alloc, order, &root, params, doc.val())?;
+    let last = Ranked {
+        by: lent(alloc, bound)?,
+        item: Item::Lent(query.null()),
+    };
+    Ok(!is_above(&directions, &near, &last))
+}
+
+/// What the document at a place of the order is ordered by, the place counted from 0, where an order
+/// stands first behind the filter of a query. `None` exactly where no order stands there. It
+/// visits nothing.
+pub fn keys_at(
+    alloc: Global,
+    query: &Query,
+    params: &Fields,
+    docs: &[Doc],
+    place: usize,
+) -> Result<Option<Vec<Val>>, NoMemory>
+    requires filtered { is_filtered (expression_of query.now) ≡ true }
+    requires within { place < length docs.now }
+    ensures { IfOk result (λ o. option_map (λ bound. map tree bound.items) o
+        ≡ keys_at (expression_of query.now) (fields params.now) (map document docs.now) place) }
+{
+    let root = Scope {
+        this: query.null(),
+        parent: None,
+    };
+    let Some((_condition, later)) = parts(query.expr()) else {
+        unreachable!()
+    };
+    let Some((order, _behind)) = order_of(later) else {
+        return Ok(None);
+    };
+    let first = first_ranked(alloc, order, place + 1, &root, params, docs)?;
+    Ok(Some(copies(alloc, &first[place].by)?))
+}
+
+/// What the steps behind the filter of a query make of documents over the documents of a view: of
+/// its hits, the value of a windowed query. The record takes the key of each look-up.
+pub fn tail_over<'s, V: View<L>, L: Ledger>(
+    alloc: Global,
+    query: &'s Query,
+    params: &'s Fields,
+    hits: &'s [Doc],
+    view: &'s V,
+    keys: &mut Record,
+    steps: &mut Steps<L>,
+) -> Result<Val, NoMemory>
+    requires { is_filtered (expression_of query.now) ≡ true }
+    ensures value { IfOk result (λ v. tree v ≡ tail_over (V.docs view.now)
+        (expression_of query.now) (fields params.now) (map document hits.now)) }
+    ensures keys { OnOk result (keys.new ≡ keys.old ++ tail_looked (V.docs view.now)
+        (expression_of query.now) (fields params.now) (map document hits.now)) }
+{
+    let root = Scope {
+        this: query.null(),
+        parent: None,
+    };
+    let Some((_condition, later)) = parts(query.expr()) else {
+        unreachable!()
+    };
+    let kinds = kinds(alloc, later)?;
+    let list = Got::Parts(vals_of(alloc, hits)?);
+    let first = enter(alloc, later, &kinds, &root, params, view, list, keys, steps)?;
+    let all = pipes(
+        alloc, later, &kinds, &root, params, view, first, keys, steps,
+    )?;
+    all.into_val(alloc)
+}

@@ -1,0 +1,81 @@
+//! The value of a query that is not simple, with what finding it looked up.
+ghost use Rattle.std.specs.Prelude.{◌≡◌, [], true, IfOk, OnOk};
+ghost use Rattle.cs_value.specs.View.{fields};
+ghost use Rattle.cs_syntax.specs.Queries.{query as query_of};
+ghost use Rattle.cs_meaning.specs.Hits.{hits};
+ghost use Rattle.cs_window.specs.Tails.{is_windowed};
+ghost use Rattle.cs_live.specs.Evaluated.{IsEvaluated};
+ghost use Rattle.cs_live.specs.Fits.{FitsWindow};
+ghost use Rattle.cs_live.specs.Hits.{AreNear, docs_of};
+ghost use Rattle.cs_live.specs.Keys.{rest_of};
+
+use crate::hits::Hits;
+use crate::keys::Keys;
+use cs_eval::{eval, key_of, tail_over};
+use cs_syntax::Query;
+use cs_value::{Fields, NoMemory, Steps, Val};
+use cs_view::{Record, View};
+use cs_window::{
+    window_settles_tail, window_settles_tail_over, windowed_is_filtered, windowed_is_tail_of_hits,
+};
+use std::alloc::Global;
+use std::hash::RandomState;
+use std::sync::ledger::Ledger;
+
+/// The value of a query, and the keys that finding it looked up.
+#[derive(Drop)]
+pub(crate) struct Evaluated {
+    pub(crate) answer: Val,
+    pub(crate) keys: Keys,
+}
+
+/// The value of a query over the view.
+pub(crate) fn evaluate<V: View<L>, L: Ledger>(
+    alloc: Global,
+    seed: &RandomState,
+    query: &Query,
+    params: &Fields,
+    view: &V,
+    steps: &mut Steps<L>,
+) -> Result<Evaluated, NoMemory>
+    ensures { IfOk result (IsEvaluated (V.docs view.now) (query_of query.now)
+        (fields params.now) seed.now) }
+{
+    let mut record = Record::new(alloc);
+    let answer = eval(alloc, query, params, view, &mut record, steps)?.into_val(alloc)?;
+    let keys = Keys::of(alloc, seed, record)?;
+    Ok(Evaluated { answer, keys })
+}
+
+/// The value of a windowed query over the view, from its hits.
+pub(crate) fn evaluate_hits<V: View<L>, L: Ledger>(
+    kept: &mut Hits,
+    alloc: Global,
+    seed: &RandomState,
+    query: &Query,
+    params: &Fields,
+    view: &V,
+    steps: &mut Steps<L>,
+) -> Result<Evaluated, NoMemory>
+    requires windowed { is_windowed (query_of query.now) ≡ true }
+    requires hits { docs_of kept.old
+        ≡ hits (query_of query.now) (fields params.now) (V.docs view.now) }
+    requires near { AreNear (query_of query.now) (fields params.now) kept.old }
+    ensures evaluated { IfOk result (IsEvaluated (V.docs view.now) (query_of query.now)
+        (fields params.now) seed.now) }
+    ensures fits { IfOk result (λ found. FitsWindow (V.docs view.now) (query_of query.now)
+        (fields params.now) (rest_of found.keys) kept.new) }
+{
+    windowed_is_filtered();
+    windowed_is_tail_of_hits();
+    window_settles_tail();
+    window_settles_tail_over();
+    kept.loosen(query);
+    let mut record = Record::new(alloc);
+    let settling = kept.settling();
+    let answer = tail_over(alloc, query, params, settling, view, &mut record, steps)?;
+    let own = key_of(alloc, query, params)?;
+    let keys = Keys::with(alloc, seed, own, record)?;
+    kept.narrow(alloc, query, params)?;
+    Ok(Evaluated { answer, keys })
+}
