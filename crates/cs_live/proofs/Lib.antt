@@ -1,3 +1,4 @@
+mod Behinds
 mod Bringing
 mod Coded
 mod Found

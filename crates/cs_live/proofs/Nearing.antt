@@ -82,7 +82,7 @@ module _ (e : Expression) (params : Pairs) where
   Enough o docs = IfSome o (λ n. IsBound e params (bound_of n) docs)
 
   -- a bound is one of each list that has the same documents up to it
-  bounds_both : (bound xs ys : List Tree) → IsBound e params bound xs → filter (is_near e params bound) xs ≡ filter (is_near e params bound) ys → IsBound e params bound ys
+  pub bounds_both : (bound xs ys : List Tree) → IsBound e params bound xs → filter (is_near e params bound) xs ≡ filter (is_near e params bound) ys → IsBound e params bound ys
   bounds_both bound xs ys b same = record {
     within = b.within;
     is = b.is;

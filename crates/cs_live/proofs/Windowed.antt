@@ -22,18 +22,17 @@ use Rattle.cs_window.specs.Laws.{LookedSettlesTail, WindowedIsFiltered, Windowed
 use Rattle.cs_window.specs.Tails.{is_windowed, tail_looked, tail_over}
 use Rattle.cs_codes.specs.Codes.{Seed}
 use Rattle.cs_live.specs.Fits.{FitsRecord, FitsWindow, RefreshesKept, SameKeys}
-use Rattle.cs_live.specs.Followed.{AreHeld, CanFollow, Followed, FollowedBy, HitsFollow, HitsStay, KeepsAnswer, StayBy, StaysSettled}
-use Rattle.cs_live.specs.Hits.{AreNear, docs_of}
+use Rattle.cs_live.specs.Followed.{AreHeld, CanFollow, Followed, FollowedBy, Follows, KeepsAnswer, StayBy, Stays, StaysSettled}
+use Rattle.cs_live.specs.Behind.{AreBehind}
 use Rattle.cs_live.specs.Keys.{keys_of, rest_of}
 use Rattle.cs_live.specs.declared.entry.Kept.TheVariants.{ByRecord}
-use Rattle.cs_live.specs.declared.hits.Hits.{Hits}
+use Rattle.cs_live.specs.declared.behind.Behind.{Behind}
 use Rattle.cs_live.specs.Evaluated.{IsEvaluated}
 use Rattle.cs_live.specs.declared.evaluated.Evaluated.{Evaluated}
 use Rattle.cs_live.specs.declared.keys.Keys.{Keys}
 use Rattle.cs_live.specs.declared.recorded.Recorded.{Recorded}
+use Rattle.cs_live.proofs.Behinds.{are_by, behind_after, behind_ascend, enough_by, enough_still, stay_settles}
 use Rattle.cs_live.proofs.Keyed.{are_one, in_turn}
-use Rattle.cs_live.proofs.Nearing.{stays_by, stays_enough}
-use Rattle.cs_live.proofs.Refreshing.{hits-after, hits-ascend}
 
 -- the same documents, under names of the other list
 same-keys : (ks xs ys : List Key) → SameKeys ks xs → xs ≡ ys → SameKeys ks ys
@@ -50,25 +49,24 @@ module _ (docs : List Tree) (cs : List Edit) (sorted : ascending docs ≡ true) 
 
   -- ---- no change touches the record
   module _ (have : HitsHaveKey) (windowed : WindowedIsTailOfHits) (looked : LookedSettlesTail) where
-    window-still : (e : Expression) (params : Pairs) (ks rest own : List Key) → ks ≡ rest ++ own → touched ks cs ≡ false → SameKeys ks (query_looked before params e) → (h : Hits)
-        → FitsWindow before e params rest h → FitsWindow docs e params rest h
-    window-still e params ks rest own all quiet same h fits =
+    window-still : (e : Expression) (params : Pairs) (ks rest own : List Key) → ks ≡ rest ++ own → touched ks cs ≡ false → SameKeys ks (query_looked before params e) → (b : Behind)
+        → FitsWindow before e params rest b → FitsWindow docs e params rest b
+    window-still e params ks rest own all quiet same b fits =
         let key : Key = query_key e params in
         let first : Contains (query_looked before params e) key = subst (λ (us : List Key). Contains us key) (sym (windowed e params before fits.windowed).1) (0, omega arith, refl) in
         let sel : Sel key before ≡ Sel key docs = stays ks quiet key (same.back key first) in
-        let agree : (k : Key) → Contains (tail_looked before e params (docs_of h)) k → Sel k before ≡ Sel k docs
-        = λ k at. stays ks quiet k (subst (λ (us : List Key). Contains us k) (sym all) (Contains-append_left rest own k (fits.rest.back k at))) in
+        let one : hits e params before ≡ hits e params docs = have e params before ∙ (ap (hits e params) sel ∙ sym (have e params docs)) in
+        let agree : (k : Key) → Contains (tail_looked before e params (hits e params before)) k → Sel k before ≡ Sel k docs
+        = λ k at. stays ks quiet k (subst (λ (us : List Key). Contains us k) (sym all) (Contains-append_left rest own k (fits.looked.back k at))) in
         record {
           windowed = fits.windowed;
-          hits = record {
-            are = fits.hits.are ∙ (have e params before ∙ (ap (hits e params) sel ∙ sym (have e params docs)));
-            near = fits.hits.near;
-            enough = fits.hits.enough;
-          };
-          rest = same-keys rest (tail_looked before e params (docs_of h)) (tail_looked docs e params (docs_of h)) fits.rest (looked e params (docs_of h) before docs agree).1;
+          are = are_by e params before docs b one fits.are;
+          enough = enough_by e params before docs b one fits.enough;
+          looked = same-keys rest (tail_looked before e params (hits e params before)) (tail_looked docs e params (hits e params docs)) fits.looked
+              ((looked e params (hits e params before) before docs agree).1 ∙ ap (tail_looked docs e params) one);
         }
 
-    some-still : (e : Expression) (params : Pairs) (ks rest own : List Key) → ks ≡ rest ++ own → touched ks cs ≡ false → SameKeys ks (query_looked before params e) → (o : Option Hits)
+    some-still : (e : Expression) (params : Pairs) (ks rest own : List Key) → ks ≡ rest ++ own → touched ks cs ≡ false → SameKeys ks (query_looked before params e) → (o : Option Behind)
         → IfSome o (FitsWindow before e params rest) → IfSome o (FitsWindow docs e params rest)
     some-still e params ks rest own all quiet same None fits = tt
     some-still e params ks rest own all quiet same (Some h) fits = window-still e params ks rest own all quiet same h fits
@@ -82,7 +80,7 @@ module _ (docs : List Tree) (cs : List Edit) (sorted : ascending docs ≡ true) 
           compound = fits.compound;
           last = fits.last ∙ settled.0;
           keys = same-keys (keys_of r.keys) (query_looked before params e) (query_looked docs params e) fits.keys settled.1;
-          hits = some-still e params (keys_of r.keys) (rest_of r.keys) r.keys.own refl quiet fits.keys r.hits fits.hits;
+          behind = some-still e params (keys_of r.keys) (rest_of r.keys) r.keys.own refl quiet fits.keys r.behind fits.behind;
         }
 
     pub untouched-refreshed : LookedSettlesValue → (r : Recorded) → touched (keys_of r.keys) cs ≡ false → FitsRecord before r → RefreshesKept docs cs (ByRecord r) (ByRecord r)
@@ -90,62 +88,55 @@ module _ (docs : List Tree) (cs : List Edit) (sorted : ascending docs ≡ true) 
         let now = still-fits settles r quiet fits in
         record { answers = record { query = refl; params = refl; last = now.last; fits = now }; records = λ _. refl }
 
-  -- ---- hits that are brought behind the changes
-  pub can-follow : WindowedIsFiltered → (r : Recorded) (rest : List Key) (o : Option Hits) → IfSome o (FitsWindow before (query r.query) (fields r.params) rest) → IfSome o (CanFollow r)
+  -- ---- documents that are brought behind the changes
+  pub can-follow : WindowedIsFiltered → (r : Recorded) (rest : List Key) (o : Option Behind) → IfSome o (FitsWindow before (query r.query) (fields r.params) rest) → IfSome o (CanFollow r)
   can-follow filtered r rest None fits = tt
-  can-follow filtered r rest (Some h) fits = record {
+  can-follow filtered r rest (Some b) fits = record {
     filtered = filtered (query r.query) fits.windowed;
-    sorted = hits-ascend docs cs sorted (query r.query) (fields r.params) (docs_of h) fits.hits.are;
-    near = fits.hits.near;
+    sorted = behind_ascend (query r.query) (fields r.params) docs cs sorted b fits.are;
   }
 
   module _ (follows : FilterFollowsChanges) (e : Expression) (params : Pairs) (rest : List Key) where
-    after : (a b : Hits) → FitsWindow before e params rest a → HitsFollow cs e params a b → docs_of b ≡ hits e params docs
-    after a b fits f = hits-after back follows docs cs sorted changes leads e params (docs_of a) (docs_of b) fits.hits.are f.docs
+    after : (a b : Behind) → FitsWindow before e params rest a → Follows cs e params a b → AreBehind docs e params b
+    after a b fits f = behind_after e params back follows docs cs sorted changes leads a b fits.are f
 
-    pub held-by : (r : Recorded) → query r.query ≡ e → fields r.params ≡ params → (o o' : Option Hits) → IfSome o (FitsWindow before e params rest) → FollowedBy cs e params o o' → IfSome o' (AreHeld docs r)
+    pub held-by : (r : Recorded) → query r.query ≡ e → fields r.params ≡ params → (o o' : Option Behind) → IfSome o (FitsWindow before e params rest) → FollowedBy cs e params o o' → IfSome o' (AreHeld docs r)
     held-by r q p o None fits f = tt
     held-by r q p None (Some b) fits f = absurd f
     held-by r q p (Some a) (Some b) fits f = record {
       windowed = ap is_windowed q ∙ fits.windowed;
-      are = after a b fits f ∙ (λ i. hits (sym q i) (sym p i) docs);
-      near = subst (λ (ps : Pairs). AreNear (query r.query) ps b) (sym p) (subst (λ (x : Expression). AreNear x params b) (sym q) f.near);
+      are = subst (λ (ps : Pairs). AreBehind docs (query r.query) ps b) (sym p) (subst (λ (x : Expression). AreBehind docs x params b) (sym q) (after a b fits f));
     }
 
     -- where what settles the answer stays, the same is looked up and the answer is the same
     module _ (over : WindowSettlesTailOver) (looked : LookedSettlesTail) (r : Recorded) (same-rest : rest_of r.keys ≡ rest) where
-      tails : (a b : Hits) → FitsWindow before e params rest a → HitsFollow cs e params a b → HitsStay cs r a b
-          → (tail_over before e params (docs_of a) ≡ tail_over docs e params (docs_of b)) × (tail_looked before e params (docs_of a) ≡ tail_looked docs e params (docs_of b))
+      tails : (a b : Behind) → FitsWindow before e params rest a → Follows cs e params a b → Stays cs r a b
+          → (tail_over before e params (hits e params before) ≡ tail_over docs e params (hits e params docs)) × (tail_looked before e params (hits e params before) ≡ tail_looked docs e params (hits e params docs))
       tails a b fits f stay =
-          let value = stays_by e params (tail_over before e params) (λ bound xs ys n s. (over e params bound xs ys before fits.windowed n s).0) a.near b.near (docs_of a) (docs_of b) fits.hits.near f.near fits.hits.enough stay.bound stay.same in
-          let keys = stays_by e params (tail_looked before e params) (λ bound xs ys n s. (over e params bound xs ys before fits.windowed n s).1) a.near b.near (docs_of a) (docs_of b) fits.hits.near f.near fits.hits.enough stay.bound stay.same in
-          let agree : (k : Key) → Contains (tail_looked before e params (docs_of b)) k → Sel k before ≡ Sel k docs
-          = λ k at. stays (rest_of r.keys) stay.quiet k (subst (λ (us : List Key). Contains us k) (sym same-rest) (fits.rest.back k (subst (λ (us : List Key). Contains us k) keys at))) in
-          let on = looked e params (docs_of b) before docs agree in
-          (sym value ∙ on.0, sym keys ∙ on.1)
+          let value = stay_settles e params before docs (tail_over before e params) (λ bound xs ys n s. (over e params bound xs ys before fits.windowed n s).0) a b f.kind fits.are (after a b fits f) stay.same fits.enough in
+          let keys = stay_settles e params before docs (tail_looked before e params) (λ bound xs ys n s. (over e params bound xs ys before fits.windowed n s).1) a b f.kind fits.are (after a b fits f) stay.same fits.enough in
+          let agree : (k : Key) → Contains (tail_looked before e params (hits e params docs)) k → Sel k before ≡ Sel k docs
+          = λ k at. stays (rest_of r.keys) stay.quiet k (subst (λ (us : List Key). Contains us k) (sym same-rest) (fits.looked.back k (subst (λ (us : List Key). Contains us k) (sym keys) at))) in
+          let on = looked e params (hits e params docs) before docs agree in
+          (value ∙ on.0, keys ∙ on.1)
 
-      pub stay-fits : (a b : Hits) → FitsWindow before e params rest a → HitsFollow cs e params a b → HitsStay cs r a b → FitsWindow docs e params rest b
+      stay-fits : (a b : Behind) → FitsWindow before e params rest a → Follows cs e params a b → Stays cs r a b → FitsWindow docs e params rest b
       stay-fits a b fits f stay = record {
         windowed = fits.windowed;
-        hits = record {
-          are = after a b fits f;
-          near = f.near;
-          enough = stays_enough e params a.near b.near (docs_of a) (docs_of b) fits.hits.near f.near fits.hits.enough stay.bound stay.same;
-        };
-        rest = same-keys rest (tail_looked before e params (docs_of a)) (tail_looked docs e params (docs_of b)) fits.rest (tails a b fits f stay).1;
+        are = after a b fits f;
+        enough = enough_still e params before docs a b f.kind fits.are (after a b fits f) stay.same fits.enough;
+        looked = same-keys rest (tail_looked before e params (hits e params before)) (tail_looked docs e params (hits e params docs)) fits.looked (tails a b fits f stay).1;
       }
 
-      pub stay-same : WindowedIsTailOfHits → (a b : Hits) → FitsWindow before e params rest a → HitsFollow cs e params a b → HitsStay cs r a b
+      stay-same : WindowedIsTailOfHits → (a b : Behind) → FitsWindow before e params rest a → Follows cs e params a b → Stays cs r a b
           → (query_value before params e ≡ query_value docs params e) × (query_looked before params e ≡ query_looked docs params e)
       stay-same windowed a b fits f stay =
           let one = windowed e params before fits.windowed in
           let other = windowed e params docs fits.windowed in
-          let both = tails a b fits f stay in (
-            one.0 ∙ (ap (tail_over before e params) (sym fits.hits.are) ∙ (both.0 ∙ (ap (tail_over docs e params) (after a b fits f) ∙ sym other.0))),
-            one.1 ∙ (ap (λ (ks : List Key). query_key e params ∷ ks) (ap (tail_looked before e params) (sym fits.hits.are) ∙ (both.1 ∙ ap (tail_looked docs e params) (after a b fits f))) ∙ sym other.1),
-          )
+          let both = tails a b fits f stay in
+          (one.0 ∙ (both.0 ∙ sym other.0), one.1 ∙ (ap (λ (ks : List Key). query_key e params ∷ ks) both.1 ∙ sym other.1))
 
-      pub some-stay : WindowedIsTailOfHits → (o o' : Option Hits) → IfSome o (FitsWindow before e params rest) → FollowedBy cs e params o o' → StayBy cs r o o'
+      pub some-stay : WindowedIsTailOfHits → (o o' : Option Behind) → IfSome o (FitsWindow before e params rest) → FollowedBy cs e params o o' → StayBy cs r o o'
           → IfSome o' (FitsWindow docs e params rest) × ((query_value before params e ≡ query_value docs params e) × (query_looked before params e ≡ query_looked docs params e))
       some-stay windowed (Some a) (Some b) fits f stay = (stay-fits a b fits f stay, stay-same windowed a b fits f stay)
       some-stay windowed None None fits f stay = absurd stay
@@ -156,12 +147,12 @@ module _ (docs : List Tree) (cs : List Edit) (sorted : ascending docs ≡ true) 
 abbrev pub FitsFor : List Tree → Recorded → Expression → Pairs → Type 0
 FitsFor docs r e params =
     ((is_simple e ≡ false) × (tree r.last ≡ query_value docs params e))
-    × (SameKeys (keys_of r.keys) (query_looked docs params e) × IfSome r.hits (FitsWindow docs e params (rest_of r.keys)))
+    × (SameKeys (keys_of r.keys) (query_looked docs params e) × IfSome r.behind (FitsWindow docs e params (rest_of r.keys)))
 
 fits-for : (docs : List Tree) (r : Recorded) (e : Expression) (params : Pairs) → query r.query ≡ e → fields r.params ≡ params → FitsFor docs r e params → FitsRecord docs r
 fits-for docs r e params q p all =
     let own : FitsFor docs r (query r.query) (fields r.params) = subst (λ (x : Expression). FitsFor docs r x (fields r.params)) (sym q) (subst (λ (x : Pairs). FitsFor docs r e x) (sym p) all) in
-    record { compound = own.0.0; last = own.0.1; keys = own.1.0; hits = own.1.1 }
+    record { compound = own.0.0; last = own.0.1; keys = own.1.0; behind = own.1.1 }
 
 pub refreshed : (docs : List Tree) (cs : List Edit) (old new : Recorded) → query new.query ≡ query old.query → fields new.params ≡ fields old.params
     → FitsFor docs new (query old.query) (fields old.params) → (touched (keys_of old.keys) cs ≡ false → keys_of new.keys ≡ keys_of old.keys) → RefreshesKept docs cs (ByRecord old) (ByRecord new)
@@ -175,38 +166,38 @@ pub stayed : (docs : List Tree) (cs : List Edit) → ascending docs ≡ true →
     → (old mid : Recorded) → KeepsAnswer old mid → FitsRecord (Before docs cs) old → Followed cs old mid → StaysSettled cs old mid → RefreshesKept docs cs (ByRecord old) (ByRecord mid)
 stayed docs cs sorted changes leads untouched back follows over looked windowed old mid keeps fits followed stay =
     let e = query old.query in let params = fields old.params in
-    let s = some-stay docs cs sorted changes leads untouched back follows e params (rest_of old.keys) over looked old refl windowed old.hits mid.hits fits.hits followed stay in
+    let s = some-stay docs cs sorted changes leads untouched back follows e params (rest_of old.keys) over looked old refl windowed old.behind mid.behind fits.behind followed stay in
     let same : SameKeys (keys_of old.keys) (query_looked docs params e) = same-keys (keys_of old.keys) (query_looked (Before docs cs) params e) (query_looked docs params e) fits.keys s.1.1 in
     refreshed docs cs old mid (ap query keeps.query) (ap fields keeps.params) (
       (fits.compound, ap tree keeps.last ∙ (fits.last ∙ s.1.0)),
       (
         subst (λ (k : Keys). SameKeys (keys_of k) (query_looked docs params e)) (sym keeps.keys) same,
-        subst (λ (k : Keys). IfSome mid.hits (FitsWindow docs e params (rest_of k))) (sym keeps.keys) s.0,
+        subst (λ (k : Keys). IfSome mid.behind (FitsWindow docs e params (rest_of k))) (sym keeps.keys) s.0,
       ),
     )
     (λ _. ap keys_of keeps.keys)
 
 -- the hits of which the answer is found anew
 pub held : (docs : List Tree) (cs : List Edit) → ascending docs ≡ true → are_changes cs ≡ true → LeadTo docs cs → UntouchedSelectsTheSame → ChangesLeadBackAndOn → FilterFollowsChanges
-    → (old mid : Recorded) → KeepsAnswer old mid → FitsRecord (Before docs cs) old → Followed cs old mid → IfSome mid.hits (AreHeld docs mid)
+    → (old mid : Recorded) → KeepsAnswer old mid → FitsRecord (Before docs cs) old → Followed cs old mid → IfSome mid.behind (AreHeld docs mid)
 held docs cs sorted changes leads untouched back follows old mid keeps fits followed =
-    held-by docs cs sorted changes leads untouched back follows (query old.query) (fields old.params) (rest_of old.keys) mid (ap query keeps.query) (ap fields keeps.params) old.hits mid.hits fits.hits followed
+    held-by docs cs sorted changes leads untouched back follows (query old.query) (fields old.params) (rest_of old.keys) mid (ap query keeps.query) (ap fields keeps.params) old.behind mid.behind fits.behind followed
 
 -- an answer that was found anew
 pub found-anew : (docs : List Tree) (cs : List Edit) (old mid new : Recorded) (v : Evaluated) (seed : Seed) → query new.query ≡ query old.query → fields new.params ≡ fields old.params
     → query mid.query ≡ query old.query → fields mid.params ≡ fields old.params → new.last ≡ v.answer → new.keys ≡ v.keys → is_simple (query old.query) ≡ false
-    → IsEvaluated docs (query mid.query) (fields mid.params) seed v → IfSome new.hits (FitsWindow docs (query mid.query) (fields mid.params) (rest_of v.keys)) → touched (keys_of old.keys) cs ≡ true
+    → IsEvaluated docs (query mid.query) (fields mid.params) seed v → IfSome new.behind (FitsWindow docs (query mid.query) (fields mid.params) (rest_of v.keys)) → touched (keys_of old.keys) cs ≡ true
     → RefreshesKept docs cs (ByRecord old) (ByRecord new)
 found-anew docs cs old mid new v seed q p mq mp last keys compound evaluated fits hot =
     let ev : IsEvaluated docs (query old.query) (fields old.params) seed v
     = subst (λ (x : Expression). IsEvaluated docs x (fields old.params) seed v) mq (subst (λ (x : Pairs). IsEvaluated docs (query mid.query) x seed v) mp evaluated) in
-    let held : IfSome new.hits (FitsWindow docs (query old.query) (fields old.params) (rest_of v.keys))
-    = subst (λ (x : Expression). IfSome new.hits (FitsWindow docs x (fields old.params) (rest_of v.keys))) mq (subst (λ (x : Pairs). IfSome new.hits (FitsWindow docs (query mid.query) x (rest_of v.keys))) mp fits) in
+    let held : IfSome new.behind (FitsWindow docs (query old.query) (fields old.params) (rest_of v.keys))
+    = subst (λ (x : Expression). IfSome new.behind (FitsWindow docs x (fields old.params) (rest_of v.keys))) mq (subst (λ (x : Pairs). IfSome new.behind (FitsWindow docs (query mid.query) x (rest_of v.keys))) mp fits) in
     refreshed docs cs old new q p (
       (compound, ap tree last ∙ ev.answer),
       (
         subst (λ (k : Keys). SameKeys (keys_of k) (query_looked docs (fields old.params) (query old.query))) (sym keys) ev.keys,
-        subst (λ (k : Keys). IfSome new.hits (FitsWindow docs (query old.query) (fields old.params) (rest_of k))) (sym keys) held,
+        subst (λ (k : Keys). IfSome new.behind (FitsWindow docs (query old.query) (fields old.params) (rest_of k))) (sym keys) held,
       ),
     )
     (λ quiet. absurd (true≢false (sym hot ∙ quiet)))

@@ -14,7 +14,7 @@ use Rattle.cs_meaning.specs.Hits.{hits}
 use Rattle.cs_meaning.specs.Looked.{query_looked}
 use Rattle.cs_meaning.specs.Values.{query_value}
 use Rattle.cs_window.specs.Tails.{is_windowed, tail_looked}
-use Rattle.cs_live.specs.Hits.{AreHits, docs_of}
+use Rattle.cs_live.specs.Behind.{AreBehind, AreEnoughBehind}
 use Rattle.cs_live.specs.Keys.{keys_of, rest_of}
 use Rattle.cs_live.specs.Rows.{rows as rows_of, IsSettled}
 use Rattle.cs_live.specs.Lives.{LiveQuery, refreshed, is_named, most_lives}
@@ -22,7 +22,7 @@ use Rattle.cs_live.specs.Found.{AreFound}
 use Rattle.cs_live.specs.Entries.{query_of, params_of, last_of, live_query, entries}
 use Rattle.cs_live.specs.declared.entry.Entry.{Entry}
 use Rattle.cs_live.specs.declared.recorded.Recorded.{Recorded}
-use Rattle.cs_live.specs.declared.hits.Hits.{Hits}
+use Rattle.cs_live.specs.declared.behind.Behind.{Behind}
 use Rattle.cs_live.specs.declared.entry.Kept.{Kept}
 use Rattle.cs_live.specs.declared.entry.Kept.TheVariants.{ByRecord, InRows}
 use Rattle.cs_live.specs.declared.rows.Rows.{Rows}
@@ -36,12 +36,14 @@ pub record SameKeys (one other : List Key) : Type 0 where
   pub back : (k : Key) → Contains other k → Contains one k
 
 -- documents that are kept beside a record fit a dataset: the query is windowed, they are its hits,
--- and the rest of the keys are those that the steps behind its filter look up
-pub record FitsWindow (docs : List Tree) (e : Expression) (ps : Pairs) (behind : List Key)
-    (h : Hits) : Type 0 where
+-- or those of them near its window, and enough; and the rest of the keys are those that the steps
+-- behind its filter look up
+pub record FitsWindow (docs : List Tree) (e : Expression) (ps : Pairs) (rest : List Key)
+    (b : Behind) : Type 0 where
   pub windowed : IsTrue (is_windowed e)
-  pub hits : AreHits docs e ps h
-  pub rest : SameKeys behind (tail_looked docs e ps (docs_of h))
+  pub are : AreBehind docs e ps b
+  pub enough : AreEnoughBehind docs e ps b
+  pub looked : SameKeys rest (tail_looked docs e ps (hits e ps docs))
 
 -- an answer that is kept by its record fits a dataset: its query is not simple, it is the value
 -- over the dataset, and the keys are those that finding it looks up, and no other
@@ -49,7 +51,8 @@ pub record FitsRecord (docs : List Tree) (r : Recorded) : Type 0 where
   pub compound : is_simple (query r.query) ≡ false
   pub last : tree r.last ≡ query_value docs (fields r.params) (query r.query)
   pub keys : SameKeys (keys_of r.keys) (query_looked docs (fields r.params) (query r.query))
-  pub hits : IfSome r.hits (FitsWindow docs (query r.query) (fields r.params) (rest_of r.keys))
+  pub behind : IfSome r.behind
+      (FitsWindow docs (query r.query) (fields r.params) (rest_of r.keys))
 
 -- one that is kept in rows fits a dataset: the query is simple, the rows are its hits, and the
 -- answer is what its tail makes of them; rows that are kept near its window settle the answer

@@ -1,3 +1,4 @@
+pub mod Behind
 pub mod Brought
 pub mod Entries
 pub mod Evaluated

@@ -1,10 +1,11 @@
 -- The documents near a bound, which settle an answer that is made of the first few of an order. This
 -- project's profile.
-use Rattle.std.specs.Prelude.{◌≡◌, ◌≤◌, ℕ, List, filter, map, Some}
+use Rattle.std.specs.Prelude.{◌≡◌, ◌≤◌, ◌&&◌, ℕ, Bool, List, filter, map, Some}
 use Rattle.cs_value.specs.Tree.{Tree, Pairs}
 use Rattle.cs_value.specs.View.{tree}
 use Rattle.cs_syntax.specs.Expression.{Expression}
 use Rattle.cs_view.specs.View.{doc}
+use Rattle.cs_meaning.specs.Hits.{is_hit}
 use Rattle.cs_window.specs.Window.{Window, window, is_near, keys_at, IsBound}
 use Rattle.cs_live.specs.declared.near.Near.{Near}
 
@@ -15,6 +16,10 @@ bound_of n = map tree n.bound.items
 -- the documents that do not stand behind it
 abbrev pub near_docs : Near → List Tree
 near_docs n = map doc n.docs.items
+
+-- a hit that does not stand behind a bound
+abbrev pub is_near_hit : Expression → Pairs → List Tree → Tree → Bool
+is_near_hit e params bound d = is_hit e params d && is_near e params bound d
 
 -- so many documents are no fewer than the window of the query has
 pub record IsWithin (e : Expression) (count : ℕ) : Type 0 where

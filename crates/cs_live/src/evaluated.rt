@@ -2,22 +2,19 @@
 ghost use Rattle.std.specs.Prelude.{◌≡◌, [], true, IfOk, OnOk};
 ghost use Rattle.cs_value.specs.View.{fields};
 ghost use Rattle.cs_syntax.specs.Queries.{query as query_of};
-ghost use Rattle.cs_meaning.specs.Hits.{hits};
 ghost use Rattle.cs_window.specs.Tails.{is_windowed};
+ghost use Rattle.cs_live.specs.Behind.{AreBehind};
 ghost use Rattle.cs_live.specs.Evaluated.{IsEvaluated};
 ghost use Rattle.cs_live.specs.Fits.{FitsWindow};
-ghost use Rattle.cs_live.specs.Hits.{AreNear, docs_of};
 ghost use Rattle.cs_live.specs.Keys.{rest_of};
 
-use crate::hits::Hits;
+use crate::behind::Behind;
 use crate::keys::Keys;
 use cs_eval::{eval, key_of, tail_over};
 use cs_syntax::Query;
 use cs_value::{Fields, NoMemory, Steps, Val};
 use cs_view::{Record, View};
-use cs_window::{
-    window_settles_tail, window_settles_tail_over, windowed_is_filtered, windowed_is_tail_of_hits,
-};
+use cs_window::{window_settles_tail_over, windowed_is_filtered, windowed_is_tail_of_hits};
 use std::alloc::Global;
 use std::hash::RandomState;
 use std::sync::ledger::Ledger;
@@ -47,9 +44,9 @@ pub(crate) fn evaluate<V: View<L>, L: Ledger>(
     Ok(Evaluated { answer, keys })
 }
 
-/// The value of a windowed query over the view, from its hits.
-pub(crate) fn evaluate_hits<V: View<L>, L: Ledger>(
-    kept: &mut Hits,
+/// The value of a windowed query over the view, from the documents behind it.
+pub(crate) fn evaluate_behind<V: View<L>, L: Ledger>(
+    behind: &mut Behind,
     alloc: Global,
     seed: &RandomState,
     query: &Query,
@@ -58,24 +55,22 @@ pub(crate) fn evaluate_hits<V: View<L>, L: Ledger>(
     steps: &mut Steps<L>,
 ) -> Result<Evaluated, NoMemory>
     requires windowed { is_windowed (query_of query.now) ≡ true }
-    requires hits { docs_of kept.old
-        ≡ hits (query_of query.now) (fields params.now) (V.docs view.now) }
-    requires near { AreNear (query_of query.now) (fields params.now) kept.old }
+    requires are { AreBehind (V.docs view.now) (query_of query.now) (fields params.now)
+        behind.old }
     ensures evaluated { IfOk result (IsEvaluated (V.docs view.now) (query_of query.now)
         (fields params.now) seed.now) }
     ensures fits { IfOk result (λ found. FitsWindow (V.docs view.now) (query_of query.now)
-        (fields params.now) (rest_of found.keys) kept.new) }
+        (fields params.now) (rest_of found.keys) behind.new) }
 {
     windowed_is_filtered();
     windowed_is_tail_of_hits();
-    window_settles_tail();
     window_settles_tail_over();
-    kept.loosen(query);
+    behind.fill(alloc, query, params, view, steps)?;
     let mut record = Record::new(alloc);
-    let settling = kept.settling();
-    let answer = tail_over(alloc, query, params, settling, view, &mut record, steps)?;
+    let docs = behind.docs();
+    let answer = tail_over(alloc, query, params, docs, view, &mut record, steps)?;
     let own = key_of(alloc, query, params)?;
     let keys = Keys::with(alloc, seed, own, record)?;
-    kept.narrow(alloc, query, params)?;
+    behind.narrow(alloc, query, params)?;
     Ok(Evaluated { answer, keys })
 }

@@ -1,6 +1,7 @@
 //! Live queries: their last answers, kept as documents change.
 #![tactic(auto)]
 
+mod behind;
 mod entry;
 mod evaluated;
 mod held;

@@ -4,16 +4,16 @@ ghost use Rattle.cs_value.specs.View.{tree, fields};
 ghost use Rattle.cs_syntax.specs.Queries.{query as query_of};
 ghost use Rattle.cs_view.specs.Dataset.{ascending, kept_if, placed, without};
 ghost use Rattle.cs_view.specs.Document.{id_of};
-ghost use Rattle.cs_view.specs.View.{doc as document};
+ghost use Rattle.cs_view.specs.View.{doc as document, edit};
 ghost use Rattle.cs_window.specs.Tails.{is_filtered};
 ghost use Rattle.cs_window.specs.Window.{is_near};
-ghost use Rattle.cs_live.specs.Near.{AreNearest, IsWithin, bound_of, near_docs};
+ghost use Rattle.cs_live.specs.Near.{AreNearest, IsWithin, bound_of, is_near_hit, near_docs};
 
 use crate::held::{put, remove};
-use cs_eval::{is_near, keys_at, window};
+use cs_eval::{hit, is_near, keys_at, window};
 use cs_syntax::Query;
 use cs_value::{Fields, NoMemory, Txt, Val};
-use cs_view::Doc;
+use cs_view::{Change, Doc};
 use cs_window::place_bounds_window;
 use std::alloc::Global;
 
@@ -113,6 +113,32 @@ impl Near {
             return Ok(true);
         }
         Ok(remove(&mut self.docs, doc.id()))
+    }
+
+    /// Brings them behind one change, where they are those of hits: whether one of them came, changed
+    /// or went.
+    pub(crate) fn place(
+        &mut self,
+        alloc: Global,
+        query: &Query,
+        params: &Fields,
+        change: &Change,
+    ) -> Result<bool, NoMemory>
+        requires filtered { is_filtered (query_of query.now) ≡ true }
+        requires ascending { ascending (near_docs self.old) ≡ true }
+        ensures placed { OnOk result (near_docs self.new ≡ placed (edit change.now).0
+            (kept_if (is_near_hit (query_of query.now) (fields params.now) (bound_of self.old))
+            (edit change.now).1.1) (near_docs self.old)) }
+        ensures same { IfOk result (λ b. b ≡ false → near_docs self.new ≡ near_docs self.old) }
+        ensures bound { self.new.bound ≡ self.old.bound }
+    {
+        if let Some(doc) = &change.after {
+            if hit(alloc, query, params, doc)? && is_near(alloc, query, params, &self.bound, doc)? {
+                put(&mut self.docs, doc.copy(alloc)?)?;
+                return Ok(true);
+            }
+        }
+        Ok(remove(&mut self.docs, &change.id))
     }
 
     /// Takes out the document of the id: whether there was one.

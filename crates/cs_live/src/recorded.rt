@@ -15,8 +15,8 @@ ghost use Rattle.cs_live.specs.Found.{IsCoded, IsFound, KeepsOthers};
 ghost use Rattle.cs_live.specs.Keys.{keys_of, rest_of};
 ghost use Rattle.cs_live.specs.declared.entry.Kept.{Kept};
 
-use crate::evaluated::{Evaluated, evaluate, evaluate_hits};
-use crate::hits::Hits;
+use crate::behind::Behind;
+use crate::evaluated::{Evaluated, evaluate, evaluate_behind};
 use crate::keys::Keys;
 use crate::same::is_same;
 use cs_eval::{hits_have_key, looked_settles_value, windowed};
@@ -26,22 +26,21 @@ use cs_value::{Fields, NoMemory, Steps, Val};
 use cs_view::laws::{changes_lead_back_and_on, filter_follows_changes, untouched_selects_the_same};
 use cs_view::{Change, View};
 use cs_window::{
-    looked_settles_tail, window_settles_tail, window_settles_tail_over, windowed_is_filtered,
-    windowed_is_tail_of_hits,
+    looked_settles_tail, window_settles_tail_over, windowed_is_filtered, windowed_is_tail_of_hits,
 };
 use std::alloc::Global;
 use std::hash::RandomState;
 use std::sync::ledger::Ledger;
 
 /// A query with its last answer, and the keys that finding it looked up. Where it is windowed, with
-/// the documents that make its filter true besides.
+/// the documents behind the answer besides.
 #[derive(Drop)]
 pub(crate) struct Recorded {
     pub(crate) query: Query,
     pub(crate) params: Fields,
     pub(crate) last: Val,
     pub(crate) keys: Keys,
-    pub(crate) hits: Option<Hits>,
+    pub(crate) behind: Option<Behind>,
 }
 
 impl Recorded {
@@ -68,7 +67,7 @@ impl Recorded {
             params,
             last: found.answer,
             keys: found.keys,
-            hits: None,
+            behind: None,
         })
     }
 
@@ -88,37 +87,37 @@ impl Recorded {
         ensures coded { IfOk result (λ r. IsCoded seed.now (Kept.ByRecord r)) }
     {
         windowed_is_filtered();
-        let mut hits = Hits::find(alloc, &query, &params, view, steps)?;
-        let found = evaluate_hits(&mut hits, alloc, seed, &query, &params, view, steps)?;
+        let mut behind = Behind::find(alloc, &query, &params, view, steps)?;
+        let found = evaluate_behind(&mut behind, alloc, seed, &query, &params, view, steps)?;
         Ok(Recorded {
             query,
             params,
             last: found.answer,
             keys: found.keys,
-            hits: Some(hits),
+            behind: Some(behind),
         })
     }
 
-    // Brings the hits of a windowed query behind the changes: whether the answer has to be found
-    // anew.
+    // Brings the documents behind a windowed query's answer to those after the changes: whether the
+    // answer has to be found anew.
     fn follow(&mut self, alloc: Global, changes: &[Change]) -> Result<bool, NoMemory>
         requires changes { are_changes (edits changes.now) ≡ true }
-        requires hits { IfSome self.old.hits (CanFollow self.old) }
+        requires behind { IfSome self.old.behind (CanFollow self.old) }
         ensures followed { OnOk result (Followed (edits changes.now) self.old self.new) }
         ensures settled { IfOk result (λ b. b ≡ false
             → StaysSettled (edits changes.now) self.old self.new) }
         ensures asks { KeepsAnswer self.old self.new }
     {
-        match &mut self.hits {
-            Some(hits) => {
-                let moved = hits.follow(alloc, &self.query, &self.params, changes)?;
+        match &mut self.behind {
+            Some(behind) => {
+                let moved = behind.follow(alloc, &self.query, &self.params, changes)?;
                 Ok(moved || self.keys.rest_touched(changes))
             }
             None => Ok(true),
         }
     }
 
-    // The value over the view, from the hits of a windowed query, and from all documents of another.
+    // The value over the view, from the documents behind a windowed query, and from all for another.
     fn evaluate<V: View<L>, L: Ledger>(
         &mut self,
         alloc: Global,
@@ -126,16 +125,16 @@ impl Recorded {
         view: &V,
         steps: &mut Steps<L>,
     ) -> Result<Evaluated, NoMemory>
-        requires { IfSome self.old.hits (AreHeld (V.docs view.now) self.old) }
+        requires { IfSome self.old.behind (AreHeld (V.docs view.now) self.old) }
         ensures evaluated { IfOk result (IsEvaluated (V.docs view.now) (query_of self.old.query)
             (fields self.old.params) seed.now) }
-        ensures fits { IfOk result (λ found. IfSome self.new.hits (FitsWindow (V.docs view.now)
+        ensures fits { IfOk result (λ found. IfSome self.new.behind (FitsWindow (V.docs view.now)
             (query_of self.old.query) (fields self.old.params) (rest_of found.keys))) }
         ensures asks { KeepsAnswer self.old self.new }
     {
-        match &mut self.hits {
-            Some(hits) => {
-                evaluate_hits(hits, alloc, seed, &self.query, &self.params, view, steps)
+        match &mut self.behind {
+            Some(behind) => {
+                evaluate_behind(behind, alloc, seed, &self.query, &self.params, view, steps)
             }
             None => evaluate(alloc, seed, &self.query, &self.params, view, steps),
         }
@@ -177,7 +176,6 @@ impl Recorded {
             return Ok(false);
         }
         filter_follows_changes();
-        window_settles_tail();
         window_settles_tail_over();
         if !self.follow(alloc, changes)? {
             return Ok(false);

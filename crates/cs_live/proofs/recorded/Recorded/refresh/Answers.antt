@@ -33,12 +33,12 @@ returns-then-not-touched-clause-found g c = c.requires.found
 pub returns-then-not-touched-clause-others : goal.returns-then-not-touched-clause-others
 returns-then-not-touched-clause-others g c = keeps-all c.args.interest.now c.args.number
 
-pub follow-requires-clause-hits : goal.follow-requires-clause-hits
-follow-requires-clause-hits g c =
+pub follow-requires-clause-behind : goal.follow-requires-clause-behind
+follow-requires-clause-behind g c =
     let docs = g.V.View.docs c.args.view.now in let cs = edits c.args.changes.now in
     let sorted : ascending docs ≡ true = and-left (ascending docs) _ (g.met.V.View.dataset c.args.view.now) in
     let old = c.args.self.now in
-    can-follow docs cs sorted c.requires.changes c.requires.led c.untouched_selects_the_same.ensures c.changes_lead_back_and_on.ensures c.windowed_is_filtered.ensures old (rest_of old.keys) old.hits c.requires.fits.hits
+    can-follow docs cs sorted c.requires.changes c.requires.led c.untouched_selects_the_same.ensures c.changes_lead_back_and_on.ensures c.windowed_is_filtered.ensures old (rest_of old.keys) old.behind c.requires.fits.behind
 
 pub returns-then-not-branch-clause-refreshed : goal.returns-then-not-branch-clause-refreshed
 returns-then-not-branch-clause-refreshed g c =
@@ -62,7 +62,7 @@ pub returns-clause-found : goal.returns-clause-found
 returns-clause-found g c =
     let i = c.args.interest.now in let j = c.leave.new.self in
     let old = c.args.self.now in let mid = c.evaluate.new.self in let found = c.in_ok-found.found in
-    let new : Recorded = record { query = mid.query; params = mid.params; last = found.answer; keys = found.keys; hits = mid.hits } in
+    let new : Recorded = record { query = mid.query; params = mid.params; last = found.answer; keys = found.keys; behind = mid.behind } in
     let kept : mid.keys ≡ old.keys = c.evaluate.ensures.asks.keys ∙ c.follow.ensures.asks.keys in
     found-moved i j c.enter.new.self c.args.number (ByRecord old) (ByRecord new)
     (subst (λ (cs : List ℕ). Left c.args.number cs i j) (c.deref.ensures.value ∙ ap (λ (k : Keys). k.codes.items) kept) c.leave.ensures.left) c.leave.ensures.seed
@@ -74,7 +74,7 @@ pub returns-clause-others : goal.returns-clause-others
 returns-clause-others g c =
     let i = c.args.interest.now in let j = c.leave.new.self in
     let old = c.args.self.now in let mid = c.evaluate.new.self in let found = c.in_ok-found.found in
-    let new : Recorded = record { query = mid.query; params = mid.params; last = found.answer; keys = found.keys; hits = mid.hits } in
+    let new : Recorded = record { query = mid.query; params = mid.params; last = found.answer; keys = found.keys; behind = mid.behind } in
     let kept : mid.keys ≡ old.keys = c.evaluate.ensures.asks.keys ∙ c.follow.ensures.asks.keys in
     others-moved i j c.enter.new.self c.args.number (ByRecord old) (ByRecord new)
     (subst (λ (cs : List ℕ). Left c.args.number cs i j) (c.deref.ensures.value ∙ ap (λ (k : Keys). k.codes.items) kept) c.leave.ensures.left) c.leave.ensures.seed
@@ -84,7 +84,7 @@ pub returns-clause-refreshed : goal.returns-clause-refreshed
 returns-clause-refreshed g c =
     let docs = g.V.View.docs c.args.view.now in let cs = edits c.args.changes.now in
     let old = c.args.self.now in let mid = c.follow.new.self in let end = c.evaluate.new.self in let found = c.in_ok-found.found in
-    let new : Recorded = record { query = end.query; params = end.params; last = found.answer; keys = found.keys; hits = end.hits } in
+    let new : Recorded = record { query = end.query; params = end.params; last = found.answer; keys = found.keys; behind = end.behind } in
     let m = c.follow.ensures.asks in
     let hot : touched (keys_of old.keys) cs ≡ true = cc (c.touched.ensures, c.if-not-touched.false) in
     found-anew docs cs old mid new found c.seed.result.now (ap query (c.evaluate.ensures.asks.query ∙ m.query)) (ap fields (c.evaluate.ensures.asks.params ∙ m.params)) (ap query m.query) (ap fields m.params)
