@@ -27,7 +27,7 @@ fn made(alloc: Global, id: &str, kind: &str) -> Result<Change, Fail> {
     put(alloc, &mut object, "_rev", "r")?;
     put(alloc, &mut object, "_createdAt", "c")?;
     put(alloc, &mut object, "_updatedAt", "u")?;
-    match Doc::make(Val::Obj(object)) {
+    match Doc::make(alloc, Val::Obj(object)) {
         Ok(doc) => Ok(Change {
             id: Txt::copy_of(alloc, id)?,
             before: None,

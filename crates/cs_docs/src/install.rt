@@ -28,14 +28,14 @@ struct Copies {
 
 impl Copies {
     // One more copy, of what the change puts, if anything.
-    fn add(&mut self, alloc: Global, change: &Change) -> Result<(), NoMemory>
+    fn add(&mut self, change: &Change) -> Result<(), NoMemory>
         ensures entering { OnOk result (map doc self.new.entering.items
             ≡ map doc self.old.entering.items ++ option_to_list (entered (edit change.now).1)) }
         ensures replacing { OnOk result (map doc self.new.replacing.items
             ≡ map doc self.old.replacing.items ++ option_to_list (replaced (edit change.now).1)) }
     {
         if let Some(after) = &change.after {
-            let copy = after.copy(alloc)?;
+            let copy = after.copy()?;
             match &change.before {
                 Some(_) => self.replacing.push(copy)?,
                 None => self.entering.push(copy)?,
@@ -56,7 +56,7 @@ fn make_copies(alloc: Global, changes: &[Change]) -> Result<Copies, NoMemory>
         replacing: Vec::new(alloc),
     };
     for change in changes {
-        copies.add(alloc, change)?;
+        copies.add(change)?;
     }
     Ok(copies)
 }

@@ -25,7 +25,7 @@ fn document<'x>(alloc: Global, id: &'x str, word: &'x str) -> Result<Doc, Fail> 
         let val = Val::Text(Txt::copy_of(alloc, text)?);
         drop(object.put(Txt::copy_of(alloc, name)?, val)?);
     }
-    match Doc::make(Val::Obj(object)) {
+    match Doc::make(alloc, Val::Obj(object)) {
         Ok(doc) => Ok(doc),
         Err(_) => Err(Fail::new("no document")),
     }

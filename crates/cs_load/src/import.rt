@@ -50,5 +50,5 @@ pub(crate) fn imported(alloc: Global, body: Val) -> Result<Doc, NoMemory>
         unreachable!()
     };
     put_defaults(alloc, &mut attributes)?;
-    Ok(Doc::of(Val::Obj(attributes)))
+    Doc::of(alloc, Val::Obj(attributes))
 }

@@ -181,7 +181,7 @@ impl<'p> ReadPatch<'p> {
         self.check_revision(alloc, doc)?;
         let worked = self.worked(alloc, doc)?;
         let stamped = stamp(alloc, worked, tx, moment)?;
-        Ok(Doc::of(stamped))
+        Ok(Doc::of(alloc, stamped)?)
     }
 }
 

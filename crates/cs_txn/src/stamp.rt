@@ -63,7 +63,7 @@ pub fn entered(alloc: Global, body: Val, tx: &str, moment: &str) -> Result<Doc, 
         unreachable!()
     };
     stamp(alloc, &mut attributes, tx, moment)?;
-    Ok(Doc::of(Val::Obj(attributes)))
+    Doc::of(alloc, Val::Obj(attributes))
 }
 
 /// The value with an id: one without `_id` gets the transaction's id, a dash and the index.

@@ -4,6 +4,7 @@ pub mod Document
 pub mod Keys
 pub mod Laws
 pub mod Limits
+pub mod Made
 pub mod Scopes
 pub mod Touched
 pub mod View

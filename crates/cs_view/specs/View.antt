@@ -7,7 +7,7 @@ use Rattle.cs_view.specs.declared.doc.Doc.{Doc}
 use Rattle.cs_view.specs.declared.change.Change.{Change}
 
 abbrev pub doc : Doc → Tree
-doc d = tree d.val
+doc d = tree d.val.value
 
 -- an id with the documents before and after
 abbrev pub edit : Change → Edit

@@ -3,20 +3,31 @@ ghost use Rattle.std.specs.Prelude.{◌≡◌, true, false, IfOk, option_map, Ma
 ghost use Rattle.cs_value.specs.View.{tree};
 ghost use Rattle.cs_value.specs.Words.{text_at, is_object};
 ghost use Rattle.cs_view.specs.Document.{is_document, is_body, has_id, has_type, has_text, id_of, rev_of};
+ghost use Rattle.cs_view.specs.Made.{IsUnmade};
 
 use cs_value::{NoMemory, Txt, Val, is_id};
 use std::alloc::Global;
+use std::rc::Rc;
 
 /// How many levels of lists and objects a document may nest: this project's profile.
 pub const DEEPEST_DOCUMENT: u32 = 48;
 
 /// A document: an object of depth at most [`DEEPEST_DOCUMENT`] with an id as `_id`, a text of at
-/// least one byte as `_type`, and texts as `_rev`, `_createdAt` and `_updatedAt`. Contracts speak
-/// of it by its tree.
+/// least one byte as `_type`, and texts as `_rev`, `_createdAt` and `_updatedAt`. A document does
+/// not change, and its copies share its value. Contracts speak of it by its tree.
 #[derive(Drop)]
 pub struct Doc {
-    val: Val,
-    pub ghost is_document: { is_document (tree val) ≡ true },
+    val: Rc<Val, Global>,
+    pub ghost is_document: { is_document (tree val.value) ≡ true },
+}
+
+/// Why no document was made of a value.
+#[derive(Drop)]
+pub enum DocFault {
+    /// The value is no document. It comes back.
+    NoDocument(Val),
+    /// The allocator had no room.
+    NoMemory,
 }
 
 fn text<'v>(val: &'v Val, name: &str) -> Option<&'v Txt>
@@ -81,32 +92,39 @@ fn is_document(val: &Val) -> bool
 impl Doc {
     ghost use Rattle.cs_view.specs.View.{doc};
 
-    /// The document that the value is. The value comes back exactly where it is no document.
-    pub fn make(val: Val) -> Result<Doc, Val>
+    /// The document that the value is. `NoDocument` comes exactly where it is none, and has the
+    /// value. `NoMemory` where the allocator has no room for what copies share.
+    pub fn make(alloc: Global, val: Val) -> Result<Doc, DocFault>
         ensures { MatchResult result
             (λ d. (is_document (tree val) ≡ true) × (doc d ≡ tree val))
-            (λ v. (is_document (tree val) ≡ false) × (tree v ≡ tree val)) }
+            (IsUnmade (tree val)) }
     {
-        if is_document(&val) {
-            Ok(Doc { val })
-        } else {
-            Err(val)
+        if !is_document(&val) {
+            return Err(DocFault::NoDocument(val));
+        }
+        match Doc::of(alloc, val) {
+            Ok(doc) => Ok(doc),
+            Err(NoMemory) => Err(DocFault::NoMemory),
         }
     }
 
-    /// The document that the value is, where the caller knows that it is one.
-    pub fn of(val: Val) -> Doc
+    /// The document that the value is, where the caller knows that it is one. `NoMemory` where the
+    /// allocator has no room for what copies share.
+    pub fn of(alloc: Global, val: Val) -> Result<Doc, NoMemory>
         requires { is_document (tree val) ≡ true }
-        ensures { doc result ≡ tree val }
+        ensures { IfOk result (λ d. doc d ≡ tree val) }
     {
-        Doc { val }
+        match Rc::new(alloc, val) {
+            Ok(val) => Ok(Doc { val }),
+            Err(_) => Err(NoMemory),
+        }
     }
 
     /// The document as a value.
     pub fn val(&self) -> &Val
         ensures { tree result.now ≡ doc self.now }
     {
-        &self.val
+        self.val.as_ref()
     }
 
     /// Its `_id`.
@@ -114,7 +132,7 @@ impl Doc {
     pub fn id(&self) -> &Txt
         ensures { result.now ≡ id_of (doc self.now) }
     {
-        let Some(id) = text(&self.val, "_id") else {
+        let Some(id) = text(self.val(), "_id") else {
             unreachable!()
         };
         id
@@ -125,18 +143,20 @@ impl Doc {
     pub fn rev(&self) -> &Txt
         ensures { result.now ≡ rev_of (doc self.now) }
     {
-        let Some(rev) = text(&self.val, "_rev") else {
+        let Some(rev) = text(self.val(), "_rev") else {
             unreachable!()
         };
         rev
     }
 
-    /// A copy of the document. `NoMemory` where the allocator has no room for it.
-    pub fn copy(&self, alloc: Global) -> Result<Doc, NoMemory>
+    /// A copy of the document, which shares its value and takes no memory. `NoMemory` where more
+    /// copies stand than can be counted.
+    pub fn copy(&self) -> Result<Doc, NoMemory>
         ensures { IfOk result (λ d. doc d ≡ doc self.now) }
     {
-        Ok(Doc {
-            val: self.val.copy(alloc)?,
-        })
+        match self.val.clone() {
+            Ok(val) => Ok(Doc { val }),
+            Err(_) => Err(NoMemory),
+        }
     }
 }

@@ -11,7 +11,7 @@ mod scope;
 mod view;
 
 pub use change::Change;
-pub use doc::{DEEPEST_DOCUMENT, Doc, is_body};
+pub use doc::{DEEPEST_DOCUMENT, Doc, DocFault, is_body};
 pub use key::{Key, Names, Scalar};
 pub use lookup::{has, has_all, has_ref};
 pub use record::Record;

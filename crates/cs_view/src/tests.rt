@@ -62,7 +62,7 @@ fn document(alloc: Global, id: &str, attributes: Fields) -> Result<Doc, Fail> {
     ] {
         put(alloc, &mut object, name, text(alloc, word)?)?;
     }
-    match Doc::make(Val::Obj(object)) {
+    match Doc::make(alloc, Val::Obj(object)) {
         Ok(doc) => Ok(doc),
         Err(_) => Err(Fail::new("no document")),
     }

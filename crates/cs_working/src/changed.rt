@@ -23,12 +23,12 @@ fn same_side(one: Option<&Doc>, other: Option<&Doc>) -> bool
     }
 }
 
-fn copied(alloc: Global, doc: Option<&Doc>) -> Result<Option<Doc>, NoMemory>
+fn copied(doc: Option<&Doc>) -> Result<Option<Doc>, NoMemory>
     ensures { IfOk result
         (λ o. option_map document o ≡ option_map (λ d. document d.now) doc.entry) }
 {
     match doc {
-        Some(doc) => Ok(Some(doc.copy(alloc)?)),
+        Some(doc) => Ok(Some(doc.copy()?)),
         None => Ok(None),
     }
 }
@@ -48,8 +48,8 @@ fn change_of(
     }
     Ok(Some(Change {
         id: Txt::copy_of(alloc, id.as_str())?,
-        before: copied(alloc, before)?,
-        after: copied(alloc, after)?,
+        before: copied(before)?,
+        after: copied(after)?,
     }))
 }
 
