@@ -16,6 +16,9 @@ use std::hash::{DefaultHasher, RandomState};
 // The most names of a path that an index keeps.
 const MOST_NAMES: u32 = 4;
 
+// Most documents have no more codes: room for so many is taken at once.
+const USUAL_CODES: usize = 32;
+
 // The code of a scalar.
 fn put_scalar(hash: DefaultHasher, val: &Val, out: &mut Vec<u64>) -> Result<(), NoMemory>
     ensures { OnOk result (out.new.items ≡ out.old.items ++ scalar_codes hash (tree val.now)) }
@@ -148,7 +151,7 @@ pub fn put_codes(seed: &RandomState, doc: &Doc, out: &mut Vec<u64>) -> Result<()
 pub fn codes_of(alloc: Global, seed: &RandomState, doc: &Doc) -> Result<Vec<u64>, NoMemory>
     ensures { IfOk result (λ cs. cs.items ≡ codes seed.now (document doc.now)) }
 {
-    let mut out = Vec::new(alloc);
+    let mut out = Vec::with_capacity(alloc, USUAL_CODES)?;
     put_codes(seed, doc, &mut out)?;
     Ok(out)
 }

@@ -1,6 +1,6 @@
 -- What an index holds: entries, each a code and the place of a document that has it. What changes
 -- do to them.
-use Rattle.std.specs.Prelude.{◌≡◌, ℕ, Bool, true, false, not, cond, ◌&&◌, List, [], ◌∷◌, Option, Some, None}
+use Rattle.std.specs.Prelude.{◌≡◌, ℕ, Bool, true, false, not, cond, ◌&&◌, List, [], ◌∷◌, Option, Some, None, is_some}
 use Rattle.std.specs.declared.cmp.Ordering.{Ordering}
 use Rattle.std.specs.Ordering.{is_eq}
 use Rattle.std.specs.BTreeSet.{BTreeSet, contains}
@@ -65,13 +65,18 @@ abbrev pub parts : Seed → Docs → Entry → Edit → Bool
 parts seed d q c =
     is_put_at (λ x. is_among x (side_codes seed c.1.1)) (place_at d c.0) (side_codes seed c.1.0) q
 
-abbrev pub all_put : Seed → Docs → Entry → List Edit → Bool → Bool
-all_put seed d q [] b = b
-all_put seed d q (c ∷ cs) b = all_put seed d q cs (cond (puts seed d q c) true b)
+-- the change puts the entry, of a document that stands before it
+abbrev pub gains : Seed → Docs → Entry → Edit → Bool
+gains seed d q c = is_some c.1.0 && puts seed d q c
 
-abbrev pub all_parted : Seed → Docs → Entry → List Edit → Bool → Bool
-all_parted seed d q [] b = b
-all_parted seed d q (c ∷ cs) b = all_parted seed d q cs (cond (parts seed d q c) true b)
+-- the change puts the entry, of a document that it makes
+abbrev pub enters : Seed → Docs → Entry → Edit → Bool
+enters seed d q c = not (is_some c.1.0) && puts seed d q c
+
+-- the flag, or true where one of the changes passes the test
+abbrev pub or_some : (Edit → Bool) → List Edit → Bool → Bool
+or_some test [] b = b
+or_some test (c ∷ cs) b = or_some test cs (cond (test c) true b)
 
 -- entries are added that pass a test, to a set or to a list
 abbrev pub Gain : (Entry → Bool) → BTreeSet Entry → BTreeSet Entry → Type 0
@@ -84,6 +89,7 @@ Collect put old new = (q : Entry) → is_in q new ≡ cond (put q) true (is_in q
 abbrev pub Lose : List Entry → BTreeSet Entry → BTreeSet Entry → Type 0
 Lose es old new = (q : Entry) → has_entry new q ≡ cond (is_in q es) false (has_entry old q)
 
--- the entries of changes are added
-abbrev pub GainAll : Seed → Docs → List Edit → BTreeSet Entry → BTreeSet Entry → Type 0
-GainAll seed d cs old new = (q : Entry) → has_entry new q ≡ all_put seed d q cs (has_entry old q)
+-- the entries of the documents that changes make are added
+abbrev pub EnterAll : Seed → Docs → List Edit → BTreeSet Entry → BTreeSet Entry → Type 0
+EnterAll seed d cs old new =
+    (q : Entry) → has_entry new q ≡ or_some (enters seed d q) cs (has_entry old q)

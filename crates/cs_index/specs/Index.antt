@@ -6,7 +6,8 @@ use Rattle.cs_view.specs.Keys.{selected}
 use Rattle.cs_view.specs.declared.key.Key.{Key}
 use Rattle.cs_docs.specs.Store.{docs, doc_at, ArePlacesSteady}
 use Rattle.cs_docs.specs.declared.docs.Docs.{Docs}
-use Rattle.cs_index.specs.Entries.{AreEntriesOf, has_entry, is_in, all_put, all_parted}
+use Rattle.cs_index.specs.Entries.{AreEntriesOf, has_entry, is_in, parts, gains, enters, or_some}
+use Rattle.cs_index.specs.declared.delta.Delta.{Delta}
 use Rattle.cs_index.specs.declared.entry.Entry.{Entry}
 use Rattle.cs_index.specs.declared.index.Index.{Index}
 
@@ -14,16 +15,19 @@ use Rattle.cs_index.specs.declared.index.Index.{Index}
 abbrev pub IsIndexOf : Index → Docs → Type 0
 IsIndexOf index d = AreEntriesOf index.seed index.entries d
 
--- the entries that changes of the store part with
-abbrev pub AreOutdated : Index → Docs → List Edit → List Entry → Type 0
-AreOutdated index d cs es = (q : Entry) → is_in q es ≡ all_parted index.seed d q cs false
+-- what changes of the store do to the entries of the documents that stand before them: those that
+-- they part with are lost, and those that they put are gained
+pub record IsDelta (index : Index) (d : Docs) (cs : List Edit) (delta : Delta) : Type 0 where
+  pub lost : (q : Entry) → is_in q delta.lost.items ≡ or_some (parts index.seed d q) cs false
+  pub gained : (q : Entry) → is_in q delta.gained.items ≡ or_some (gains index.seed d q) cs false
 
--- the entries of the other index: those of the one without these, and with those that changes put
--- into the store
-abbrev pub AreApplied : Index → Index → Docs → List Edit → List Entry → Type 0
-AreApplied old new d cs outdated =
+-- the entries of the other index: those of the one without the lost, with the gained, and with those
+-- of the documents that changes made in the store
+abbrev pub AreApplied : Index → Index → Docs → List Edit → Delta → Type 0
+AreApplied old new d cs delta =
     (q : Entry) → has_entry new.entries q
-    ≡ all_put old.seed d q cs (cond (is_in q outdated) false (has_entry old.entries q))
+    ≡ or_some (enters old.seed d q) cs (cond (is_in q delta.gained.items) true
+    (cond (is_in q delta.lost.items) false (has_entry old.entries q)))
 
 -- the changes lead from one store to the other, in which what stands in both keeps its place
 pub record LeadsOn (was now : Docs) (cs : List Edit) : Type 0 where
@@ -33,9 +37,9 @@ pub record LeadsOn (was now : Docs) (cs : List Edit) : Type 0 where
   pub steady : ArePlacesSteady was now
 
 -- the index of a store before the changes becomes that of the store after them
-abbrev pub FollowsChanges : Index → Index → Docs → List Edit → List Entry → Type 0
-FollowsChanges old new now cs outdated =
-    (was : Docs) → LeadsOn was now cs → AreOutdated old was cs outdated → IsIndexOf old was
+abbrev pub FollowsChanges : Index → Index → Docs → List Edit → Delta → Type 0
+FollowsChanges old new now cs delta =
+    (was : Docs) → LeadsOn was now cs → IsDelta old was cs delta → IsIndexOf old was
     → IsIndexOf new now
 
 -- the places of the documents that have each of the keys, in the order of their ids

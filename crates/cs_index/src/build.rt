@@ -5,7 +5,7 @@ ghost use Rattle.cs_view.specs.Document.{id_of};
 ghost use Rattle.cs_view.specs.View.{doc as document};
 ghost use Rattle.cs_docs.specs.Store.{docs as dataset};
 ghost use Rattle.cs_codes.specs.Codes.{codes};
-ghost use Rattle.cs_index.specs.Entries.{entry, entry_cmp, same_entry, has_entry, is_in, is_put, puts, all_put, Collect};
+ghost use Rattle.cs_index.specs.Entries.{entry, entry_cmp, same_entry, has_entry, is_in, is_put, puts, or_some, Collect};
 ghost use Rattle.cs_index.specs.Picking.{entering};
 ghost use Rattle.cs_index.specs.declared.entry.Entry.{Entry};
 
@@ -81,7 +81,7 @@ pub(crate) fn list_all(
     docs: &Docs,
 ) -> Result<Vec<Entry>, NoMemory>
     ensures { IfOk result (λ es. (q : Entry)
-        → is_in q es.items ≡ all_put seed.now docs.now q (entering (dataset docs.now)) false) }
+        → is_in q es.items ≡ or_some (puts seed.now docs.now q) (entering (dataset docs.now)) false) }
 {
     let mut entries = Vec::new(alloc);
     let mut room = Vec::new(alloc);

@@ -31,14 +31,14 @@ pub fn install(docs: &mut Docs, index: &mut Index, prepared: &Prepared) -> Resul
     ensures kept { IfErr result (λ e. e ≡ Unchanged → dataset docs.new ≡ dataset docs.old) }
     ensures fits_still { IfErr result (λ e. e ≡ Unchanged → IsIndexOf index.new docs.new) }
 {
-    let Ok(outdated) = index.outdated(docs, prepared.changes()) else {
+    let Ok(delta) = index.delta(docs, prepared.changes()) else {
         return Err(InstallFault::NoMemory);
     };
     match docs.install(prepared) {
         Ok(()) => {}
         Err(_) => return Err(InstallFault::NoMemory),
     }
-    match index.apply(docs, outdated, prepared.changes()) {
+    match index.apply(docs, delta, prepared.changes()) {
         Ok(()) => Ok(()),
         Err(_) => Err(InstallFault::Spent),
     }

@@ -1,13 +1,14 @@
 //! The index of a store.
 ghost use Rattle.std.specs.Prelude.{IfOk, OnOk};
 ghost use Rattle.cs_view.specs.View.{edits};
-ghost use Rattle.cs_index.specs.Index.{IsIndexOf, AreOutdated, AreApplied, FollowsChanges, ArePlacesOf};
+ghost use Rattle.cs_index.specs.Index.{IsIndexOf, IsDelta, AreApplied, FollowsChanges, ArePlacesOf};
 
 use crate::build::{list_all, set_of};
+use crate::delta::{Delta, delta_of};
 use crate::entry::Entry;
 use crate::narrow::{id_among, rarest};
 use crate::pick::{place_of_id, places_under};
-use crate::put::{list_changes, put_changes, take_out};
+use crate::put::{enter_changes, put_in, take_out};
 use cs_docs::Docs;
 use cs_value::NoMemory;
 use cs_view::{Change, Key};
@@ -46,31 +47,29 @@ impl Index {
         })
     }
 
-    /// The entries that changes of a store part with: those of codes that a document has before and
-    /// not after. They are asked for before the changes are installed, since they name places.
-    /// `NoMemory` where the allocator has no room for them.
-    pub fn outdated(&self, docs: &Docs, changes: &[Change]) -> Result<Vec<Entry>, NoMemory>
-        ensures { IfOk result
-            (λ es. AreOutdated self.now docs.now (edits changes.now) es.items) }
+    /// What changes of a store do to the entries of the documents that stand before them: those of
+    /// codes that a document has before and not after are lost, and those of codes that it has after
+    /// and not before are gained. It is asked for before the changes are installed: the entries name
+    /// places, and what stands in both stores keeps its place. `NoMemory` where the allocator has no
+    /// room for them.
+    pub fn delta(&self, docs: &Docs, changes: &[Change]) -> Result<Delta, NoMemory>
+        ensures { IfOk result (IsDelta self.now docs.now (edits changes.now)) }
     {
-        list_changes(self.alloc, &self.seed, docs, changes)
+        delta_of(self.alloc, &self.seed, docs, changes)
     }
 
     /// Takes the index of a store to that of the store in which the changes were installed. An
     /// entry that both sides of a change have is not touched. After `NoMemory` it must not be used.
-    pub fn apply(
-        &mut self,
-        docs: &Docs,
-        outdated: Vec<Entry>,
-        changes: &[Change],
-    ) -> Result<(), NoMemory>
+    pub fn apply(&mut self, docs: &Docs, delta: Delta, changes: &[Change]) -> Result<(), NoMemory>
         ensures entries { OnOk result (AreApplied self.old self.new docs.now
-            (edits changes.now) outdated.items) }
+            (edits changes.now) delta) }
         ensures follows { OnOk result (FollowsChanges self.old self.new docs.now
-            (edits changes.now) outdated.items) }
+            (edits changes.now) delta) }
     {
-        take_out(&mut self.entries, outdated);
-        put_changes(self.alloc, &self.seed, &mut self.entries, docs, changes)?;
+        let Delta { lost, gained } = delta;
+        take_out(&mut self.entries, lost);
+        put_in(&mut self.entries, gained)?;
+        enter_changes(self.alloc, &self.seed, &mut self.entries, docs, changes)?;
         Ok(())
     }
 

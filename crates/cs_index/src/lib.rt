@@ -3,6 +3,7 @@
 
 mod build;
 mod commit;
+mod delta;
 mod entry;
 mod index;
 mod indexed;
@@ -16,6 +17,7 @@ mod tests;
 mod view;
 
 pub use commit::{InstallFault, install};
+pub use delta::Delta;
 pub use entry::Entry;
 pub use index::Index;
 pub use indexed::Indexed;

@@ -49,7 +49,7 @@ fn document<'x>(alloc: Global, id: &'x str, word: &'x str) -> Result<Doc, Fail> 
     }
     drop(object.put(Txt::copy_of(alloc, "tags")?, list(alloc, word)?)?);
     drop(object.put(Txt::copy_of(alloc, "up")?, reference(alloc)?)?);
-    match Doc::make(Val::Obj(object)) {
+    match Doc::make(alloc, Val::Obj(object)) {
         Ok(doc) => Ok(doc),
         Err(_) => Err(Fail::new("no document")),
     }

@@ -5,7 +5,7 @@ use Rattle.cs_value.specs.Tree.{Tree}
 use Rattle.cs_view.specs.Document.{id_of}
 use Rattle.cs_view.specs.View.{doc}
 use Rattle.cs_docs.specs.Store.{doc_at}
-use Rattle.cs_index.specs.Entries.{is_in, puts, all_put}
+use Rattle.cs_index.specs.Entries.{is_in, or_some, puts}
 use Rattle.cs_index.specs.Picking.{entering}
 use Rattle.cs_index.proofs.Split.{split, no_rest, or_null}
 use Rattle.cs_index.proofs.build.list_all.Goals as goal
@@ -26,9 +26,9 @@ loop-place-preserved c =
       s.more,
       s.others,
       λ q.
-          ap (all_put c.args.seed.now d q (entering s.more))
+          ap (or_some (puts c.args.seed.now d q) (entering s.more))
           (c.in_ok-list_doc.ensures q ∙ ap (λ (o : Option Tree). cond (puts c.args.seed.now d q (id_of (or_null o), (None, Some (or_null o)))) true (is_in q c.loop-place.entries.items)) one)
-          ∙ sym (ap (λ ds. all_put c.args.seed.now d q (entering ds) (is_in q c.loop-place.entries.items)) s.is)
+          ∙ sym (ap (λ ds. or_some (puts c.args.seed.now d q) (entering ds) (is_in q c.loop-place.entries.items)) s.is)
           ∙ c.loop-place.invariant.2 q,
     )
 
@@ -36,5 +36,5 @@ pub returns : goal.returns
 returns c = λ q.
     let ended : into_iter_items c.loop-place.place-iterator ≡ [] = grind (arith, common_steps, c.in-None.ensures.steps.0) in
     let over : c.loop-place.invariant.0 ≡ [] = no_rest c.loop-place.invariant.0 (sym (ap (λ ps. map (doc_at c.args.docs.now) ps) ended) ∙ c.loop-place.invariant.1) in
-    sym (ap (λ ds. all_put c.args.seed.now c.args.docs.now q (entering ds) (is_in q c.loop-place.entries.items)) over)
+    sym (ap (λ ds. or_some (puts c.args.seed.now c.args.docs.now q) (entering ds) (is_in q c.loop-place.entries.items)) over)
     ∙ c.loop-place.invariant.2 q

@@ -1,7 +1,7 @@
-use Rattle.std.proofs.Common.{◌≡◌, ◌∙◌, List, sym, ap, subst, true, false}
+use Rattle.std.proofs.Common.{◌≡◌, ◌∙◌, List, sym, ap, subst, true}
 use Rattle.cs_view.specs.Changes.{Edit, LeadFrom, After, are_changes}
 use Rattle.cs_docs.specs.Store.{docs}
-use Rattle.cs_index.specs.Entries.{all_parted}
+use Rattle.cs_index.specs.Index.{IsDelta}
 use Rattle.cs_index.proofs.Applied.{refitted}
 use Rattle.cs_index.proofs.commit.install.Goals as goal
 
@@ -19,7 +19,5 @@ returns-in-Ok-apply-clause-fits c =
       after = c.in-Ok-install.ensures.installed ∙ ap (After (docs was)) (sym c.changes-2.ensures);
       steady = c.install.ensures.steady;
     })
-    (λ q.
-    c.in-Ok.ensures q
-    ∙ ap (λ (cs : List Edit). all_parted c.args.index.now.seed was q cs false) (c.changes.ensures ∙ sym c.changes-2.ensures))
+    (subst (λ (cs : List Edit). IsDelta c.args.index.now was cs c.in-Ok.delta) (c.changes.ensures ∙ sym c.changes-2.ensures) c.in-Ok.ensures)
     c.requires.fits

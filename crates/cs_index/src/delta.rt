@@ -1,0 +1,153 @@
+//! What changes do to the entries of the documents that stand before them. It is told before they
+//! are installed: the codes of each side are then taken once.
+ghost use Rattle.std.specs.Prelude.{◌≡◌, ℕ, Some, false, not, ◌&&◌, option_map, IfOk, OnOk};
+ghost use Rattle.std.specs.List.Sorted.{IsNonDecreasing};
+ghost use Rattle.cs_view.specs.View.{doc as document, edit, edits};
+ghost use Rattle.cs_codes.specs.Codes.{codes, is_among};
+ghost use Rattle.cs_index.specs.Entries.{entry, same_entry, is_in, is_put, is_apart, side_codes, parts, gains, or_some, Collect};
+ghost use Rattle.cs_index.specs.declared.entry.Entry.{Entry};
+
+use crate::entry::Entry;
+use cs_codes::{codes_of, has_code, sort_codes};
+use cs_docs::Docs;
+use cs_value::NoMemory;
+use cs_view::{Change, Doc};
+use std::alloc::Global;
+use std::hash::RandomState;
+
+/// The entries that go and those that come where changes are installed, of the documents that stand
+/// before the changes.
+#[derive(Drop)]
+pub struct Delta {
+    pub(crate) lost: Vec<Entry>,
+    pub(crate) gained: Vec<Entry>,
+}
+
+// The codes of a document in ascending order.
+fn sorted_codes(alloc: Global, seed: &RandomState, doc: &Doc) -> Result<Vec<u64>, NoMemory>
+    ensures among { IfOk result (λ cs. (x : ℕ) → is_among x cs.items
+        ≡ is_among x (codes seed.now (document doc.now))) }
+    ensures ascending { IfOk result (λ cs. IsNonDecreasing cs.items) }
+{
+    let mut codes = codes_of(alloc, seed, doc)?;
+    sort_codes(&mut codes);
+    Ok(codes)
+}
+
+// The codes of what stands on a side of a change in ascending order.
+fn side_codes(alloc: Global, seed: &RandomState, side: &Option<Doc>) -> Result<Vec<u64>, NoMemory>
+    ensures among { IfOk result (λ cs. (x : ℕ) → is_among x cs.items
+        ≡ is_among x (side_codes seed.now (option_map document side.now))) }
+    ensures ascending { IfOk result (λ cs. IsNonDecreasing cs.items) }
+{
+    match side {
+        Some(doc) => sorted_codes(alloc, seed, doc),
+        None => Ok(Vec::new(alloc)),
+    }
+}
+
+#[tactic(auto, using(crate::proofs::Marks::in_end))]
+fn list_code(
+    entries: &mut Vec<Entry>,
+    out: &Vec<u64>,
+    code: u64,
+    place: u32,
+) -> Result<(), NoMemory>
+    requires { IsNonDecreasing out.now.items }
+    ensures { OnOk result (Collect
+        (λ q. not (is_among code out.now.items) && same_entry (entry code place) q)
+        entries.old.items entries.new.items) }
+{
+    if has_code(out, code) {
+        return Ok(());
+    }
+    entries.push(Entry { code, place })?;
+    Ok(())
+}
+
+// Adds an entry for each of the codes that are not left out to a list.
+#[tactic(auto, using(crate::proofs::Marks::one_more))]
+fn list_codes(
+    entries: &mut Vec<Entry>,
+    out: &Vec<u64>,
+    codes: &Vec<u64>,
+    place: u32,
+) -> Result<(), NoMemory>
+    requires { IsNonDecreasing out.now.items }
+    ensures { OnOk result (Collect (is_put (λ x. is_among x out.now.items) place codes.now.items)
+        entries.old.items entries.new.items) }
+{
+    for code in codes {
+        list_code(entries, out, *code, place)?;
+    }
+    Ok(())
+}
+
+impl Delta {
+    // What a change of a document that stands at a place does to its entries.
+    fn add_at(
+        &mut self,
+        alloc: Global,
+        seed: &RandomState,
+        before: &Doc,
+        after: &Option<Doc>,
+        place: u32,
+    ) -> Result<(), NoMemory>
+        ensures lost { OnOk result (Collect
+            (is_apart seed.now (option_map document after.now) (Some (document before.now)) place)
+            self.old.lost.items self.new.lost.items) }
+        ensures gained { OnOk result (Collect
+            (is_apart seed.now (Some (document before.now)) (option_map document after.now) place)
+            self.old.gained.items self.new.gained.items) }
+    {
+        let had = sorted_codes(alloc, seed, before)?;
+        let has = side_codes(alloc, seed, after)?;
+        list_codes(&mut self.lost, &has, &had, place)?;
+        list_codes(&mut self.gained, &had, &has, place)
+    }
+
+    // What a change does to the entries of a document that stands before it.
+    #[tactic(auto, using(crate::proofs::Marks::nothing_put))]
+    fn add(
+        &mut self,
+        alloc: Global,
+        seed: &RandomState,
+        docs: &Docs,
+        change: &Change,
+    ) -> Result<(), NoMemory>
+        ensures lost { OnOk result (Collect (λ q. parts seed.now docs.now q (edit change.now))
+            self.old.lost.items self.new.lost.items) }
+        ensures gained { OnOk result (Collect (λ q. gains seed.now docs.now q (edit change.now))
+            self.old.gained.items self.new.gained.items) }
+    {
+        let Some(before) = &change.before else {
+            return Ok(());
+        };
+        match docs.place(&change.id) {
+            Some(place) => self.add_at(alloc, seed, before, &change.after, place),
+            None => Ok(()),
+        }
+    }
+}
+
+// What changes do to the entries of the documents that stand before them.
+pub(crate) fn delta_of(
+    alloc: Global,
+    seed: &RandomState,
+    docs: &Docs,
+    changes: &[Change],
+) -> Result<Delta, NoMemory>
+    ensures lost { IfOk result (λ delta. (q : Entry) → is_in q delta.lost.items
+        ≡ or_some (parts seed.now docs.now q) (edits changes.now) false) }
+    ensures gained { IfOk result (λ delta. (q : Entry) → is_in q delta.gained.items
+        ≡ or_some (gains seed.now docs.now q) (edits changes.now) false) }
+{
+    let mut delta = Delta {
+        lost: Vec::new(alloc),
+        gained: Vec::new(alloc),
+    };
+    for change in changes {
+        delta.add(alloc, seed, docs, change)?;
+    }
+    Ok(delta)
+}
