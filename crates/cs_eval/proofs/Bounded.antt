@@ -11,7 +11,7 @@ use Rattle.cs_plan.specs.Simple.{is_condition, is_quiet, quiet_keys, tail_of, st
 use Rattle.cs_meaning.specs.Ordered.{Ranked, ranked, directions}
 use Rattle.cs_meaning.specs.Values.{is_pipe}
 use Rattle.cs_order.specs.Asked.{first_asked}
-use Rattle.cs_window.specs.Tails.{is_windowed}
+use Rattle.cs_window.specs.Windowed.{is_windowed}
 use Rattle.cs_window.specs.Window.{Window, window, window_of, by_order, keys_at, order_keys, order_of}
 use Rattle.cs_window.proofs.Parted.{sorted-many}
 

@@ -21,7 +21,7 @@ use Rattle.cs_meaning.proofs.Simple.{simple-looked, simple-tail}
 use Rattle.cs_meaning.proofs.Sound.{filter-within}
 use Rattle.cs_meaning.proofs.TrueKey.{true-has_all, all-have_key}
 use Rattle.cs_expr.specs.Starts.{enter_value}
-use Rattle.cs_window.specs.Tails.{is_filtered}
+use Rattle.cs_window.specs.Windowed.{is_filtered}
 
 pub expression_chain : (base : Box Expr Global) (ss : Vec CodeStep Global) → expression (code.Chain base ss) ≡ chain (expression base.value) (steps_of (map step ss.items))
 unfolding expression step

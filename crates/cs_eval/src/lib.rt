@@ -1,6 +1,7 @@
 //! The value of a query over the documents of a view, and what finding it looks up.
 #![tactic(auto)]
 
+mod each;
 mod queries;
 mod windows;
 
@@ -10,5 +11,6 @@ pub use cs_meaning::{
     true_has_key,
 };
 pub use cs_parts::Got;
+pub use each::{mapped, share};
 pub use queries::{eval, hit, hits, key_of, keys_of, tail};
 pub use windows::{is_near, keys_at, tail_over, window, windowed};

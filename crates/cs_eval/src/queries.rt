@@ -16,7 +16,7 @@ ghost use Rattle.cs_meaning.specs.Operators.{is_true};
 ghost use Rattle.cs_parts.specs.Parts.{got};
 ghost use Rattle.cs_meaning.specs.Values.{value as value_of, pipes_value, query_value};
 ghost use Rattle.cs_expr.specs.Starts.{enter_value};
-ghost use Rattle.cs_window.specs.Tails.{is_filtered};
+ghost use Rattle.cs_window.specs.Windowed.{is_filtered};
 
 use cs_expr::{enter, eval as evaluate, holds, keep_lent, pipes};
 use cs_parts::{Got, NoDocs, Source, head_filter, kinds, push};
@@ -130,7 +130,7 @@ fn push_hit(
         ++ hits (expression_of query.now) (fields params.now) (document doc.now ∷ [])) }
 {
     if hit(alloc, query, params, doc)? {
-        found.push(doc.copy(alloc)?)?;
+        found.push(doc.copy()?)?;
     }
     Ok(())
 }

@@ -1,6 +1,6 @@
 //! Windows of queries: the first documents in an order, which alone an answer is made of; which
 //! documents do not stand behind a bound; and what the steps behind a filter make of documents.
-ghost use Rattle.std.specs.Prelude.{◌≡◌, ◌<◌, ◌∷◌, ◌++◌, [], IfOk, IfSome, OnOk, Some, length, map, option_map, take, true};
+ghost use Rattle.std.specs.Prelude.{◌≡◌, ◌<◌, ◌≤◌, ◌∷◌, ◌++◌, [], IfOk, IfSome, OnOk, Some, length, map, option_map, take, true};
 ghost use Rattle.cs_value.specs.Tree.{null};
 ghost use Rattle.cs_value.specs.View.{tree, fields};
 ghost use Rattle.cs_syntax.specs.Expression.{keys_of, steps_of};
@@ -12,7 +12,8 @@ ghost use Rattle.cs_plan.specs.Simple.{quiet_keys, tail_of};
 ghost use Rattle.cs_meaning.specs.Ordered.{ranked};
 ghost use Rattle.cs_order.specs.Ranked.{ranked as ranked_of};
 ghost use Rattle.cs_parts.specs.Parts.{item};
-ghost use Rattle.cs_window.specs.Tails.{is_filtered, is_windowed, tail_looked, tail_over};
+ghost use Rattle.cs_meaning.specs.Hits.{tail_looked, tail_over};
+ghost use Rattle.cs_window.specs.Windowed.{is_filtered, is_windowed};
 ghost use Rattle.cs_window.specs.Window.{by_order, is_near, keys_at, order_keys, order_of, window};
 
 use crate::queries::{NO_DOCS, parts, vals_of};
@@ -45,10 +46,11 @@ fn order_of(steps: &[Step]) -> Option<(&[OrderKey], &[Step])>
 
 /// How many documents the window of a query has: the first in the order that stands behind its
 /// filter, which alone the answer is made of. `None` where no order stands there, or the step behind
-/// it does not say that it looks at a few alone.
+/// it does not say that it looks at a few alone, 257 at most.
 pub fn window(query: &Query) -> Option<usize>
-    ensures { IfSome result (λ many. option_map (λ w. w.many) (window (expression_of query.now))
-        ≡ Some many) }
+    ensures many { IfSome result (λ many. option_map (λ w. w.many)
+        (window (expression_of query.now)) ≡ Some many) }
+    ensures few { IfSome result (λ many. many ≤ 257) }
 {
     let (_condition, later) = parts(query.expr())?;
     let (_order, behind) = order_of(later)?;

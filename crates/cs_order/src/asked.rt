@@ -13,9 +13,12 @@ use cs_syntax::{Expr, Step};
 // Above this the whole list is sorted: a place among so many would take too long to make.
 const MOST: usize = 256;
 
-/// How many of the first elements a rest looks at, where its first step says so and they are few.
+/// How many of the first elements a rest looks at, where its first step says so and they are few:
+/// 257 at most.
 pub fn first_asked(steps: &[Step]) -> Option<usize>
-    ensures { IfSome result (λ k. first_asked (steps_of (map step_of steps.now)) ≡ Some k) }
+    ensures asked { IfSome result
+        (λ k. first_asked (steps_of (map step_of steps.now)) ≡ Some k) }
+    ensures few { IfSome result (λ k. k ≤ 257) }
 {
     let (first, _) = steps.split_first()?;
     step_end(first)
@@ -24,7 +27,8 @@ pub fn first_asked(steps: &[Step]) -> Option<usize>
 // The same of one step.
 #[tactic(auto, using(crate::proofs::Sets::slice), unfolding(cs_syntax::proofs::Open::of_step))]
 fn step_end(step: &Step) -> Option<usize>
-    ensures { IfSome result (λ k. step_end (step_of step.now) ≡ Some k) }
+    ensures asked { IfSome result (λ k. step_end (step_of step.now) ≡ Some k) }
+    ensures few { IfSome result (λ k. k ≤ 257) }
 {
     match step {
         Step::Slice { from, to, closed } => slice_end(from, to, *closed),
@@ -35,8 +39,9 @@ fn step_end(step: &Step) -> Option<usize>
 
 // The end of a slice that starts and ends at places counted from the start.
 fn slice_end(from: &Expr, to: &Expr, closed: bool) -> Option<usize>
-    ensures { IfSome result (λ k. slice_end (position_in (expression from.now))
+    ensures asked { IfSome result (λ k. slice_end (position_in (expression from.now))
         (position_in (expression to.now)) closed ≡ Some k) }
+    ensures few { IfSome result (λ k. k ≤ 257) }
 {
     let _start = front(position_of(from)?)?;
     let end = front(position_of(to)?)?;
@@ -45,7 +50,9 @@ fn slice_end(from: &Expr, to: &Expr, closed: bool) -> Option<usize>
 
 // The place behind an element that is counted from the start.
 fn bracket_end(inner: &Expr) -> Option<usize>
-    ensures { IfSome result (λ k. bracket_end (bracketed (expression inner.now)) ≡ Some k) }
+    ensures asked { IfSome result
+        (λ k. bracket_end (bracketed (expression inner.now)) ≡ Some k) }
+    ensures few { IfSome result (λ k. k ≤ 257) }
 {
     match bracket_of(inner) {
         Bracket::Position(place) => Some(front(place)? + 1),

@@ -1,3 +1,4 @@
+pub mod Each
 pub mod Over
 pub mod Parted
 pub mod Windows

@@ -11,7 +11,7 @@ use Rattle.cs_view.specs.declared.key.Key.{Key}
 use Rattle.cs_plan.specs.Filters.{key_in}
 use Rattle.cs_plan.specs.Simple.{is_filter, is_quiet, is_simple, quiet_keys, quiet_step, quiet_steps, are_tail_steps, filter_of, query_key, steps_behind, tail_of}
 use Rattle.cs_plan.specs.Steps.{condition, bracketed, is_order_name}
-use Rattle.cs_meaning.specs.Hits.{hits}
+use Rattle.cs_meaning.specs.Hits.{hits, tail_looked, tail_over}
 use Rattle.cs_meaning.specs.Joining.{kind, entrance, entered, base_entrance}
 use Rattle.cs_meaning.specs.Laws.{AgreeOn}
 use Rattle.cs_meaning.specs.Looked.{each_looked, entered_looked, filter_looked, keys_looked, looked, pipes_looked, query_looked, rest_looked, starts_with_filter, step_looked}
@@ -25,7 +25,7 @@ use Rattle.cs_meaning.proofs.Simple.{quiet-value}
 use Rattle.cs_meaning.proofs.Sound.{filter-value, is-condition, left-value, pipes-sound, rest-sound}
 use Rattle.cs_order.specs.Asked.{first_asked}
 use Rattle.cs_order.proofs.Enters.{first_enters, first_looks}
-use Rattle.cs_window.specs.Tails.{is_filtered, is_windowed, tail_looked, tail_over}
+use Rattle.cs_window.specs.Windowed.{is_filtered, is_windowed}
 use Rattle.cs_window.specs.Window.{Window, window, window_of, order_keys, is_near, first_in, IsBound}
 use Rattle.cs_window.proofs.Windows.{first-ordered, near-first}
 
@@ -94,7 +94,7 @@ steps-hits (more_steps (bracket f) ss) params docs h q =
     (ap (pipes_value docs params ss scope) (entered-hits docs params f ss c q), looked-hits docs params f ss c q h)
 steps-hits ss params docs h q = absurd (cc)
 
-from-hits : (e : Expression) (params : Pairs) (docs : List Tree) → is_filtered e ≡ true → is_quiet (filter_of (steps_behind e)) ≡ true → FromHits e params docs
+pub from-hits : (e : Expression) (params : Pairs) (docs : List Tree) → is_filtered e ≡ true → is_quiet (filter_of (steps_behind e)) ≡ true → FromHits e params docs
 from-hits (chain everything ss) params docs h q = steps-hits ss params docs h q
 from-hits e params docs h q = absurd (cc)
 
@@ -111,7 +111,7 @@ pub windowed-filtered : (e : Expression) → is_windowed e ≡ true → is_filte
 windowed-filtered e h = (both-true (is_filtered e) (is_quiet (filter_of (steps_behind e)) && quiet_window (window e)) h).0
 
 -- ---- the look-ups settle the value
-all-same : (d1 d2 : List Tree) (ks : List Key) → AgreeOn ks d1 d2 → AllSame d1 d2 ks
+pub all-same : (d1 d2 : List Tree) (ks : List Key) → AgreeOn ks d1 d2 → AllSame d1 d2 ks
 all-same d1 d2 [] h = tt
 all-same d1 d2 (k ∷ ks) h = (h k (0, omega arith, refl), all-same d1 d2 ks (λ q at. h q (at.0 + 1, omega (arith, at.1), grind (arith, common_steps, at.2))))
 

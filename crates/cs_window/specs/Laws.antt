@@ -1,17 +1,18 @@
 -- The laws of windows, for all expressions, also those that no text spells.
-use Rattle.std.specs.Prelude.{◌≡◌, ◌≤◌, ◌+◌, ℕ, IsTrue, Bool, true, false, List, [], ◌∷◌, ◌++◌, filter, not, Some}
+use Rattle.std.specs.Prelude.{◌≡◌, ◌≤◌, ◌+◌, ℕ, IsTrue, Bool, true, false, List, [], ◌∷◌, ◌++◌, map, flat_map, filter, not, Some}
 use Rattle.std.specs.Ordering.{is_gt}
 use Rattle.cs_value.specs.Tree.{Tree, null, Pairs}
 use Rattle.cs_value.specs.Words.{list_of}
 use Rattle.cs_syntax.specs.Expression.{Expression}
 use Rattle.cs_plan.specs.Simple.{is_simple, query_key, tail_of, steps_behind}
-use Rattle.cs_meaning.specs.Hits.{hits, tail}
+use Rattle.cs_meaning.specs.Hits.{hits, tail, tail_looked, tail_over}
 use Rattle.cs_meaning.specs.Joining.{kind, entrance, entered}
 use Rattle.cs_meaning.specs.Laws.{AgreeOn}
 use Rattle.cs_meaning.specs.Looked.{query_looked}
 use Rattle.cs_meaning.specs.Ordered.{Ranked, ranks, sorted}
 use Rattle.cs_meaning.specs.Values.{rest_value, pipes_value, query_value}
-use Rattle.cs_window.specs.Tails.{is_filtered, is_windowed, tail_looked, tail_over}
+use Rattle.cs_window.specs.Mapped.{is_mapped, share, share_looked}
+use Rattle.cs_window.specs.Windowed.{is_filtered, is_windowed}
 use Rattle.cs_window.specs.Window.{Window, window, is_near, first_in, keys_at, IsBound}
 
 -- With an element each one passes that does not rank behind it.
@@ -89,3 +90,29 @@ WindowSettlesTailOver = (e : Expression) (params : Pairs) (bound xs ys docs : Li
     → filter (is_near e params bound) xs ≡ filter (is_near e params bound) ys
     → (tail_over docs e params xs ≡ tail_over docs e params ys)
     × (tail_looked docs e params xs ≡ tail_looked docs e params ys)
+
+-- A mapped query is filtered.
+abbrev pub MappedIsFiltered : Type 0
+MappedIsFiltered = (e : Expression) → IsTrue (is_mapped e) → IsTrue (is_filtered e)
+
+-- What the steps behind a mapped query's filter make of documents is the list of their shares, and
+-- they look up what finding each share looks up.
+abbrev pub MappedIsShares : Type 0
+MappedIsShares = (e : Expression) (params : Pairs) (docs ds : List Tree) → IsTrue (is_mapped e)
+    → (tail_over docs e params ds ≡ list_of (map (share docs e params) ds))
+    × (tail_looked docs e params ds ≡ flat_map (share_looked docs e params) ds)
+
+-- A mapped query's value is the list of the shares of its hits, and it looks up its key and what
+-- finding each share looks up.
+abbrev pub MappedIsSharesOfHits : Type 0
+MappedIsSharesOfHits = (e : Expression) (params : Pairs) (docs : List Tree) → IsTrue (is_mapped e)
+    → (query_value docs params e ≡ list_of (map (share docs e params) (hits e params docs)))
+    × (query_looked docs params e
+    ≡ query_key e params ∷ flat_map (share_looked docs e params) (hits e params docs))
+
+-- What finding a share looks up settles it.
+abbrev pub LookedSettlesShare : Type 0
+LookedSettlesShare = (e : Expression) (params : Pairs) (d : Tree) (d1 d2 : List Tree)
+    → AgreeOn (share_looked d1 e params d) d1 d2
+    → (share d1 e params d ≡ share d2 e params d)
+    × (share_looked d1 e params d ≡ share_looked d2 e params d)

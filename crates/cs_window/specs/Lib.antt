@@ -1,3 +1,4 @@
 pub mod Laws
-pub mod Tails
+pub mod Mapped
 pub mod Window
+pub mod Windowed

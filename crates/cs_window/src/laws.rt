@@ -1,7 +1,8 @@
 //! What an order and a window have in common over all lists. The functions do nothing: each is
 //! there for its clause.
 ghost use Rattle.cs_window.specs.Laws.{FirstSettleTail, NearerIsWithin, PlaceBoundsWindow};
-ghost use Rattle.cs_window.specs.Laws.{LookedSettlesTail, SimpleIsFiltered, SortedInTwo};
+ghost use Rattle.cs_window.specs.Laws.{LookedSettlesShare, LookedSettlesTail, SimpleIsFiltered};
+ghost use Rattle.cs_window.specs.Laws.{MappedIsFiltered, MappedIsShares, MappedIsSharesOfHits, SortedInTwo};
 ghost use Rattle.cs_window.specs.Laws.{WindowSettlesTail, WindowSettlesTailOver};
 ghost use Rattle.cs_window.specs.Laws.{WindowedIsFiltered, WindowedIsTailOfHits};
 
@@ -61,4 +62,26 @@ pub fn looked_settles_tail()
 /// them that do not stand behind a bound are the same, and no fewer than a windowed query has.
 pub fn window_settles_tail_over()
     ensures { WindowSettlesTailOver }
+{}
+
+/// A mapped query is filtered.
+pub fn mapped_is_filtered()
+    ensures { MappedIsFiltered }
+{}
+
+/// What the steps behind a mapped query's filter make of documents is the list of their shares, and
+/// they look up what finding each share looks up.
+pub fn mapped_is_shares()
+    ensures { MappedIsShares }
+{}
+
+/// The value of a mapped query is the list of the shares of its hits, and it looks up its key and
+/// what finding each share looks up.
+pub fn mapped_is_shares_of_hits()
+    ensures { MappedIsSharesOfHits }
+{}
+
+/// What finding a share looks up settles it.
+pub fn looked_settles_share()
+    ensures { LookedSettlesShare }
 {}

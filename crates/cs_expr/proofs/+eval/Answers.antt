@@ -569,7 +569,7 @@ chains::piped-returns-clause-value g t c =
     subst (λ (y : Tree). IfOk c.enter.result (λ g'. got g' ≡ y))
     (piped_first docs ps (step c.args.step.now) c.in-Some.name.now ks
     (steps_of (map step c.args.steps.now)) sc c.first_asked-limit.result (got c.args.value)
-    (got c.in_ok-list.list) c.in-Some.ensures.some c.first_asked-limit.ensures
+    (got c.in_ok-list.list) c.in-Some.ensures.some c.first_asked-limit.ensures.asked
     c.in_ok-list.ensures.value)
     c.enter.ensures.value
 
@@ -588,7 +588,7 @@ chains::piped-returns-clause-keys g t c =
     (step_looked docs ps (pipe c.in-Some.name.now ks) sc v) (enter_looked docs ps ss sc l)
     c.in_ok-list.ensures.keys
     (piped_first_looks docs ps (step c.args.step.now) c.in-Some.name.now ks ss sc
-    c.first_asked-limit.result v l c.in-Some.ensures.some c.first_asked-limit.ensures
+    c.first_asked-limit.result v l c.in-Some.ensures.some c.first_asked-limit.ensures.asked
     c.in_ok-list.ensures.value))
     c.enter.ensures.keys
 

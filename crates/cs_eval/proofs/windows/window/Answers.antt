@@ -7,10 +7,10 @@ use Rattle.cs_eval.proofs.Simples.{some_then}
 use Rattle.cs_eval.proofs.Bounded.{query_window}
 use Rattle.cs_eval.proofs.windows.window.Goals as goal
 
-pub returns : goal.returns
-returns c =
+pub returns-clause-many : goal.returns-clause-many
+returns-clause-many c =
     let later = steps_of (map step c.in_ok-_condition.later.now) in
     some_then c.first_asked.result
     (λ k h. query_window (query c.args.query.now) (expression c.in_ok-_condition._condition.now) later (keys_of (map key c.in_ok-_order._order.now)) k
     (sym c.expr.ensures.kept ∙ c.in_ok-_condition.ensures.some) (sym c.in_ok-_order.ensures.order) (ap first_asked (sym c.in_ok-_order.ensures.behind) ∙ h))
-    c.first_asked.ensures
+    c.first_asked.ensures.asked

@@ -12,5 +12,5 @@ returns c = λ quiet.
     let later = steps_of (map step c.in-Some.later.now) in
     query_windowed (query c.args.query.now) (expression c.in-Some.condition.now) later (keys_of (map key c.in-Some-order_of.order.now)) c.first_asked.result
     (sym c.expr.ensures.kept ∙ c.in-Some.ensures.some) c.in-Some.ensures.filter (sym c.is_quiet.ensures ∙ c.if-not-is_quiet.false) (sym c.in-Some-order_of.ensures.order)
-    (some_then c.first_asked.result (λ k h. ap first_asked (sym c.in-Some-order_of.ensures.behind) ∙ h) c.first_asked.ensures)
+    (some_then c.first_asked.result (λ k h. ap first_asked (sym c.in-Some-order_of.ensures.behind) ∙ h) c.first_asked.ensures.asked)
     (c.is_none.ensures ∙ ap not c.if-is_none.false) (sym c.are_quiet.ensures ∙ quiet)
