@@ -31,6 +31,9 @@ among-map seed c (k ∷ ks) = ap (λ b. nat_eq c (interest_code seed k) || b) (a
 pub coded-of : (seed : Seed) (ks looked : List Key) (cs : List ℕ) → SameKeys ks looked → cs ≡ map (interest_code seed) looked → (c : ℕ) → is_among c cs ≡ has_code seed c ks
 coded-of seed ks looked cs same is c = ap (is_among c) is ∙ among-map seed c looked ∙ sym (same-any (λ k. nat_eq c (interest_code seed k)) ks looked same)
 
+pub coded-keys : (seed : Seed) (ks : List Key) (cs : List ℕ) → cs ≡ map (interest_code seed) ks → (c : ℕ) → is_among c cs ≡ has_code seed c ks
+coded-keys seed ks cs is c = ap (is_among c) is ∙ among-map seed c ks
+
 -- those of one key
 pub coded-one : (seed : Seed) (k : Key) (cs : List ℕ) → cs ≡ interest_code seed k ∷ [] → (c : ℕ) → is_among c cs ≡ has_code seed c (k ∷ [])
 coded-one seed k cs is c = ap (is_among c) is

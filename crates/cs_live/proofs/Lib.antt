@@ -1,14 +1,12 @@
-mod Behinds
 mod Bringing
 mod Coded
 mod Found
 mod Keyed
 mod Named
-mod Nearing
 mod News
-mod Places
 mod Refreshing
 mod Sames
+mod Sharing
 mod Simple
 mod Untouched
 mod Windowed

@@ -1,22 +1,17 @@
--- What a commit leaves of one entry: of documents that are brought behind changes, and of rows.
-use Rattle.std.proofs.Common.{◌≡◌, ℕ, ◌+◌, ◌<◌, length, drop, get_or, List, Bool, true, sym, ap, ◌∙◌, subst}
+-- What a commit leaves of one entry, and of rows.
+use Rattle.std.proofs.Common.{◌≡◌, List, Bool, true, sym, ap, ◌∙◌, subst}
 use Rattle.std.specs.Prelude.{IsTrue, not}
-use Rattle.std.proofs.lemmas.List.{drop_more}
-use Rattle.cs_value.specs.Tree.{Tree, Pairs}
+use Rattle.cs_value.specs.Tree.{Tree}
 use Rattle.cs_value.specs.View.{fields}
 use Rattle.cs_value.specs.Same.{same_tree}
-use Rattle.cs_syntax.specs.Expression.{Expression}
 use Rattle.cs_syntax.specs.Queries.{query}
 use Rattle.cs_view.specs.Changes.{Edit, are_changes, LeadTo, Before, After, changes_where}
-use Rattle.cs_view.specs.Dataset.{ascending, kept_if, placed}
+use Rattle.cs_view.specs.Dataset.{ascending}
 use Rattle.cs_view.specs.Laws.{ChangesLeadBackAndOn, FilterFollowsChanges}
-use Rattle.cs_view.specs.View.{edit, edits}
-use Rattle.cs_view.specs.declared.change.Change.{Change}
-use Rattle.cs_view.proofs.Changed.{ascending-Before}
-use Rattle.cs_view.proofs.Datasets.{ascending-filter}
 use Rattle.cs_meaning.specs.Laws.{SimpleIsTailOfHits}
-use Rattle.cs_meaning.specs.Hits.{hits, is_hit, tail}
+use Rattle.cs_meaning.specs.Hits.{hits, tail}
 use Rattle.cs_plan.specs.Simple.{is_simple}
+use Rattle.cs_hits.proofs.Brought.{hits-after, hits-ascend}
 use Rattle.cs_live.specs.Lives.{is_stale}
 use Rattle.cs_live.specs.Entries.{live_query, last_of}
 use Rattle.cs_live.specs.Fits.{FitsRows, Refreshes, RefreshesKept}
@@ -24,28 +19,6 @@ use Rattle.cs_live.specs.Rows.{rows, is_row, AsksTheSame, IsSettled}
 use Rattle.cs_live.specs.declared.entry.Kept.TheVariants.{InRows}
 use Rattle.cs_live.specs.declared.rows.Rows.{Rows}
 use Rattle.cs_live.specs.declared.entry.Entry.{Entry}
-
--- ---- documents that are brought behind changes
--- those that were brought behind the later changes, and now behind one more
-pub docs-more : (p : Tree → Bool) (old cur new : List Tree) (changes : List Change) (i : ℕ) (c : Change) → i < length changes → c ≡ get_or changes i c
-    → cur ≡ After old (changes_where p (edits (drop (i + 1) changes)))
-    → new ≡ placed (edit c).0 (kept_if p (edit c).1.1) cur
-    → new ≡ After old (changes_where p (edits (drop i changes)))
-docs-more p old cur new changes i c low here so is =
-    is ∙ (λ j. placed (edit (here j)).0 (kept_if p (edit (here j)).1.1) (so j))
-    ∙ ap (λ (l : List Change). After old (changes_where p (edits l))) (sym (drop_more changes i c low))
-
--- hits in the dataset before ascend
-pub hits-ascend : (docs : List Tree) (cs : List Edit) → ascending docs ≡ true → (e : Expression) (params : Pairs) (ds : List Tree) → ds ≡ hits e params (Before docs cs) → ascending ds ≡ true
-hits-ascend docs cs h e params ds are = ap ascending are ∙ ascending-filter (is_hit e params) (Before docs cs) (ascending-Before docs cs h)
-
--- behind the changes they are those in the dataset after
-pub hits-after : ChangesLeadBackAndOn → FilterFollowsChanges → (docs : List Tree) (cs : List Edit) → ascending docs ≡ true → are_changes cs ≡ true → LeadTo docs cs
-    → (e : Expression) (params : Pairs) (old new : List Tree) → old ≡ hits e params (Before docs cs) → new ≡ After old (changes_where (is_hit e params) cs) → new ≡ hits e params docs
-hits-after back follows docs cs h changes leads e params old new are is =
-    is ∙ ap (λ (ds : List Tree). After ds (changes_where (is_hit e params) cs)) are
-    ∙ sym (follows (is_hit e params) (Before docs cs) cs (ascending-Before docs cs h) changes)
-    ∙ ap (hits e params) (back docs cs h changes leads).2
 
 pub asks-on : (old cur new : Rows) → AsksTheSame old cur → AsksTheSame cur new → AsksTheSame old new
 asks-on old cur new a b = record { query = b.query ∙ a.query; params = b.params ∙ a.params; codes = b.codes ∙ a.codes }

@@ -10,7 +10,7 @@ use Rattle.cs_live.specs.Laws.{SimpleLivesAskNothing}
 use Rattle.cs_live.specs.Lives.{are_simple_lives}
 use Rattle.cs_live.specs.declared.entry.Entry.{Entry}
 use Rattle.cs_live.specs.declared.entry.Kept.{Kept}
-use Rattle.cs_live.specs.declared.entry.Kept.TheVariants.{ByRecord, InRows}
+use Rattle.cs_live.specs.declared.entry.Kept.TheVariants.{ByRecord, InRows, InShares}
 
 simple_at : (es : List Entry) (j : ℕ) (e : Entry) → j < length es
     → are_simple_lives (map live_query es) ≡ true
@@ -27,6 +27,7 @@ kept_quiet : (docs : List Tree) (cs : List Edit) (k : Kept) → FitsKept docs k
     → is_simple (query_of k) ≡ true → IsQuiet cs k
 kept_quiet docs cs (ByRecord r) fits h = absurd (true≢false (sym h ∙ fits.compound))
 kept_quiet docs cs (InRows r) fits h = tt
+kept_quiet docs cs (InShares m) fits h = absurd (true≢false (sym h ∙ fits.compound))
 
 pub simple_quiet : SimpleLivesAskNothing
 simple_quiet l docs cs fits h = λ j e low.

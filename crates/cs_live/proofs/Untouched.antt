@@ -15,7 +15,7 @@ use Rattle.cs_plan.specs.Simple.{filter_of, steps_behind, query_keys}
 use Rattle.cs_meaning.specs.Laws.{HitsHaveKey, LookedSettlesValue, SimpleIsTailOfHits, TrueHasEachKey}
 use Rattle.cs_meaning.specs.Hits.{is_hit, hits, tail}
 use Rattle.cs_meaning.proofs.Sound.{filter-within}
-use Rattle.cs_window.specs.Laws.{LookedSettlesTail, WindowedIsTailOfHits}
+use Rattle.cs_window.specs.Laws.{LookedSettlesShare, LookedSettlesTail, MappedIsSharesOfHits, WindowedIsTailOfHits}
 use Rattle.cs_interest.specs.Interest.{holds, interest_code, is_asked}
 use Rattle.cs_interest.specs.Laws.{NarrowestIsHad, TouchedIsAsked}
 use Rattle.cs_interest.specs.declared.interest.Interest.{Interest}
@@ -27,9 +27,10 @@ use Rattle.cs_live.specs.Lives.{is_stale, news_of, refreshed, say}
 use Rattle.cs_live.specs.Rows.{rows}
 use Rattle.cs_live.specs.declared.entry.Entry.{Entry}
 use Rattle.cs_live.specs.declared.entry.Kept.{Kept}
-use Rattle.cs_live.specs.declared.entry.Kept.TheVariants.{ByRecord, InRows}
+use Rattle.cs_live.specs.declared.entry.Kept.TheVariants.{ByRecord, InRows, InShares}
 use Rattle.cs_live.specs.declared.rows.Rows.{Rows}
 use Rattle.cs_live.proofs.Refreshing.{entry-refreshed}
+use Rattle.cs_live.proofs.Sharing.{mapped-untouched}
 use Rattle.cs_live.proofs.Windowed.{untouched-refreshed}
 use Rattle.cs_live.proofs.Sames.{not_another}
 
@@ -86,11 +87,12 @@ rows-still settles have untouched back docs cs h changes leads r quiet fits =
       records = tt;
     }
 
-pub kept-still : LookedSettlesValue → HitsHaveKey → WindowedIsTailOfHits → LookedSettlesTail → SimpleIsTailOfHits → HitsHaveHitKey → UntouchedSelectsTheSame → ChangesLeadBackAndOn
+pub kept-still : LookedSettlesValue → HitsHaveKey → WindowedIsTailOfHits → LookedSettlesTail → LookedSettlesShare → MappedIsSharesOfHits → SimpleIsTailOfHits → HitsHaveHitKey → UntouchedSelectsTheSame → ChangesLeadBackAndOn
     → (docs : List Tree) (cs : List Edit) → ascending docs ≡ true → are_changes cs ≡ true → LeadTo docs cs
     → (k : Kept) → touched (interests k) cs ≡ false → FitsKept (Before docs cs) k → RefreshesKept docs cs k k
-kept-still looked keyed windowed tails settles have untouched back docs cs h changes leads (ByRecord r) quiet fits = untouched-refreshed docs cs h changes leads untouched back keyed windowed tails looked r quiet fits
-kept-still looked keyed windowed tails settles have untouched back docs cs h changes leads (InRows r) quiet fits = rows-still settles have untouched back docs cs h changes leads r quiet fits
+kept-still looked keyed windowed tails shared mapped settles have untouched back docs cs h changes leads (ByRecord r) quiet fits = untouched-refreshed docs cs h changes leads untouched back keyed windowed tails looked r quiet fits
+kept-still looked keyed windowed tails shared mapped settles have untouched back docs cs h changes leads (InRows r) quiet fits = rows-still settles have untouched back docs cs h changes leads r quiet fits
+kept-still looked keyed windowed tails shared mapped settles have untouched back docs cs h changes leads (InShares m) quiet fits = mapped-untouched docs cs h changes leads untouched back shared keyed mapped m quiet fits
 
 no-line : (docs : List Tree) (e : Entry) (b : Bool) → b ≡ is_stale docs (live_query e) → b ≡ false → news_of docs (live_query e) ≡ []
 no-line docs e b is h = ap (λ t. cond t (say (refreshed docs (live_query e)) ∷ []) []) (sym is ∙ h)
@@ -101,11 +103,11 @@ still docs cs e m = record {
   silent = no-line docs e false (not_another (last_of e.kept) _ m.answers.last) refl;
 }
 
-pub unasked-still : TouchedIsAsked → LookedSettlesValue → HitsHaveKey → WindowedIsTailOfHits → LookedSettlesTail → SimpleIsTailOfHits → HitsHaveHitKey → UntouchedSelectsTheSame → ChangesLeadBackAndOn → UnaskedStays
-unasked-still asks looked keyed windowed tails settles have untouched back docs cs l ns sorted changes leads fits asked j e low none =
+pub unasked-still : TouchedIsAsked → LookedSettlesValue → HitsHaveKey → WindowedIsTailOfHits → LookedSettlesTail → LookedSettlesShare → MappedIsSharesOfHits → SimpleIsTailOfHits → HitsHaveHitKey → UntouchedSelectsTheSame → ChangesLeadBackAndOn → UnaskedStays
+unasked-still asks looked keyed windowed tails shared mapped settles have untouched back docs cs l ns sorted changes leads fits asked j e low none =
     let d : Entry = get_or (entries l) j e in
     let found : IsFound l.interest d.number d.kept = fits.found.found j e low in
     let under : d.number < l.next = fits.found.below j e low in
     let bound = fits.found.bound in
     let quiet : is_asked l.interest cs d.number ≡ false = sym (asked.exact d.number (omega (arith, under, bound))) ∙ none in
-    still docs cs d (kept-still looked keyed windowed tails settles have untouched back docs cs sorted changes leads d.kept (untouched_keys asks l.interest cs changes d.number quiet d.kept found) (fits.answers j e low))
+    still docs cs d (kept-still looked keyed windowed tails shared mapped settles have untouched back docs cs sorted changes leads d.kept (untouched_keys asks l.interest cs changes d.number quiet d.kept found) (fits.answers j e low))

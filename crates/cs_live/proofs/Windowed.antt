@@ -14,24 +14,26 @@ use Rattle.cs_view.specs.Laws.{ChangesLeadBackAndOn, FilterFollowsChanges, Untou
 use Rattle.cs_view.specs.Touched.{touched}
 use Rattle.cs_view.specs.declared.key.Key.{Key}
 use Rattle.cs_plan.specs.Simple.{is_simple, query_key}
-use Rattle.cs_meaning.specs.Hits.{hits}
+use Rattle.cs_meaning.specs.Hits.{hits, tail_looked, tail_over}
 use Rattle.cs_meaning.specs.Laws.{HitsHaveKey, LookedSettlesValue}
 use Rattle.cs_meaning.specs.Looked.{query_looked}
 use Rattle.cs_meaning.specs.Values.{query_value}
 use Rattle.cs_window.specs.Laws.{LookedSettlesTail, WindowedIsFiltered, WindowedIsTailOfHits, WindowSettlesTailOver}
-use Rattle.cs_window.specs.Tails.{is_windowed, tail_looked, tail_over}
+use Rattle.cs_window.specs.Windowed.{is_windowed}
 use Rattle.cs_codes.specs.Codes.{Seed}
+use Rattle.cs_hits.proofs.Brought.{stays}
 use Rattle.cs_live.specs.Fits.{FitsRecord, FitsWindow, RefreshesKept, SameKeys}
-use Rattle.cs_live.specs.Followed.{AreHeld, CanFollow, Followed, FollowedBy, Follows, KeepsAnswer, StayBy, Stays, StaysSettled}
-use Rattle.cs_live.specs.Behind.{AreBehind}
+use Rattle.cs_hits.specs.Behind.{Follows}
+use Rattle.cs_live.specs.Followed.{AreHeld, CanFollow, Followed, FollowedBy, KeepsAnswer, StayBy, Stays, StaysSettled}
+use Rattle.cs_hits.specs.Behind.{AreBehind}
 use Rattle.cs_live.specs.Keys.{keys_of, rest_of}
 use Rattle.cs_live.specs.declared.entry.Kept.TheVariants.{ByRecord}
-use Rattle.cs_live.specs.declared.behind.Behind.{Behind}
+use Rattle.cs_hits.specs.declared.behind.Behind.{Behind}
 use Rattle.cs_live.specs.Evaluated.{IsEvaluated}
 use Rattle.cs_live.specs.declared.evaluated.Evaluated.{Evaluated}
 use Rattle.cs_live.specs.declared.keys.Keys.{Keys}
 use Rattle.cs_live.specs.declared.recorded.Recorded.{Recorded}
-use Rattle.cs_live.proofs.Behinds.{are_by, behind_after, behind_ascend, enough_by, enough_still, stay_settles}
+use Rattle.cs_hits.proofs.Behinds.{are_by, behind_after, behind_ascend, enough_by, enough_still, stay_settles}
 use Rattle.cs_live.proofs.Keyed.{are_one, in_turn}
 
 -- the same documents, under names of the other list
@@ -43,10 +45,6 @@ module _ (docs : List Tree) (cs : List Edit) (sorted : ascending docs ≡ true) 
   abbrev before : List Tree
   before = Before docs cs
 
-  -- the documents of a key that no change touches
-  stays : (ks : List Key) → touched ks cs ≡ false → (k : Key) → Contains ks k → Sel k before ≡ Sel k docs
-  stays ks quiet k at = untouched docs cs sorted changes ks quiet k at ∙ ap (Sel k) (back docs cs sorted changes leads).0
-
   -- ---- no change touches the record
   module _ (have : HitsHaveKey) (windowed : WindowedIsTailOfHits) (looked : LookedSettlesTail) where
     window-still : (e : Expression) (params : Pairs) (ks rest own : List Key) → ks ≡ rest ++ own → touched ks cs ≡ false → SameKeys ks (query_looked before params e) → (b : Behind)
@@ -54,10 +52,10 @@ module _ (docs : List Tree) (cs : List Edit) (sorted : ascending docs ≡ true) 
     window-still e params ks rest own all quiet same b fits =
         let key : Key = query_key e params in
         let first : Contains (query_looked before params e) key = subst (λ (us : List Key). Contains us key) (sym (windowed e params before fits.windowed).1) (0, omega arith, refl) in
-        let sel : Sel key before ≡ Sel key docs = stays ks quiet key (same.back key first) in
+        let sel : Sel key before ≡ Sel key docs = stays docs cs sorted changes leads untouched back ks quiet key (same.back key first) in
         let one : hits e params before ≡ hits e params docs = have e params before ∙ (ap (hits e params) sel ∙ sym (have e params docs)) in
         let agree : (k : Key) → Contains (tail_looked before e params (hits e params before)) k → Sel k before ≡ Sel k docs
-        = λ k at. stays ks quiet k (subst (λ (us : List Key). Contains us k) (sym all) (Contains-append_left rest own k (fits.looked.back k at))) in
+        = λ k at. stays docs cs sorted changes leads untouched back ks quiet k (subst (λ (us : List Key). Contains us k) (sym all) (Contains-append_left rest own k (fits.looked.back k at))) in
         record {
           windowed = fits.windowed;
           are = are_by e params before docs b one fits.are;
@@ -75,7 +73,7 @@ module _ (docs : List Tree) (cs : List Edit) (sorted : ascending docs ≡ true) 
     still-fits : LookedSettlesValue → (r : Recorded) → touched (keys_of r.keys) cs ≡ false → FitsRecord before r → FitsRecord docs r
     still-fits settles r quiet fits =
         let e = query r.query in let params = fields r.params in
-        let settled = settles e params (null ∷ []) before docs (λ k at. stays (keys_of r.keys) quiet k (fits.keys.back k at)) in
+        let settled = settles e params (null ∷ []) before docs (λ k at. stays docs cs sorted changes leads untouched back (keys_of r.keys) quiet k (fits.keys.back k at)) in
         record {
           compound = fits.compound;
           last = fits.last ∙ settled.0;
@@ -116,7 +114,7 @@ module _ (docs : List Tree) (cs : List Edit) (sorted : ascending docs ≡ true) 
           let value = stay_settles e params before docs (tail_over before e params) (λ bound xs ys n s. (over e params bound xs ys before fits.windowed n s).0) a b f.kind fits.are (after a b fits f) stay.same fits.enough in
           let keys = stay_settles e params before docs (tail_looked before e params) (λ bound xs ys n s. (over e params bound xs ys before fits.windowed n s).1) a b f.kind fits.are (after a b fits f) stay.same fits.enough in
           let agree : (k : Key) → Contains (tail_looked before e params (hits e params docs)) k → Sel k before ≡ Sel k docs
-          = λ k at. stays (rest_of r.keys) stay.quiet k (subst (λ (us : List Key). Contains us k) (sym same-rest) (fits.looked.back k (subst (λ (us : List Key). Contains us k) (sym keys) at))) in
+          = λ k at. stays docs cs sorted changes leads untouched back (rest_of r.keys) stay.quiet k (subst (λ (us : List Key). Contains us k) (sym same-rest) (fits.looked.back k (subst (λ (us : List Key). Contains us k) (sym keys) at))) in
           let on = looked e params (hits e params docs) before docs agree in
           (value ∙ on.0, keys ∙ on.1)
 

@@ -4,27 +4,32 @@ use Rattle.std.specs.Prelude.{◌≡◌, ℕ, ◌<◌, ◌≤◌, length, List, 
 use Rattle.std.specs.List.{All, AllZip}
 use Rattle.cs_value.specs.Tree.{Tree, Pairs}
 use Rattle.cs_value.specs.View.{tree, fields}
+use Rattle.cs_value.specs.Words.{list_of}
 use Rattle.cs_syntax.specs.Expression.{Expression}
 use Rattle.cs_syntax.specs.Queries.{query}
 use Rattle.cs_view.specs.Changes.{Edit}
 use Rattle.cs_view.specs.Touched.{touched}
 use Rattle.cs_view.specs.declared.key.Key.{Key}
-use Rattle.cs_plan.specs.Simple.{is_simple}
-use Rattle.cs_meaning.specs.Hits.{hits}
+use Rattle.cs_plan.specs.Simple.{is_simple, query_key}
+use Rattle.cs_meaning.specs.Hits.{hits, tail_looked}
 use Rattle.cs_meaning.specs.Looked.{query_looked}
 use Rattle.cs_meaning.specs.Values.{query_value}
-use Rattle.cs_window.specs.Tails.{is_windowed, tail_looked}
-use Rattle.cs_live.specs.Behind.{AreBehind, AreEnoughBehind}
+use Rattle.cs_window.specs.Mapped.{is_mapped}
+use Rattle.cs_window.specs.Windowed.{is_windowed}
+use Rattle.cs_hits.specs.Behind.{AreBehind, AreEnoughBehind}
 use Rattle.cs_live.specs.Keys.{keys_of, rest_of}
 use Rattle.cs_live.specs.Rows.{rows as rows_of, IsSettled}
+use Rattle.cs_hits.specs.Shares.{AreShares, share_docs, share_values}
+use Rattle.cs_live.specs.Mapped.{mapped_keys}
 use Rattle.cs_live.specs.Lives.{LiveQuery, refreshed, is_named, most_lives}
 use Rattle.cs_live.specs.Found.{AreFound}
 use Rattle.cs_live.specs.Entries.{query_of, params_of, last_of, live_query, entries}
 use Rattle.cs_live.specs.declared.entry.Entry.{Entry}
 use Rattle.cs_live.specs.declared.recorded.Recorded.{Recorded}
-use Rattle.cs_live.specs.declared.behind.Behind.{Behind}
+use Rattle.cs_hits.specs.declared.behind.Behind.{Behind}
 use Rattle.cs_live.specs.declared.entry.Kept.{Kept}
-use Rattle.cs_live.specs.declared.entry.Kept.TheVariants.{ByRecord, InRows}
+use Rattle.cs_live.specs.declared.entry.Kept.TheVariants.{ByRecord, InRows, InShares}
+use Rattle.cs_live.specs.declared.mapped.Mapped.{Mapped}
 use Rattle.cs_live.specs.declared.rows.Rows.{Rows}
 use Rattle.cs_live.specs.declared.live.Live.{Live}
 use Rattle.cs_live.specs.declared.live.LiveFault.{LiveFault}
@@ -61,9 +66,20 @@ pub record FitsRows (docs : List Tree) (r : Rows) : Type 0 where
   pub rows : rows_of r ≡ hits (query r.query) (fields r.params) docs
   pub settled : IsSettled r
 
+-- one that is kept in shares fits a dataset: the query is mapped and not simple, the shares are those
+-- of its hits over the dataset, and the answer is their list
+pub record FitsShares (docs : List Tree) (m : Mapped) : Type 0 where
+  pub compound : is_simple (query m.query) ≡ false
+  pub mapped : IsTrue (is_mapped (query m.query))
+  pub own : m.own ≡ query_key (query m.query) (fields m.params)
+  pub hits : share_docs m.shares.items ≡ hits (query m.query) (fields m.params) docs
+  pub shares : AreShares docs (query m.query) (fields m.params) m.shares.items
+  pub last : tree m.last ≡ list_of (share_values m.shares.items)
+
 abbrev pub FitsKept : List Tree → Kept → Type 0
 FitsKept docs (ByRecord r) = FitsRecord docs r
 FitsKept docs (InRows r) = FitsRows docs r
+FitsKept docs (InShares m) = FitsShares docs m
 
 abbrev pub FitsOne : List Tree → Entry → Type 0
 FitsOne docs e = FitsKept docs e.kept
@@ -77,14 +93,16 @@ pub record Fits (l : Live) (docs : List Tree) : Type 0 where
 abbrev pub IsQuiet : List Edit → Kept → Type 0
 IsQuiet cs (ByRecord r) = touched (keys_of r.keys) cs ≡ false
 IsQuiet cs (InRows r) = ⊤
+IsQuiet cs (InShares m) = touched (mapped_keys m) cs ≡ false
 
--- an answer is kept as it was, by its record or in rows, and untouched keys are kept
+-- an answer is kept as it was, by its record, in rows or in shares, and untouched keys are kept
 abbrev pub KeepsRecord : List Edit → Kept → Kept → Type 0
 KeepsRecord cs (ByRecord a) (ByRecord b) =
     touched (keys_of a.keys) cs ≡ false → keys_of b.keys ≡ keys_of a.keys
-KeepsRecord cs (ByRecord a) (InRows b) = ⊥
-KeepsRecord cs (InRows a) (ByRecord b) = ⊥
 KeepsRecord cs (InRows a) (InRows b) = ⊤
+KeepsRecord cs (InShares a) (InShares b) =
+    touched (mapped_keys a) cs ≡ false → mapped_keys b ≡ mapped_keys a
+KeepsRecord cs _ _ = ⊥
 
 -- what is kept is the answer to this query with these parameters over a dataset, and fits it
 pub record Answers (docs : List Tree) (q : Expression) (ps : Pairs) (k : Kept) : Type 0 where

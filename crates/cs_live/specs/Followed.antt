@@ -4,13 +4,13 @@ use Rattle.cs_value.specs.Tree.{Tree, Pairs}
 use Rattle.cs_value.specs.View.{fields}
 use Rattle.cs_syntax.specs.Expression.{Expression}
 use Rattle.cs_syntax.specs.Queries.{query}
-use Rattle.cs_view.specs.Changes.{Edit, After, changes_where}
+use Rattle.cs_view.specs.Changes.{Edit}
 use Rattle.cs_view.specs.Dataset.{ascending}
 use Rattle.cs_view.specs.Touched.{touched}
-use Rattle.cs_window.specs.Tails.{is_filtered, is_windowed}
-use Rattle.cs_live.specs.Behind.{AreBehind, KeepsKind, held_docs, is_held}
+use Rattle.cs_window.specs.Windowed.{is_filtered, is_windowed}
+use Rattle.cs_hits.specs.Behind.{AreBehind, Follows, held_docs}
 use Rattle.cs_live.specs.Keys.{rest_of}
-use Rattle.cs_live.specs.declared.behind.Behind.{Behind}
+use Rattle.cs_hits.specs.declared.behind.Behind.{Behind}
 use Rattle.cs_live.specs.declared.recorded.Recorded.{Recorded}
 
 -- all but these documents is as it was
@@ -24,12 +24,6 @@ pub record KeepsAnswer (old new : Recorded) : Type 0 where
 pub record CanFollow (r : Recorded) (b : Behind) : Type 0 where
   pub filtered : is_filtered (query r.query) ≡ true
   pub sorted : ascending (held_docs b) ≡ true
-
--- they were brought behind the changes
-pub record Follows (cs : List Edit) (e : Expression) (params : Pairs) (old new : Behind)
-    : Type 0 where
-  pub docs : held_docs new ≡ After (held_docs old) (changes_where (is_held e params old) cs)
-  pub kind : KeepsKind old new
 
 abbrev pub FollowedBy : List Edit → Expression → Pairs → Option Behind → Option Behind → Type 0
 FollowedBy cs e params None None = ⊤

@@ -15,25 +15,28 @@ use Rattle.cs_interest.specs.Narrow.{narrowest}
 use Rattle.cs_interest.specs.declared.interest.Interest.{Interest}
 use Rattle.cs_live.specs.Entries.{entries}
 use Rattle.cs_live.specs.Keys.{keys_of}
+use Rattle.cs_live.specs.Mapped.{mapped_keys}
 use Rattle.cs_live.specs.declared.entry.Entry.{Entry}
 use Rattle.cs_live.specs.declared.entry.Kept.{Kept}
-use Rattle.cs_live.specs.declared.entry.Kept.TheVariants.{ByRecord, InRows}
+use Rattle.cs_live.specs.declared.entry.Kept.TheVariants.{ByRecord, InRows, InShares}
 use Rattle.cs_live.specs.declared.live.Live.{Live}
 
 -- the narrowest of the keys that each hit of a simple query has
 abbrev pub hit_key : Expression → Pairs → Key
 hit_key e params = narrowest (query_keys e params)
 
--- the keys whose documents an answer depends on: those of its record, or that of the hits of its
--- simple query
+-- the keys whose documents an answer depends on: those of its record, that of the hits of its simple
+-- query, or those of its mapped one
 abbrev pub interests : Kept → List Key
 interests (ByRecord r) = keys_of r.keys
 interests (InRows r) = hit_key (query r.query) (fields r.params) ∷ []
+interests (InShares m) = mapped_keys m
 
 -- the codes that are kept with it
 abbrev pub codes_of : Kept → List ℕ
 codes_of (ByRecord r) = r.keys.codes.items
 codes_of (InRows r) = r.codes.items
+codes_of (InShares m) = m.codes.items
 
 abbrev pub has_code : Seed → ℕ → List Key → Bool
 has_code seed c ks = list_any (λ k. nat_eq c (interest_code seed k)) ks

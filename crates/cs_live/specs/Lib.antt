@@ -1,14 +1,11 @@
-pub mod Behind
 pub mod Brought
 pub mod Entries
 pub mod Evaluated
 pub mod Fits
 pub mod Followed
 pub mod Found
-pub mod Held
-pub mod Hits
 pub mod Keys
 pub mod Laws
 pub mod Lives
-pub mod Near
+pub mod Mapped
 pub mod Rows

@@ -5,7 +5,7 @@ use Rattle.cs_value.specs.Tree.{Tree}
 use Rattle.cs_value.specs.View.{tree, fields}
 use Rattle.cs_syntax.specs.Queries.{query}
 use Rattle.cs_meaning.specs.Hits.{is_hit, tail}
-use Rattle.cs_live.specs.Hits.{AreEnough, AreNear, docs_of}
+use Rattle.cs_hits.specs.Hits.{AreEnough, AreNear, docs_of}
 use Rattle.cs_live.specs.declared.rows.Rows.{Rows}
 
 -- the documents, in their order

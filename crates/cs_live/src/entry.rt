@@ -12,8 +12,10 @@ ghost use Rattle.cs_live.specs.Fits.{Answers, FitsKept, FitsOne, IsQuiet, Refres
 ghost use Rattle.cs_live.specs.Found.{IsCoded, IsFound, KeepsOthers, codes_of};
 ghost use Rattle.cs_live.specs.Lives.{has_live_name, is_stale, made, news_of, say};
 
+use crate::mapped::Mapped;
 use crate::recorded::Recorded;
 use crate::rows::Rows;
+use cs_eval::mapped;
 use cs_interest::Interest;
 use cs_plan::simple;
 use cs_syntax::Query;
@@ -30,6 +32,8 @@ pub(crate) enum Kept {
     ByRecord(Recorded),
     /// With the documents behind it, of a simple query.
     InRows(Rows),
+    /// With the share of each hit in it, of a mapped query: those that changes touch are found anew.
+    InShares(Mapped),
 }
 
 /// A live query with its last answer, and its number among those that are interested in keys.
@@ -50,8 +54,9 @@ pub struct LiveLine {
 }
 
 impl Kept {
-    // The value of the query over the view, kept in rows where the query is simple, and by its
-    // record otherwise. For a simple query no more documents are visited than have its key.
+    // The value of the query over the view, kept in rows where the query is simple, in shares where
+    // it is mapped, and by its record otherwise. For a simple query no more documents are visited
+    // than have its key.
     fn make<V: View<L>, L: Ledger>(
         alloc: Global,
         seed: &RandomState,
@@ -69,6 +74,9 @@ impl Kept {
         if simple(&query) {
             return Ok(Kept::InRows(Rows::build(alloc, seed, query, params, view, steps)?));
         }
+        if mapped(alloc, &query)? {
+            return Ok(Kept::InShares(Mapped::build(alloc, seed, query, params, view, steps)?));
+        }
         Ok(Kept::ByRecord(Recorded::build(alloc, seed, query, params, view, steps)?))
     }
 
@@ -79,6 +87,7 @@ impl Kept {
         match self {
             Kept::ByRecord(kept) => &kept.last,
             Kept::InRows(kept) => &kept.answer,
+            Kept::InShares(kept) => &kept.last,
         }
     }
 
@@ -89,6 +98,7 @@ impl Kept {
         match self {
             Kept::ByRecord(kept) => &kept.keys.codes,
             Kept::InRows(kept) => &kept.codes,
+            Kept::InShares(kept) => &kept.codes,
         }
     }
 
@@ -121,6 +131,7 @@ impl Kept {
                 let stale = kept.refresh(alloc, view, changes)?;
                 Ok(stale)
             }
+            Kept::InShares(kept) => kept.refresh(alloc, number, interest, view, changes, steps),
         }
     }
 }

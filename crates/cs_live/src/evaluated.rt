@@ -2,15 +2,15 @@
 ghost use Rattle.std.specs.Prelude.{◌≡◌, [], true, IfOk, OnOk};
 ghost use Rattle.cs_value.specs.View.{fields};
 ghost use Rattle.cs_syntax.specs.Queries.{query as query_of};
-ghost use Rattle.cs_window.specs.Tails.{is_windowed};
-ghost use Rattle.cs_live.specs.Behind.{AreBehind};
+ghost use Rattle.cs_window.specs.Windowed.{is_windowed};
+ghost use Rattle.cs_hits.specs.Behind.{AreBehind};
 ghost use Rattle.cs_live.specs.Evaluated.{IsEvaluated};
 ghost use Rattle.cs_live.specs.Fits.{FitsWindow};
 ghost use Rattle.cs_live.specs.Keys.{rest_of};
 
-use crate::behind::Behind;
 use crate::keys::Keys;
 use cs_eval::{eval, key_of, tail_over};
+use cs_hits::Behind;
 use cs_syntax::Query;
 use cs_value::{Fields, NoMemory, Steps, Val};
 use cs_view::{Record, View};

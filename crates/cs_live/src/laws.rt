@@ -7,7 +7,9 @@ use cs_eval::{hits_have_key, looked_settles_value, simple_is_tail_of_hits};
 use cs_interest::laws::{narrowest_is_had, touched_is_asked};
 use cs_meaning::true_has_each_key;
 use cs_view::laws::{changes_lead_back_and_on, untouched_selects_the_same};
-use cs_window::{looked_settles_tail, windowed_is_tail_of_hits};
+use cs_window::{
+    looked_settles_share, looked_settles_tail, mapped_is_shares_of_hits, windowed_is_tail_of_hits,
+};
 
 /// An entry whose number is not asked for is as it has to be after the changes, and has no line.
 pub(crate) fn unasked_stays()
@@ -18,6 +20,8 @@ pub(crate) fn unasked_stays()
     hits_have_key();
     windowed_is_tail_of_hits();
     looked_settles_tail();
+    looked_settles_share();
+    mapped_is_shares_of_hits();
     simple_is_tail_of_hits();
     true_has_each_key();
     narrowest_is_had();

@@ -1,15 +1,12 @@
 //! Live queries: their last answers, kept as documents change.
 #![tactic(auto)]
 
-mod behind;
 mod entry;
 mod evaluated;
-mod held;
-mod hits;
 mod keys;
 mod laws;
 mod live;
-mod near;
+mod mapped;
 mod recorded;
 mod rows;
 mod same;

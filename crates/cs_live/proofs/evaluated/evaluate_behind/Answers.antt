@@ -4,12 +4,11 @@ use Rattle.cs_syntax.specs.Queries.{query}
 use Rattle.cs_view.specs.View.{doc}
 use Rattle.cs_view.specs.declared.key.Key.{Key}
 use Rattle.cs_plan.specs.Simple.{query_key}
-use Rattle.cs_meaning.specs.Hits.{hits}
+use Rattle.cs_meaning.specs.Hits.{hits, tail_looked, tail_over}
 use Rattle.cs_meaning.specs.Looked.{query_looked}
-use Rattle.cs_window.specs.Tails.{tail_looked, tail_over}
 use Rattle.cs_live.specs.Fits.{SameKeys}
 use Rattle.cs_live.specs.Keys.{keys_of, rest_of}
-use Rattle.cs_live.proofs.Behinds.{behind_settles}
+use Rattle.cs_hits.proofs.Behinds.{behind_settles}
 use Rattle.cs_live.proofs.Coded.{coded-of}
 use Rattle.cs_live.proofs.Keyed.{own_keys, with_own}
 use Rattle.cs_live.proofs.evaluated.evaluate_behind.Goals as goal

@@ -3,9 +3,9 @@ use Rattle.cs_value.specs.View.{fields}
 use Rattle.cs_syntax.specs.Queries.{query}
 use Rattle.cs_meaning.specs.Hits.{tail}
 use Rattle.cs_live.specs.Found.{hit_key}
-use Rattle.cs_live.specs.Hits.{docs_of}
+use Rattle.cs_hits.specs.Hits.{docs_of}
 use Rattle.cs_live.proofs.Coded.{coded-one}
-use Rattle.cs_live.proofs.Nearing.{settled_by}
+use Rattle.cs_hits.proofs.Nearing.{settled_by}
 use Rattle.cs_live.proofs.rows.Rows.build.Goals as goal
 
 pub returns-clause-coded : goal.returns-clause-coded

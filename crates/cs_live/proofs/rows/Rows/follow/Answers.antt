@@ -2,8 +2,8 @@ use Rattle.std.proofs.Common.{◌∙◌, sym, refl}
 use Rattle.cs_value.specs.View.{tree, fields}
 use Rattle.cs_syntax.specs.Queries.{query}
 use Rattle.cs_meaning.specs.Hits.{tail}
-use Rattle.cs_live.specs.Hits.{docs_of}
-use Rattle.cs_live.proofs.Nearing.{stays_by, stays_enough}
+use Rattle.cs_hits.specs.Hits.{docs_of}
+use Rattle.cs_hits.proofs.Nearing.{stays_by, stays_enough}
 use Rattle.cs_live.proofs.Sames.{not_another}
 use Rattle.cs_live.proofs.rows.Rows.follow.Goals as goal
 

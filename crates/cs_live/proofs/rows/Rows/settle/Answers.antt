@@ -2,8 +2,8 @@ use Rattle.std.proofs.Common.{◌∙◌, ap, sym}
 use Rattle.cs_value.specs.View.{fields}
 use Rattle.cs_syntax.specs.Queries.{query}
 use Rattle.cs_meaning.specs.Hits.{tail}
-use Rattle.cs_live.specs.Hits.{docs_of}
-use Rattle.cs_live.proofs.Nearing.{settled_by}
+use Rattle.cs_hits.specs.Hits.{docs_of}
+use Rattle.cs_hits.proofs.Nearing.{settled_by}
 use Rattle.cs_live.proofs.rows.Rows.settle.Goals as goal
 
 pub returns-clause-settled : goal.returns-clause-settled

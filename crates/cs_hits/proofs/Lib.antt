@@ -1,0 +1,5 @@
+pub mod Behinds
+pub mod Brought
+pub mod Nearing
+pub mod Places
+pub mod Sharing

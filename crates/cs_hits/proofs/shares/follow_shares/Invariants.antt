@@ -1,0 +1,21 @@
+use Rattle.std.proofs.Common.{◌≡◌, ◌≤◌, drop, length, false, true}
+use Rattle.cs_value.specs.View.{fields}
+use Rattle.cs_syntax.specs.Queries.{query}
+use Rattle.cs_view.specs.Changes.{After, changes_where}
+use Rattle.cs_view.specs.Dataset.{ascending}
+use Rattle.cs_view.specs.View.{edits}
+use Rattle.cs_meaning.specs.Hits.{is_hit}
+use Rattle.cs_hits.specs.Shares.{AreShares, share_docs}
+use Rattle.cs_hits.proofs.shares.follow_shares.Given as goal
+
+abbrev pub invariant-loop-left : goal.invariant-loop-left
+invariant-loop-left g l = record {
+  within : l.left ≤ length l.changes;
+  placed : share_docs l.shares.items ≡ After (share_docs l.fn.shares.items) (changes_where (is_hit (query l.query) (fields l.params)) (edits (drop l.left l.changes)));
+  sorted : ascending (share_docs l.shares.items) ≡ true;
+  shares : AreShares (g.V.View.docs l.view) (query l.query) (fields l.params) l.shares.items;
+  same : l.touched ≡ false → l.shares.items ≡ l.fn.shares.items;
+}
+
+abbrev pub decreases-loop-left : goal.decreases-loop-left
+decreases-loop-left g l = l.left

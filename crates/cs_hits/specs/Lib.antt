@@ -1,0 +1,5 @@
+pub mod Behind
+pub mod Held
+pub mod Hits
+pub mod Near
+pub mod Shares

@@ -1,0 +1,42 @@
+-- What contracts see of the shares that hits have in the answer of a mapped query. This project's
+-- profile.
+use Rattle.std.specs.Prelude.{◌≡◌, List, map, flat_map}
+use Rattle.std.specs.List.{AllByRecursion}
+use Rattle.cs_value.specs.Tree.{Tree, Pairs}
+use Rattle.cs_value.specs.View.{tree}
+use Rattle.cs_syntax.specs.Expression.{Expression}
+use Rattle.cs_view.specs.Changes.{Edit, After, changes_where}
+use Rattle.cs_view.specs.View.{doc}
+use Rattle.cs_view.specs.declared.key.Key.{Key}
+use Rattle.cs_meaning.specs.Hits.{is_hit}
+use Rattle.cs_window.specs.Mapped.{share, share_looked}
+use Rattle.cs_hits.specs.declared.share.Share.{Share}
+
+-- the documents, in their order
+abbrev pub share_doc : Share → Tree
+share_doc s = doc s.doc
+
+abbrev pub share_docs : List Share → List Tree
+share_docs ss = map share_doc ss
+
+-- the shares themselves
+abbrev pub share_values : List Share → List Tree
+share_values ss = map (λ s. tree s.value) ss
+
+-- the keys that finding them looked up
+abbrev pub shares_looked : List Share → List Key
+shares_looked ss = flat_map (λ s. s.looked.items) ss
+
+-- it is the share of its document over a dataset, with what finding it looks up
+pub record IsShare (docs : List Tree) (e : Expression) (params : Pairs) (s : Share) : Type 0 where
+  pub value : tree s.value ≡ share docs e params (share_doc s)
+  pub looked : s.looked.items ≡ share_looked docs e params (share_doc s)
+
+abbrev pub AreShares : List Tree → Expression → Pairs → List Share → Type 0
+AreShares docs e params ss = AllByRecursion (IsShare docs e params) ss
+
+-- the shares of hits behind changes: of those documents, over the dataset
+pub record Follow (docs : List Tree) (cs : List Edit) (e : Expression) (params : Pairs)
+    (old new : List Share) : Type 0 where
+  pub hits : share_docs new ≡ After (share_docs old) (changes_where (is_hit e params) cs)
+  pub shares : AreShares docs e params new

@@ -1,0 +1,64 @@
+//! What is held for documents, by ascending id.
+ghost use Rattle.std.specs.Prelude.{◌≡◌, false, true, map, OnOk};
+ghost use Rattle.cs_value.specs.Tree.{Tree};
+ghost use Rattle.cs_view.specs.Dataset.{ascending, with_doc, without};
+ghost use Rattle.cs_view.specs.View.{doc as document};
+ghost use Rattle.cs_hits.specs.Held.{IsPlaceOf, IsPut, IsTaken};
+
+use cs_value::{NoMemory, Txt};
+use cs_view::Doc;
+
+/// What is held for a document: it alone, or more beside it.
+pub trait Held {
+    ghost held: { Self → Tree };
+
+    /// The document.
+    fn doc(&self) -> &Doc
+        ensures { document result.now ≡ held self.now };
+}
+
+impl Held for Doc {
+    ghost held = { document };
+
+    fn doc(&self) -> &Doc {
+        self
+    }
+}
+
+// Where what is held for the document of the id stands, or else the place that it would take.
+fn seek<T: Held>(all: &[T], id: &Txt) -> Result<usize, usize>
+    requires { ascending (map T.held all.now) ≡ true }
+    ensures { IsPlaceOf id.now (map T.held all.now) result }
+{
+    all.binary_search_by(|one| one.doc().id().as_str().cmp(id.as_str()))
+}
+
+/// Puts one in the place of its document's id.
+pub fn put<T: Held + Drop>(all: &mut Vec<T>, one: T) -> Result<(), NoMemory>
+    requires { ascending (map T.held all.old.items) ≡ true }
+    ensures put { OnOk result (map T.held all.new.items
+        ≡ with_doc (T.held one) (map T.held all.old.items)) }
+    ensures among { OnOk result (IsPut one all.old.items all.new.items) }
+{
+    match seek(all, one.doc().id()) {
+        Ok(place) => all[place] = one,
+        Err(place) => all.insert(place, one)?,
+    }
+    Ok(())
+}
+
+/// Takes out what is held for the document of the id: whether there was something.
+pub fn remove<T: Held + Drop>(all: &mut Vec<T>, id: &Txt) -> bool
+    requires { ascending (map T.held all.old.items) ≡ true }
+    ensures left { map T.held all.new.items ≡ without id.now (map T.held all.old.items) }
+    ensures among { IsTaken all.old.items all.new.items }
+    ensures none { result ≡ false → all.new.items ≡ all.old.items }
+{
+    match seek(all, id) {
+        Ok(place) => {
+            drop(all.remove(place));
+            true
+        }
+        Err(_) => false,
+    }
+}

@@ -1,0 +1,15 @@
+//! The hits behind the answers of live queries: all of them, those near a window, and the share
+//! that each has in an answer. They are brought behind changes.
+#![tactic(auto)]
+
+mod behind;
+mod held;
+mod hits;
+mod near;
+mod share;
+mod shares;
+
+pub use behind::Behind;
+pub use hits::Hits;
+pub use share::{Share, is_touched};
+pub use shares::{answer_of, codes_of, find_shares, follow_shares, renew_shares, shares_touched};

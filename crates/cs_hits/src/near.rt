@@ -1,0 +1,150 @@
+//! The documents near a bound, which settle an answer that is made of the first few of an order.
+ghost use Rattle.std.specs.Prelude.{◌≡◌, ◌≤◌, false, true, filter, map, IfOk, IfSome, OnOk, Some};
+ghost use Rattle.cs_value.specs.View.{tree, fields};
+ghost use Rattle.cs_syntax.specs.Queries.{query as query_of};
+ghost use Rattle.cs_view.specs.Dataset.{ascending, kept_if, placed, without};
+ghost use Rattle.cs_view.specs.Document.{id_of};
+ghost use Rattle.cs_view.specs.View.{doc as document, edit};
+ghost use Rattle.cs_window.specs.Windowed.{is_filtered};
+ghost use Rattle.cs_window.specs.Window.{is_near};
+ghost use Rattle.cs_hits.specs.Near.{AreNearest, IsWithin, bound_of, is_near_hit, near_docs};
+
+use crate::held::{put, remove};
+use cs_eval::{hit, is_near, keys_at, window};
+use cs_syntax::Query;
+use cs_value::{Fields, NoMemory, Txt, Val};
+use cs_view::{Change, Doc};
+use cs_window::place_bounds_window;
+use std::alloc::Global;
+
+/// What one of the documents behind an answer is ordered by, and those of them that do not stand
+/// behind it, by ascending id.
+#[derive(Drop)]
+pub struct Near {
+    pub bound: Vec<Val>,
+    pub docs: Vec<Doc>,
+}
+
+/// Whether so many documents are no fewer than the window of the query has.
+pub fn is_enough(query: &Query, count: usize) -> bool
+    ensures { result ≡ true → IsWithin (query_of query.now) count }
+{
+    match window(query) {
+        Some(many) => many <= count,
+        None => false,
+    }
+}
+
+// Copies of those of the documents that do not stand behind the bound.
+fn copies(
+    alloc: Global,
+    query: &Query,
+    params: &Fields,
+    bound: &[Val],
+    docs: &[Doc],
+) -> Result<Vec<Doc>, NoMemory>
+    requires { is_filtered (query_of query.now) ≡ true }
+    ensures { IfOk result (λ v. map document v.items
+        ≡ filter (is_near (query_of query.now) (fields params.now) (map tree bound.now))
+        (map document docs.now)) }
+{
+    let mut near = Vec::new(alloc);
+    for doc in docs {
+        if is_near(alloc, query, params, bound, doc)? {
+            near.push(doc.copy()?)?;
+        }
+    }
+    Ok(near)
+}
+
+impl Near {
+    /// Those of the documents that stand near the window of the query. `None` where it has none,
+    /// and where it is not worth the while: the documents are few, or most of them are near.
+    pub fn among(
+        alloc: Global,
+        query: &Query,
+        params: &Fields,
+        docs: &[Doc],
+    ) -> Result<Option<Near>, NoMemory>
+        requires { is_filtered (query_of query.now) ≡ true }
+        ensures { IfOk result (λ o. IfSome o
+            (AreNearest (query_of query.now) (fields params.now) (map document docs.now))) }
+    {
+        place_bounds_window();
+        let Some(many) = window(query) else {
+            return Ok(None);
+        };
+        if docs.len() <= 2 * many + 16 {
+            return Ok(None);
+        }
+        let place = many + many / 2 + 4;
+        let Some(bound) = keys_at(alloc, query, params, docs, place)? else {
+            return Ok(None);
+        };
+        let near = copies(alloc, query, params, &bound, docs)?;
+        if near.len() > docs.len() / 2 {
+            return Ok(None);
+        }
+        Ok(Some(Near { bound, docs: near }))
+    }
+
+    /// Puts a copy of the document in the place of its id where it does not stand behind the
+    /// bound, and else takes out the one of its id: whether a document is or was there.
+    pub fn put(
+        &mut self,
+        alloc: Global,
+        query: &Query,
+        params: &Fields,
+        doc: &Doc,
+    ) -> Result<bool, NoMemory>
+        requires filtered { is_filtered (query_of query.now) ≡ true }
+        requires ascending { ascending (near_docs self.old) ≡ true }
+        ensures placed { OnOk result (near_docs self.new ≡ placed (id_of (document doc.now))
+            (kept_if (is_near (query_of query.now) (fields params.now) (bound_of self.old))
+            (Some (document doc.now))) (near_docs self.old)) }
+        ensures same { IfOk result (λ b. b ≡ false → near_docs self.new ≡ near_docs self.old) }
+        ensures bound { self.new.bound ≡ self.old.bound }
+    {
+        if is_near(alloc, query, params, &self.bound, doc)? {
+            put(&mut self.docs, doc.copy()?)?;
+            return Ok(true);
+        }
+        Ok(remove(&mut self.docs, doc.id()))
+    }
+
+    /// Brings them behind one change, where they are those of hits: whether one of them came,
+    /// changed or went.
+    pub fn place(
+        &mut self,
+        alloc: Global,
+        query: &Query,
+        params: &Fields,
+        change: &Change,
+    ) -> Result<bool, NoMemory>
+        requires filtered { is_filtered (query_of query.now) ≡ true }
+        requires ascending { ascending (near_docs self.old) ≡ true }
+        ensures placed { OnOk result (near_docs self.new ≡ placed (edit change.now).0
+            (kept_if (is_near_hit (query_of query.now) (fields params.now) (bound_of self.old))
+            (edit change.now).1.1) (near_docs self.old)) }
+        ensures same { IfOk result (λ b. b ≡ false → near_docs self.new ≡ near_docs self.old) }
+        ensures bound { self.new.bound ≡ self.old.bound }
+    {
+        if let Some(doc) = &change.after {
+            if hit(alloc, query, params, doc)? && is_near(alloc, query, params, &self.bound, doc)? {
+                put(&mut self.docs, doc.copy()?)?;
+                return Ok(true);
+            }
+        }
+        Ok(remove(&mut self.docs, &change.id))
+    }
+
+    /// Takes out the document of the id: whether there was one.
+    pub fn remove(&mut self, id: &Txt) -> bool
+        requires { ascending (near_docs self.old) ≡ true }
+        ensures left { near_docs self.new ≡ without id.now (near_docs self.old) }
+        ensures same { result ≡ false → near_docs self.new ≡ near_docs self.old }
+        ensures bound { self.new.bound ≡ self.old.bound }
+    {
+        remove(&mut self.docs, id)
+    }
+}

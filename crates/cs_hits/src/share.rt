@@ -1,0 +1,140 @@
+//! The share that a hit has in the answer of a mapped query.
+ghost use Rattle.std.specs.Prelude.{◌≡◌, false, true, IfOk};
+ghost use Rattle.cs_value.specs.View.{fields};
+ghost use Rattle.cs_syntax.specs.Queries.{query as query_of};
+ghost use Rattle.cs_view.specs.Changes.{are_changes, LeadTo, Before};
+ghost use Rattle.cs_view.specs.Touched.{is_touched, touched, touches};
+ghost use Rattle.cs_view.specs.View.{doc as document, edit, edits};
+ghost use Rattle.cs_window.specs.Mapped.{is_mapped};
+ghost use Rattle.cs_hits.specs.Shares.{IsShare, share_doc};
+
+use crate::held::Held;
+use cs_eval::share;
+use cs_syntax::Query;
+use cs_value::{Fields, NoMemory, Steps, Val};
+use cs_view::laws::{changes_lead_back_and_on, untouched_selects_the_same};
+use cs_view::{Change, Doc, Key, Record, View, has};
+use cs_window::looked_settles_share;
+use std::alloc::Global;
+use std::sync::ledger::Ledger;
+
+/// A document, its share in an answer, and the keys that finding the share looked up.
+#[derive(Drop)]
+pub struct Share {
+    pub doc: Doc,
+    pub value: Val,
+    pub looked: Vec<Key>,
+}
+
+impl Held for Share {
+    ghost held = { share_doc };
+
+    fn doc(&self) -> &Doc {
+        &self.doc
+    }
+}
+
+// Whether the document before or after the change has the key.
+fn touches(key: &Key, change: &Change) -> bool
+    ensures { result ≡ touches key.now (edit change.now) }
+{
+    if let Some(doc) = &change.before {
+        if has(key, doc) {
+            return true;
+        }
+    }
+    if let Some(doc) = &change.after {
+        has(key, doc)
+    } else {
+        false
+    }
+}
+
+/// Whether a document before or after some change has the key. It takes no memory.
+pub fn is_touched(key: &Key, changes: &[Change]) -> bool
+    ensures { result ≡ is_touched (edits changes.now) key.now }
+{
+    for change in changes {
+        if touches(key, change) {
+            return true;
+        }
+    }
+    false
+}
+
+// Whether a document before or after some change has one of the keys.
+fn are_touched(keys: &[Key], changes: &[Change]) -> bool
+    ensures { result ≡ touched keys.now (edits changes.now) }
+{
+    for key in keys {
+        if is_touched(key, changes) {
+            return true;
+        }
+    }
+    false
+}
+
+impl Share {
+    /// The share of a document over the documents of the view. `NoMemory` where the allocator has
+    /// no room for it.
+    pub fn find<V: View<L>, L: Ledger>(
+        alloc: Global,
+        query: &Query,
+        params: &Fields,
+        doc: &Doc,
+        view: &V,
+        steps: &mut Steps<L>,
+    ) -> Result<Share, NoMemory>
+        requires { is_mapped (query_of query.now) ≡ true }
+        ensures share { IfOk result
+            (IsShare (V.docs view.now) (query_of query.now) (fields params.now)) }
+        ensures doc { IfOk result (λ s. share_doc s ≡ document doc.now) }
+    {
+        let mut looked = Record::new(alloc);
+        let value = share(alloc, query, params, doc, view, &mut looked, steps)?;
+        Ok(Share {
+            doc: doc.copy()?,
+            value,
+            looked: looked.into_keys(),
+        })
+    }
+
+    /// Whether the changes touch what finding the share looked up.
+    pub fn touched(&self, changes: &[Change]) -> bool
+        ensures { result ≡ touched self.now.looked.items (edits changes.now) }
+    {
+        are_touched(&self.looked, changes)
+    }
+
+    /// The share of its document in the dataset after the changes, and whether it was found anew:
+    /// that is where the changes touch what finding it looked up. `NoMemory` where the allocator
+    /// has no room for it.
+    pub fn renewed<V: View<L>, L: Ledger>(
+        self,
+        alloc: Global,
+        query: &Query,
+        params: &Fields,
+        view: &V,
+        changes: &[Change],
+        steps: &mut Steps<L>,
+    ) -> Result<(Share, bool), NoMemory>
+        requires mapped { is_mapped (query_of query.now) ≡ true }
+        requires changes { are_changes (edits changes.now) ≡ true }
+        requires led { LeadTo (V.docs view.now) (edits changes.now) }
+        requires share { IsShare (Before (V.docs view.now) (edits changes.now))
+            (query_of query.now) (fields params.now) self }
+        ensures share { IfOk result
+            (λ r. IsShare (V.docs view.now) (query_of query.now) (fields params.now) r.0) }
+        ensures doc { IfOk result (λ r. share_doc r.0 ≡ share_doc self) }
+        ensures same { IfOk result (λ r. r.1 ≡ false → r.0 ≡ self) }
+    {
+        looked_settles_share();
+        untouched_selects_the_same();
+        changes_lead_back_and_on();
+        if !self.touched(changes) {
+            return Ok((self, false));
+        }
+        let anew = Share::find(alloc, query, params, &self.doc, view, steps)?;
+        Ok((anew, true))
+    }
+}
