@@ -37,15 +37,15 @@ module _ (docs : List Tree) (cs : List Edit) (sorted : ascending docs ≡ true) 
   abbrev before : List Tree
   before = Before docs cs
 
-  pub share-still : (e : Expression) (params : Pairs) (s : Share) → touched s.looked.items cs ≡ false → IsShare before e params s → IsShare docs e params s
+  pub share-still : (e : Expression) (params : Pairs) (s : Share) → touched s.looked cs ≡ false → IsShare before e params s → IsShare docs e params s
   share-still e params s quiet is =
       let agree : (k : Key) → Contains (share_looked before e params (share_doc s)) k → Sel k before ≡ Sel k docs
-      = λ k at. stays docs cs sorted changes leads untouched back s.looked.items quiet k (subst (λ (ks : List Key). Contains ks k) (sym is.looked) at) in
+      = λ k at. stays docs cs sorted changes leads untouched back s.looked quiet k (subst (λ (ks : List Key). Contains ks k) (sym is.looked) at) in
       let settled = looked e params (share_doc s) before docs agree in
       record { value = is.value ∙ settled.0; looked = is.looked ∙ settled.1 }
 
   pub all-still : (e : Expression) (params : Pairs) (ss : List Share) → touched (shares_looked ss) cs ≡ false → AreShares before e params ss → AreShares docs e params ss
   all-still e params [] quiet all = tt
   all-still e params (s ∷ ss) quiet all =
-      let both : (touched s.looked.items cs || touched (shares_looked ss) cs) ≡ false = sym (list_any-append (is_touched cs) s.looked.items (shares_looked ss)) ∙ quiet in
-      (share-still e params s (or-left _ _ both) all.0, all-still e params ss (or-right (touched s.looked.items cs) _ both) all.1)
+      let both : (touched s.looked cs || touched (shares_looked ss) cs) ≡ false = sym (list_any-append (is_touched cs) s.looked (shares_looked ss)) ∙ quiet in
+      (share-still e params s (or-left _ _ both) all.0, all-still e params ss (or-right (touched s.looked cs) _ both) all.1)

@@ -25,18 +25,18 @@ share_values ss = map (λ s. tree s.value) ss
 
 -- the keys that finding them looked up
 abbrev pub shares_looked : List Share → List Key
-shares_looked ss = flat_map (λ s. s.looked.items) ss
+shares_looked ss = flat_map (λ s. s.looked) ss
 
 -- it is the share of its document over a dataset, with what finding it looks up
 pub record IsShare (docs : List Tree) (e : Expression) (params : Pairs) (s : Share) : Type 0 where
   pub value : tree s.value ≡ share docs e params (share_doc s)
-  pub looked : s.looked.items ≡ share_looked docs e params (share_doc s)
+  pub looked : s.looked ≡ share_looked docs e params (share_doc s)
 
 abbrev pub AreShares : List Tree → Expression → Pairs → List Share → Type 0
 AreShares docs e params ss = AllByRecursion (IsShare docs e params) ss
 
 -- the shares of hits behind changes: of those documents, over the dataset
-pub record Follow (docs : List Tree) (cs : List Edit) (e : Expression) (params : Pairs)
+pub record SharesFollow (docs : List Tree) (cs : List Edit) (e : Expression) (params : Pairs)
     (old new : List Share) : Type 0 where
   pub hits : share_docs new ≡ After (share_docs old) (changes_where (is_hit e params) cs)
   pub shares : AreShares docs e params new

@@ -11,5 +11,5 @@ mod shares;
 
 pub use behind::Behind;
 pub use hits::Hits;
-pub use share::{Share, is_touched};
+pub use share::Share;
 pub use shares::{answer_of, codes_of, find_shares, follow_shares, renew_shares, shares_touched};

@@ -3,7 +3,7 @@ ghost use Rattle.std.specs.Prelude.{◌≡◌, false, true, IfOk};
 ghost use Rattle.cs_value.specs.View.{fields};
 ghost use Rattle.cs_syntax.specs.Queries.{query as query_of};
 ghost use Rattle.cs_view.specs.Changes.{are_changes, LeadTo, Before};
-ghost use Rattle.cs_view.specs.Touched.{is_touched, touched, touches};
+ghost use Rattle.cs_view.specs.Touched.{touched};
 ghost use Rattle.cs_view.specs.View.{doc as document, edit, edits};
 ghost use Rattle.cs_window.specs.Mapped.{is_mapped};
 ghost use Rattle.cs_hits.specs.Shares.{IsShare, share_doc};
@@ -13,7 +13,7 @@ use cs_eval::share;
 use cs_syntax::Query;
 use cs_value::{Fields, NoMemory, Steps, Val};
 use cs_view::laws::{changes_lead_back_and_on, untouched_selects_the_same};
-use cs_view::{Change, Doc, Key, Record, View, has};
+use cs_view::{Change, Doc, Record, View};
 use cs_window::looked_settles_share;
 use std::alloc::Global;
 use std::sync::ledger::Ledger;
@@ -23,7 +23,7 @@ use std::sync::ledger::Ledger;
 pub struct Share {
     pub doc: Doc,
     pub value: Val,
-    pub looked: Vec<Key>,
+    pub looked: Record,
 }
 
 impl Held for Share {
@@ -32,46 +32,6 @@ impl Held for Share {
     fn doc(&self) -> &Doc {
         &self.doc
     }
-}
-
-// Whether the document before or after the change has the key.
-fn touches(key: &Key, change: &Change) -> bool
-    ensures { result ≡ touches key.now (edit change.now) }
-{
-    if let Some(doc) = &change.before {
-        if has(key, doc) {
-            return true;
-        }
-    }
-    if let Some(doc) = &change.after {
-        has(key, doc)
-    } else {
-        false
-    }
-}
-
-/// Whether a document before or after some change has the key. It takes no memory.
-pub fn is_touched(key: &Key, changes: &[Change]) -> bool
-    ensures { result ≡ is_touched (edits changes.now) key.now }
-{
-    for change in changes {
-        if touches(key, change) {
-            return true;
-        }
-    }
-    false
-}
-
-// Whether a document before or after some change has one of the keys.
-fn are_touched(keys: &[Key], changes: &[Change]) -> bool
-    ensures { result ≡ touched keys.now (edits changes.now) }
-{
-    for key in keys {
-        if is_touched(key, changes) {
-            return true;
-        }
-    }
-    false
 }
 
 impl Share {
@@ -95,15 +55,15 @@ impl Share {
         Ok(Share {
             doc: doc.copy()?,
             value,
-            looked: looked.into_keys(),
+            looked,
         })
     }
 
     /// Whether the changes touch what finding the share looked up.
     pub fn touched(&self, changes: &[Change]) -> bool
-        ensures { result ≡ touched self.now.looked.items (edits changes.now) }
+        ensures { result ≡ touched self.now.looked (edits changes.now) }
     {
-        are_touched(&self.looked, changes)
+        self.looked.touched(changes)
     }
 
     /// The share of its document in the dataset after the changes, and whether it was found anew:

@@ -10,7 +10,7 @@ ghost use Rattle.cs_view.specs.View.{doc as document, edit, edits};
 ghost use Rattle.cs_meaning.specs.Hits.{hits, is_hit};
 ghost use Rattle.cs_window.specs.Mapped.{is_mapped};
 ghost use Rattle.cs_interest.specs.Interest.{interest_code};
-ghost use Rattle.cs_hits.specs.Shares.{AreShares, Follow, IsShare, share_docs, share_values, shares_looked};
+ghost use Rattle.cs_hits.specs.Shares.{AreShares, SharesFollow, IsShare, share_docs, share_values, shares_looked};
 
 use crate::held::{put, remove};
 use crate::share::Share;
@@ -102,7 +102,7 @@ pub fn codes_of(
     let mut codes = Vec::new(alloc);
     codes.push(interest_code(seed, own))?;
     for share in shares {
-        add_codes(seed, &share.looked, &mut codes)?;
+        add_codes(seed, share.looked.keys(), &mut codes)?;
     }
     Ok(codes)
 }
@@ -196,7 +196,7 @@ pub fn follow_shares<V: View<L>, L: Ledger>(
     requires ascending { ascending (share_docs shares.old.items) ≡ true }
     requires shares { AreShares (V.docs view.now) (query_of query.now) (fields params.now)
         shares.old.items }
-    ensures follow { OnOk result (Follow (V.docs view.now) (edits changes.now)
+    ensures follow { OnOk result (SharesFollow (V.docs view.now) (edits changes.now)
         (query_of query.now) (fields params.now) shares.old.items shares.new.items) }
     ensures same { IfOk result (λ b. b ≡ false → shares.new.items ≡ shares.old.items) }
 {

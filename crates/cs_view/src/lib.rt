@@ -14,7 +14,7 @@ pub use change::Change;
 pub use doc::{DEEPEST_DOCUMENT, Doc, DocFault, is_body};
 pub use key::{Key, Names, Scalar};
 pub use lookup::{has, has_all, has_ref};
-pub use record::Record;
+pub use record::{Record, is_touched};
 pub use scope::Scope;
 pub use view::View;
 

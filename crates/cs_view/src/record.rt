@@ -48,6 +48,13 @@ impl Record {
     }
 
     /// The keys, in the order in which they were added.
+    pub fn keys(&self) -> &[Key]
+        ensures { result.now ≡ self.now }
+    {
+        &self.keys
+    }
+
+    /// The keys by value, in the order in which they were added.
     pub fn into_keys(self) -> Vec<Key>
         ensures { result.items ≡ self }
     {
@@ -68,7 +75,8 @@ impl Record {
     }
 }
 
-fn is_touched(key: &Key, changes: &[Change]) -> bool
+/// Whether the key is had by the document before or after some change. It takes no memory.
+pub fn is_touched(key: &Key, changes: &[Change]) -> bool
     ensures { result ≡ is_touched (edits changes.now) key.now }
 {
     for change in changes {

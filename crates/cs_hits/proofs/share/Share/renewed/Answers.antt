@@ -12,6 +12,6 @@ pub returns-then-not-touched-clause-share : goal.returns-then-not-touched-clause
 returns-then-not-touched-clause-share g c =
     let docs = g.V.View.docs c.args.view.now in let cs = edits c.args.changes.now in
     let sorted : ascending docs ≡ true = and-left (ascending docs) _ (g.met.V.View.dataset c.args.view.now) in
-    let quiet : touched c.args.self.looked.items cs ≡ false = cc (c.touched.ensures, c.if-not-touched.true) in
+    let quiet : touched c.args.self.looked cs ≡ false = cc (c.touched.ensures, c.if-not-touched.true) in
     share-still docs cs sorted c.requires.changes c.requires.led c.untouched_selects_the_same.ensures c.changes_lead_back_and_on.ensures c.looked_settles_share.ensures
     (query c.args.query.now) (fields c.args.params.now) c.args.self quiet c.requires.share
