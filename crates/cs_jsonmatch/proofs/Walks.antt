@@ -227,6 +227,10 @@ pub next_done : (p : Item → Bool) (h : Bool) (i : Iter Bool) (j : Iter CodeSte
 next_done p h i j (inl x) = next_flags p h i.rest.now (path_of j.rest.now) x.1.0
 next_done p h i j (inr x) = next_past p h i.rest.now j.rest.now x.1.0
 
+pub one_flag : (h : Bool) → list_any (λ b. b) (h ∷ []) ≡ h
+one_flag true = refl
+one_flag false = refl
+
 pub size-list : (xs : List Val) → size (list (trees (list_tree xs))) ≡ length xs
 size-list [] = refl
 size-list (x ∷ xs) = ap suc (size-list xs)

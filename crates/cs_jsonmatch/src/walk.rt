@@ -28,6 +28,21 @@ fn copy_parts(alloc: Global, parts: &[Part]) -> Result<Vec<Part>, NoMemory>
     Ok(copies)
 }
 
+// Whether a rest of the path waits below a part.
+fn some_wait_below(steps: &[Step], waiting: &[bool], count: usize, key: Key<'_>, val: &Val) -> bool
+    ensures { result ≡ list_any (λ b. b) (next_waiting
+        (selects count (part_of key.entry) (tree val.now)) false waiting.now (path_of steps.now)) }
+{
+    let mut selected = false;
+    for (waits, step) in waiting.iter().zip(steps) {
+        if selected || (*waits && step.deep) {
+            return true;
+        }
+        selected = *waits && step_selects(step, count, key, val);
+    }
+    selected
+}
+
 // Which rests of the path wait below a part: one more than above at most.
 fn next(
     alloc: Global,
@@ -41,7 +56,7 @@ fn next(
         ≡ next_waiting (selects count (part_of key.entry) (tree val.now)) false waiting.now
         (path_of steps.now)) }
 {
-    let mut below = Vec::new(alloc);
+    let mut below = Vec::with_capacity(alloc, steps.len().saturating_add(1))?;
     let mut here = false;
     for (waits, step) in waiting.iter().zip(steps) {
         below.push(here || (*waits && step.deep))?;
@@ -134,6 +149,9 @@ fn walk_items(
 {
     let count = items.len();
     for (k, item) in items.iter().enumerate() {
+        if !some_wait_below(steps, waiting, count, Key::Pos(k), item) {
+            continue;
+        }
         let below = next(alloc, steps, waiting, count, Key::Pos(k), item)?;
         above.push(Part::Pos(k))?;
         walk(alloc, steps, &below, item, above, found)?;
@@ -157,10 +175,10 @@ fn walk_pairs(
     ensures above { OnOk result (above.new.items ≡ above.old.items) }
 {
     for (name, member) in object.pairs.iter() {
-        let below = next(alloc, steps, waiting, 0, Key::Name(name), member)?;
-        if !any_waits(&below) {
+        if !some_wait_below(steps, waiting, 0, Key::Name(name), member) {
             continue;
         }
+        let below = next(alloc, steps, waiting, 0, Key::Name(name), member)?;
         above.push(Part::Name(Txt::copy_of(alloc, name)?))?;
         walk(alloc, steps, &below, member, above, found)?;
         drop(above.pop());

@@ -89,24 +89,46 @@ walk_pairs-loop-name-preserved t c =
     let above = l.above.items in
     let found = locations l.found.items in
     let below_is = c.in_ok-below.ensures ∙ ap (λ m. next (selects 0 (Name m) (tree e.1)) false ws (path_of ss)) (sym name_is) in
-    let walked = c.in_ok-walk.ensures.found ∙ ap (λ a. found ++ reached a c.deref-in-loop-name.result.now (path_of ss) (tree e.1) (trails (tree e.1))) c.in_ok-push.ensures.items in
+    let walked = c.in_ok-walk.ensures.found ∙ ap (λ a. found ++ reached a c.deref.result.now (path_of ss) (tree e.1) (trails (tree e.1))) c.in_ok-push.ensures.items in
     let back = popped above c.walk.new.above.items c.pop.new.self.items (Name name) c.walk.new.above.len (c.in_ok-walk.ensures.above ∙ c.in_ok-push.ensures.items) (omega arith) c.pop.ensures.rest in (
-      rw back (pair_step found (locations c.walk.new.found.items) above ws c.deref-in-loop-name.result.now (path_of ss) c.args.object.now l.name-iterator c.next.new.self name e c.in-Some.ensures.steps name_is (c.deref-in-loop-name.ensures.value ∙ below_is) walked ∙ l.invariant.0),
+      rw back (pair_step found (locations c.walk.new.found.items) above ws c.deref.result.now (path_of ss) c.args.object.now l.name-iterator c.next.new.self name e c.in-Some.ensures.steps name_is (c.deref.ensures.value ∙ below_is) walked ∙ l.invariant.0),
       back ∙ l.invariant.1,
     )
 
-pub walk_pairs-loop-name-preserved-then-not-any_waits : goal.walk_pairs-loop-name-preserved-then-not-any_waits
-walk_pairs-loop-name-preserved-then-not-any_waits t c =
+pub walk_items-loop-k-preserved-then-not-some_wait_below : goal.walk_items-loop-k-preserved-then-not-some_wait_below
+walk_items-loop-k-preserved-then-not-some_wait_below t c =
+    let ms = path_of c.args.steps.now in
+    let ws = c.args.waiting.now in
+    let xs = c.args.items.now.items in
+    let i = c.loop-k.k in
+    let x = c.item-item.result in
+    let above = c.loop-k.above.items in
+    let found = locations c.loop-k.found.items in
+    let at : x ≡ get_or xs i x = c.item-item.is ∙ ap (λ ys. get_or ys i x) c.deref-item-items.ensures.value in
+    let here : i < length xs = omega arith in
+    let count : c.len-count.result ≡ length xs = omega arith in
+    let below = next (selects (length xs) (Pos i) (tree x)) false ws ms in
+    let none : list_any (λ b. b) below ≡ false =
+    sym (ap (λ n. list_any (λ b. b) (next (selects n (Pos i) (tree x)) false ws ms)) count)
+    ∙ sym c.some_wait_below.ensures ∙ c.if-not-some_wait_below.true in
+    let walked = none_reached found (above ++ Pos i ∷ []) below ms (tree x) (trails (tree x)) none in (
+      item_step found found above ws below ms xs i x here at refl walked ∙ c.loop-k.invariant.0,
+      c.loop-k.invariant.1,
+    )
+
+pub walk_pairs-loop-name-preserved-then-not-some_wait_below : goal.walk_pairs-loop-name-preserved-then-not-some_wait_below
+walk_pairs-loop-name-preserved-then-not-some_wait_below t c =
     let l = c.loop-name in
     let e : Entry = (c.in-Some.name.now, c.in-Some.member.now) in
     let ms = path_of c.args.steps.now in
-    let below = c.deref.result.now in
+    let ws = c.args.waiting.now in
     let above = l.above.items in
     let found = locations l.found.items in
     let name = c.in-Some.name.now in
-    let none : list_any (λ b. b) below ≡ false = sym c.any_waits.ensures ∙ c.if-not-any_waits.true in
+    let below = next (selects 0 (Name name) (tree e.1)) false ws ms in
+    let none : list_any (λ b. b) below ≡ false = sym c.some_wait_below.ensures ∙ c.if-not-some_wait_below.true in
     let walked = none_reached found (above ++ Name name ∷ []) below ms (tree e.1) (trails (tree e.1)) none in (
-      pair_step found found above c.args.waiting.now below ms c.args.object.now l.name-iterator c.next.new.self name e c.in-Some.ensures.steps refl (c.deref.ensures.value ∙ c.in_ok-below.ensures) walked ∙ l.invariant.0,
+      pair_step found found above ws below ms c.args.object.now l.name-iterator c.next.new.self name e c.in-Some.ensures.steps refl refl walked ∙ l.invariant.0,
       l.invariant.1,
     )
 
