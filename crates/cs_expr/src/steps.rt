@@ -406,11 +406,11 @@ fn order_keys<'k, S: Source<C>, C>(
     ensures keys { OnOk result (keys.new ≡ keys.old ++ keys_looked (S.docs source.now) (fields
         params.now) (keys_of (map order_key_of order.now)) (scope frame.now)) }
 {
-    let mut out = Vec::new(alloc);
+    let mut out = Vec::with_capacity(alloc, order.len())?;
     let mut behind = order;
     while let Some((first, later)) = behind.split_first() {
         let key = settled(alloc, &first.key, frame, params, source, keys, count)?;
-        push(&mut out, key)?;
+        push(&mut out, key.near(alloc)?)?;
         behind = later;
     }
     Ok(out)

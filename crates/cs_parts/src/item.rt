@@ -7,6 +7,9 @@ use crate::answer::Got;
 use cs_value::{NoMemory, Val};
 use std::alloc::Global;
 
+// A text of at most so many bytes lies in its value.
+const SHORT: usize = 30;
+
 /// An element of a list, or one value: borrowed, or made.
 #[derive(Drop)]
 pub enum Item<'s> {
@@ -35,6 +38,23 @@ impl<'s> Item<'s> {
         }
     }
 
+    /// The same value, which the item itself holds where it is small: who compares many items then
+    /// follows no reference. The copy of a small value takes no memory.
+    pub fn near(self, alloc: Global) -> Result<Item<'s>, NoMemory>
+        ensures { IfOk result (λ i. item i ≡ item self.entry) }
+    {
+        match self {
+            Item::Lent(val) => {
+                if is_small(val) {
+                    Ok(Item::Made(val.copy(alloc)?))
+                } else {
+                    Ok(Item::Lent(val))
+                }
+            }
+            Item::Made(val) => Ok(Item::Made(val)),
+        }
+    }
+
     /// The answer that this is.
     pub fn into_got(self) -> Got<'s>
         ensures { got result ≡ item self.entry }
@@ -43,6 +63,15 @@ impl<'s> Item<'s> {
             Item::Lent(val) => Got::Part(val),
             Item::Made(val) => Got::Whole(val),
         }
+    }
+}
+
+// Whether the value has no part of its own in memory.
+fn is_small(val: &Val) -> bool {
+    match val {
+        Val::Null | Val::Bool(_) | Val::Num(_) => true,
+        Val::Text(text) => text.as_str().len() <= SHORT,
+        Val::List(_) | Val::Obj(_) => false,
     }
 }
 
