@@ -6,6 +6,7 @@ mod Named
 mod News
 mod Refreshing
 mod Sames
+mod Settled
 mod Sharing
 mod Simple
 mod Untouched

@@ -18,7 +18,7 @@ use Rattle.cs_meaning.specs.Hits.{hits}
 use Rattle.cs_meaning.specs.Laws.{HitsHaveKey}
 use Rattle.cs_window.specs.Laws.{LookedSettlesShare, MappedIsSharesOfHits}
 use Rattle.cs_window.specs.Mapped.{is_mapped}
-use Rattle.cs_hits.specs.Shares.{AreShares, Follow, share_docs, share_values}
+use Rattle.cs_hits.specs.Shares.{AreShares, SharesFollow, share_docs, share_values}
 use Rattle.cs_hits.proofs.Brought.{hits-after, stays}
 use Rattle.cs_hits.proofs.Sharing.{all-still, shares-value}
 use Rattle.cs_live.specs.Fits.{FitsShares, RefreshesKept}
@@ -55,7 +55,7 @@ module _ (docs : List Tree) (cs : List Edit) (sorted : ascending docs ≡ true) 
 -- ---- shares that were brought behind changes
 pub mapped-refreshed : MappedIsSharesOfHits → ChangesLeadBackAndOn → FilterFollowsChanges → (docs : List Tree) (cs : List Edit) → ascending docs ≡ true → are_changes cs ≡ true → LeadTo docs cs
     → (old new : Mapped) → FitsShares (Before docs cs) old → query new.query ≡ query old.query → fields new.params ≡ fields old.params → new.own ≡ old.own
-    → Follow docs cs (query old.query) (fields old.params) old.shares.items new.shares.items → tree new.last ≡ list_of (share_values new.shares.items)
+    → SharesFollow docs cs (query old.query) (fields old.params) old.shares.items new.shares.items → tree new.last ≡ list_of (share_values new.shares.items)
     → (touched (mapped_keys old) cs ≡ false → mapped_keys new ≡ mapped_keys old)
     → RefreshesKept docs cs (InShares old) (InShares new)
 mapped-refreshed law back follows docs cs sorted changes leads old new fits q p own follow is keeps =

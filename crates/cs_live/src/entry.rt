@@ -32,7 +32,8 @@ pub(crate) enum Kept {
     ByRecord(Recorded),
     /// With the documents behind it, of a simple query.
     InRows(Rows),
-    /// With the share of each hit in it, of a mapped query: those that changes touch are found anew.
+    /// With the share of each hit in it, of a mapped query: those that changes touch are found
+    /// anew.
     InShares(Mapped),
 }
 

@@ -10,6 +10,7 @@ mod mapped;
 mod recorded;
 mod rows;
 mod same;
+mod settling;
 
 pub use entry::LiveLine;
 pub use laws::simple_lives_ask_nothing;

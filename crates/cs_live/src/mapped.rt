@@ -13,21 +13,21 @@ ghost use Rattle.cs_window.specs.Mapped.{is_mapped};
 ghost use Rattle.cs_interest.specs.Interest.{interest_code};
 ghost use Rattle.cs_live.specs.Fits.{Answers, FitsShares, RefreshesKept};
 ghost use Rattle.cs_live.specs.Found.{IsCoded, IsFound, KeepsOthers, codes_of};
-ghost use Rattle.cs_hits.specs.Shares.{AreShares, Follow, share_docs, share_values};
+ghost use Rattle.cs_hits.specs.Shares.{AreShares, SharesFollow, share_docs, share_values};
 ghost use Rattle.cs_live.specs.Mapped.{KeepsAllButCodes, KeepsAllButLast, KeepsAllButShares, mapped_keys};
 ghost use Rattle.cs_live.specs.declared.entry.Kept.{Kept};
 
 use crate::same::is_same;
+use crate::settling::settle_each;
 use cs_eval::{hits_have_key, key_of};
 use cs_hits::{
-    Share, answer_of, codes_of, find_shares, follow_shares, is_touched, renew_shares,
-    shares_touched,
+    Share, answer_of, codes_of, find_shares, follow_shares, renew_shares, shares_touched,
 };
 use cs_interest::Interest;
 use cs_syntax::Query;
 use cs_value::{Fields, NoMemory, Steps, Val};
 use cs_view::laws::{changes_lead_back_and_on, filter_follows_changes, untouched_selects_the_same};
-use cs_view::{Change, Key, View};
+use cs_view::{Change, Key, View, is_touched};
 use cs_window::{looked_settles_share, mapped_is_filtered, mapped_is_shares_of_hits};
 use std::alloc::Global;
 use std::hash::RandomState;
@@ -35,8 +35,8 @@ use std::mem;
 use std::sync::ledger::Ledger;
 
 /// A mapped query with its last answer, its own key, the shares of its hits in the answer by
-/// ascending id, and the codes under which interest is held in its key and in those that finding the
-/// shares looked up.
+/// ascending id, and the codes under which interest is held in its key and in those that finding
+/// the shares looked up.
 #[derive(Drop)]
 pub(crate) struct Mapped {
     pub(crate) query: Query,
@@ -100,7 +100,7 @@ impl Mapped {
         requires ascending { ascending (share_docs self.old.shares.items) ≡ true }
         requires shares { AreShares (Before (V.docs view.now) (edits changes.now))
             (query_of self.old.query) (fields self.old.params) self.old.shares.items }
-        ensures follow { OnOk result (Follow (V.docs view.now) (edits changes.now)
+        ensures follow { OnOk result (SharesFollow (V.docs view.now) (edits changes.now)
             (query_of self.old.query) (fields self.old.params) self.old.shares.items
             self.new.shares.items) }
         ensures same { IfOk result
@@ -130,7 +130,8 @@ impl Mapped {
         Ok(anew | moved)
     }
 
-    // Makes the answer of the shares: whether it is another tree now.
+    // Makes the answer of the shares: whether it is another tree now. Where there are as many as
+    // before, what is the same stays in its place.
     fn settle(&mut self, alloc: Global) -> Result<bool, NoMemory>
         ensures settled { OnOk result
             (tree self.new.last ≡ list_of (share_values self.new.shares.items)) }
@@ -138,6 +139,11 @@ impl Mapped {
             (λ b. b ≡ not (same_tree (tree self.new.last) (tree self.old.last))) }
         ensures kept { KeepsAllButLast self.old self.new }
     {
+        if let Val::List(list) = &mut self.last {
+            if list.len() == self.shares.len() {
+                return settle_each(alloc, list, &self.shares);
+            }
+        }
         let answer = answer_of(alloc, &self.shares)?;
         let stale = !is_same(&answer, &self.last);
         self.last = answer;
@@ -158,6 +164,9 @@ impl Mapped {
         ensures kept { KeepsAllButCodes self.old self.new }
     {
         let codes = codes_of(alloc, interest.seed(), &self.own, &self.shares)?;
+        if codes.as_slice() == self.codes.as_slice() {
+            return Ok(());
+        }
         interest.leave(number, &self.codes);
         interest.enter(number, &codes)?;
         self.codes = codes;
@@ -166,8 +175,8 @@ impl Mapped {
 
     /// Brings the answer to the dataset after the changes, and the number to the keys that finding
     /// it looks up now: whether it is another tree now. The shares of documents that changed are
-    /// found anew, and those of which the changes touch what finding them looked up. Where no change
-    /// touches a key, all stays as it is and nothing is asked of the view.
+    /// found anew, and those of which the changes touch what finding them looked up. Where no
+    /// change touches a key, all stays as it is and nothing is asked of the view.
     pub(crate) fn refresh<V: View<L>, L: Ledger>(
         &mut self,
         alloc: Global,

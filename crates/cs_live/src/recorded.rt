@@ -117,7 +117,8 @@ impl Recorded {
         }
     }
 
-    // The value over the view, from the documents behind a windowed query, and from all for another.
+    // The value over the view, from the documents behind a windowed query, and from all for
+    // another.
     fn evaluate<V: View<L>, L: Ledger>(
         &mut self,
         alloc: Global,

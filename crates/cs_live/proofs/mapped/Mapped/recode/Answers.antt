@@ -1,5 +1,6 @@
 use Rattle.std.proofs.Common.{◌≡◌, ◌∙◌, ◌∷◌, ap, map, sym, ℕ, List, subst}
-use Rattle.cs_codes.specs.Codes.{Seed}
+use Rattle.std.proofs.lemmas.Slice.Eq.{bytes_eq-Decides}
+use Rattle.cs_codes.specs.Codes.{Seed, is_among}
 use Rattle.cs_interest.specs.Interest.{Entered, Left, interest_code}
 use Rattle.cs_live.specs.Found.{IsCoded}
 use Rattle.cs_hits.specs.Shares.{shares_looked}
@@ -24,3 +25,18 @@ returns-clause-found c k h found =
     (subst (λ (cs : List ℕ). Entered c.args.number cs j c.enter.new.self) c.deref-3.ensures.value c.in_ok-enter.ensures.entered) c.enter.ensures.seed
     found
     (subst (λ (s : Seed). IsCoded s (InShares new)) c.seed.ensures (coded-keys seed (mapped_keys new) c.in_ok-codes.codes.items codes))
+
+pub returns-then-eq-clause-found : goal.returns-then-eq-clause-found
+returns-then-eq-clause-found c k h found =
+    let old = c.args.self.now in
+    let new : Mapped = record { query = old.query; params = old.params; last = old.last; own = old.own; shares = old.shares; codes = old.codes } in
+    let seed : Seed = c.seed.result.now in
+    let lent : c.as_slice.result.now ≡ c.as_slice-2.result.now =
+    (bytes_eq-Decides c.as_slice.result.now c.as_slice-2.result.now).0 (sym c.eq.ensures ∙ c.if-eq.true) in
+    let same : c.in_ok-codes.codes.items ≡ old.codes.items = sym c.as_slice.ensures.value ∙ lent ∙ c.as_slice-2.ensures.value in
+    let codes : old.codes.items ≡ map (interest_code seed) (mapped_keys new)
+    = sym same ∙ c.in_ok-codes.ensures ∙ ap (λ (ss : List Share). map (interest_code seed) (old.own ∷ shares_looked ss)) c.deref.ensures.value in
+    record {
+      stands = λ n. found.stands n ∙ ap (is_among n) h;
+      coded = subst (λ (s : Seed). IsCoded s (InShares new)) c.seed.ensures (coded-keys seed (mapped_keys new) old.codes.items codes);
+    }

@@ -7,7 +7,7 @@ use Rattle.cs_view.specs.Dataset.{ascending}
 use Rattle.cs_view.specs.Touched.{touched}
 use Rattle.cs_view.specs.View.{edits}
 use Rattle.cs_view.proofs.Booleans.{and-left}
-use Rattle.cs_hits.specs.Shares.{Follow, share_docs, share_values}
+use Rattle.cs_hits.specs.Shares.{SharesFollow, share_docs, share_values}
 use Rattle.cs_live.specs.Mapped.{mapped_keys}
 use Rattle.cs_live.specs.declared.entry.Kept.TheVariants.{InShares}
 use Rattle.cs_hits.specs.declared.share.Share.{Share}
@@ -66,7 +66,7 @@ returns-clause-refreshed g c =
     let shares : new.shares ≡ c.follow.new.self.shares = r.shares ∙ s.shares in
     mapped-refreshed c.mapped_is_shares_of_hits.ensures c.changes_lead_back_and_on.ensures c.filter_follows_changes.ensures docs cs sorted c.requires.changes c.requires.led old new c.requires.fits
     (ap query (r.query ∙ s.query ∙ f.query)) (ap fields (r.params ∙ s.params ∙ f.params)) (r.own ∙ s.own ∙ f.own)
-    (subst (λ (v : Vec Share Global). Follow docs cs (query old.query) (fields old.params) old.shares.items v.items) (sym shares) c.in_ok-follow.ensures.follow)
+    (subst (λ (v : Vec Share Global). SharesFollow docs cs (query old.query) (fields old.params) old.shares.items v.items) (sym shares) c.in_ok-follow.ensures.follow)
     (ap tree r.last ∙ c.in_ok-stale.ensures.settled ∙ ap (λ (v : Vec Share Global). list_of (share_values v.items)) (sym r.shares))
     (λ quiet. absurd (true≢false (sym hot ∙ quiet)))
 
