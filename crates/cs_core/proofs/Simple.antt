@@ -1,5 +1,5 @@
 -- A line whose queries are refused or simple leaves all live queries simple, where they were.
-use Rattle.std.proofs.Common.{◌≡◌, ◌∙◌, ℕ, List, [], ◌∷◌, ◌++◌, length, map, Bool, true, false, cond, ◌&&◌, Option, Some, None, Ok, Err, refl, sym, ap, subst}
+use Rattle.std.proofs.Common.{◌≡◌, ◌∙◌, ℕ, List, [], ◌∷◌, ◌++◌, length, Bool, true, false, cond, ◌&&◌, Option, Some, None, Ok, Err, refl, sym, ap, subst}
 use Rattle.std.specs.Prelude.{nat_le}
 use Rattle.cs_value.specs.Tree.{Tree, Pairs}
 use Rattle.cs_view.proofs.Booleans.{and-left, and-right}
@@ -27,7 +27,7 @@ use Rattle.cs_machine.specs.Refused.{by_reading, refuse}
 use Rattle.cs_machine.specs.Rows.{row, row_live, by_body, by_filter, by_outcome, listening, lively, subscribing, without_named}
 use Rattle.cs_machine.specs.State.{State, answered, is_taken, with_moment}
 use Rattle.cs_core.specs.Laws.{SimpleLinesKeepLivesSimple}
-use Rattle.cs_core.specs.Visits.{is_simple_line, is_simple_command, is_simple_request, read_command}
+use Rattle.cs_core.specs.Visits.{is_simple_command, is_simple_request, read_command}
 use Rattle.cs_core.proofs.Replying.{step_blank, step_heard}
 
 -- ---- lists of live queries

@@ -26,9 +26,5 @@ last-of (y ∷ ys) None t h e = let none = e refl in absurd (cc)
 last-of (y ∷ []) (Some v) t h e = absurd (cc)
 last-of (y ∷ z ∷ ys) (Some v) t h e = absurd (cc)
 
-pub empty : (xs : List Val) → length xs ≡ 0 → xs ≡ []
-empty [] h = refl
-empty (x ∷ xs) h = absurd (omega (arith, h))
-
 pub sole-element : (xs ys : List Val) (r : Option Val) (t : Tree) → xs ≡ ys ++ option_to_list r → (r ≡ None → ys ≡ []) → list_of (map tree xs) ≡ list_of (t ∷ []) → option_map tree r ≡ Some t
 sole-element xs ys r t is e h = last-of ys r t (sym (ap (map tree) is) ∙ same-elements (map tree xs) (t ∷ []) h) e

@@ -1,6 +1,6 @@
 -- Of several keys, each of which a document must have, the narrowest: one that few documents are
 -- expected to have. This project's profile.
-use Rattle.std.specs.Prelude.{ℕ, Bool, true, false, cond, nat_lt, List, [], ◌∷◌, codes, fold}
+use Rattle.std.specs.Prelude.{ℕ, Bool, false, cond, nat_lt, List, [], ◌∷◌, codes, fold}
 use Rattle.std.specs.Str.{bytes_eq}
 use Rattle.cs_view.specs.declared.key.Scalar.{Scalar}
 use Rattle.cs_view.specs.declared.key.Scalar.TheVariants.{Bool as Boolean, Num, Text}

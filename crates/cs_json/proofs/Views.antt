@@ -1,8 +1,6 @@
 -- The tree of a node, level by level.
-use Rattle.std.proofs.Common.{◌≡◌, map, Vec, Global, Bor, rules}
-use Rattle.cs_value.specs.Tree.{Tree, list, object, trees, pairs}
-use Rattle.cs_value.specs.View.{tree}
-use Rattle.cs_value.specs.declared.val.Val.{Val}
+use Rattle.std.proofs.Common.{◌≡◌, map, Vec, Global, rules}
+use Rattle.cs_value.specs.Tree.{list, object, trees, pairs}
 use Rattle.cs_json.specs.Nodes.{node_tree, member_pair}
 use Rattle.cs_json.specs.declared.node.Node.{Node, the_lemmas}
 use Rattle.cs_json.specs.declared.node.Node as node

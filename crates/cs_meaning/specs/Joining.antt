@@ -1,9 +1,9 @@
 -- How the steps of a chain are joined: this project's profile, after GROQ-1.revision1, "Compound
 -- expressions" and "Array postfix". A rest is what stands behind a step, up to the next piped call.
-use Rattle.std.specs.Prelude.{Bool, true, false, List, [], ◌∷◌, map, flat_map, Option, Some, None, if◌then◌else◌}
+use Rattle.std.specs.Prelude.{Bool, true, false, List, [], ◌∷◌, map, flat_map, if◌then◌else◌}
 use Rattle.std.specs.Option.{option_map_or}
 use Rattle.cs_value.specs.Words.{as_list, list_of, of_list}
-use Rattle.cs_value.specs.Tree.{Tree, null, boolean, integer, text, list, object}
+use Rattle.cs_value.specs.Tree.{Tree}
 use Rattle.cs_syntax.specs.Expression.{Expression, everything, array, Step, attr, deref, each, slice, bracket, project, pipe, Steps, no_steps, more_steps}
 use Rattle.cs_plan.specs.Steps.{Bracketed, position, named, condition, bracketed}
 use Rattle.cs_meaning.specs.declared.join.Shape.TheVariants.{One, Array}

@@ -7,7 +7,7 @@ use Rattle.cs_value.specs.Words.{as_list, list_of, of_list}
 use Rattle.cs_value.specs.Tree.{Tree, null, boolean, integer, text, list, object, Pairs, members}
 use Rattle.cs_value.proofs.Views.{members-trees}
 use Rattle.cs_view.specs.declared.key.Key.{Key}
-use Rattle.cs_syntax.specs.Expression.{Expression, Step, attr, deref, each, slice, bracket, project, pipe, Steps, no_steps, more_steps}
+use Rattle.cs_syntax.specs.Expression.{attr, deref, each, slice, bracket, project, pipe, Steps, no_steps, more_steps}
 use Rattle.cs_plan.specs.Steps.{Bracketed, position, named, condition, bracketed, position_of}
 use Rattle.cs_meaning.specs.declared.join.Shape.TheVariants.{One, Array}
 use Rattle.cs_meaning.specs.declared.join.Form.TheVariants.{Listing, Element}
@@ -17,10 +17,10 @@ use Rattle.cs_meaning.specs.declared.join.Entrance.{Entrance}
 use Rattle.cs_meaning.specs.declared.join.Entrance.TheVariants.{Whole}
 use Rattle.cs_meaning.specs.Joining.{kind, kind_before, bracket_form, way, entrance, entered, onward}
 use Rattle.cs_meaning.specs.Ordered.{Ranked, in_order, ordered, ranked, sorted}
-use Rattle.cs_meaning.specs.Positions.{sliced, element, element_at, elements_between, clamped, counted, behind}
+use Rattle.cs_meaning.specs.Positions.{sliced, element, element_at, elements_between}
 use Rattle.cs_meaning.specs.Values.{in_bracket, rest_value}
 use Rattle.cs_meaning.specs.Looked.{entered_looked, onward_looked, bracket_looked, rest_looked}
-use Rattle.cs_order.specs.Asked.{slice_end, bracket_end, step_end, first_asked}
+use Rattle.cs_order.specs.Asked.{slice_end, bracket_end, first_asked}
 use Rattle.cs_order.specs.First.{first_of, first_elements, all_kept}
 use Rattle.cs_order.specs.First.{in_order as kept_in_order}
 use Rattle.cs_order.proofs.Kept.{first_in_order}

@@ -5,8 +5,7 @@ use Rattle.std.specs.Option.{option_map_or}
 use Rattle.cs_value.specs.Tree.{Pairs}
 use Rattle.cs_syntax.specs.Expression.{Expression, null_literal, everything, chain, Step, bracket, Steps, no_steps, more_steps}
 use Rattle.cs_view.specs.declared.key.Key.{Key}
-use Rattle.cs_plan.specs.Simple.{is_filter}
-use Rattle.cs_plain.specs.Plain.{is_plain, filter_in, filter_alone, listened_filter}
+use Rattle.cs_plain.specs.Plain.{filter_in, filter_alone, listened_filter}
 use Rattle.cs_plain.specs.Keyed.{predicate_keys, step_condition, first_condition, query_condition}
 use Rattle.cs_plain.proofs.Agree.{impossible}
 

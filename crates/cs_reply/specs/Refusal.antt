@@ -1,6 +1,6 @@
 -- Why a line of a script is refused, and what its reply says of that: this project's profile.
 use Rattle.std.specs.Prelude.{ℕ, List, [], ◌∷◌, codes}
-use Rattle.cs_value.specs.Tree.{Tree, text}
+use Rattle.cs_value.specs.Tree.{text}
 use Rattle.cs_reply.specs.Fields.{Fields, number}
 
 pub data Refusal : Type 0 where

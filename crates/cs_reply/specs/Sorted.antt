@@ -1,5 +1,5 @@
 -- The fields of an event by ascending names. For private clauses.
-use Rattle.std.specs.Prelude.{ℕ, List, [], ◌∷◌, ◌++◌, codes}
+use Rattle.std.specs.Prelude.{ℕ, [], ◌∷◌, ◌++◌, codes}
 use Rattle.cs_value.specs.Tree.{text}
 use Rattle.cs_reply.specs.Fields.{Fields, number}
 use Rattle.cs_reply.specs.Reply.{Event, transition_word, where_there, revision}

@@ -1,7 +1,7 @@
 -- The line that is written where the data file or the size of a source ends a run: this project's
 -- profile.
 use Rattle.std.specs.Prelude.{ℕ, List, [], ◌∷◌, codes}
-use Rattle.cs_value.specs.Tree.{Tree, text}
+use Rattle.cs_value.specs.Tree.{text}
 use Rattle.cs_reply.specs.Fields.{Fields, object_of, number}
 use Rattle.cs_reply.specs.Reply.{written_line}
 

@@ -1,5 +1,5 @@
 -- The costs of the lines of a script, as far as a run has come.
-use Rattle.std.proofs.Common.{◌≡◌, ◌∙◌, ap, sym, refl, subst, ℕ, suc, List, [], ◌∷◌, ◌++◌, take, drop, length, ◌+◌, ◌≤◌, Bool, true, ◌&&◌, Option, None, Some, Ok, arith}
+use Rattle.std.proofs.Common.{◌≡◌, ◌∙◌, ap, sym, refl, subst, ℕ, suc, List, [], ◌∷◌, ◌++◌, take, drop, length, ◌+◌, ◌≤◌, true, ◌&&◌, Option, None, Some, Ok, arith}
 use Rattle.std.proofs.lemmas.List.{take-append-drop}
 use Rattle.cs_view.proofs.Booleans.{and-left, and-right}
 use Rattle.cs_docs.specs.Store.{docs}

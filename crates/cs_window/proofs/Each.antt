@@ -1,7 +1,7 @@
 -- Mapped queries over a dataset: their value and what they look up, hit by hit.
-use Rattle.std.proofs.Common.{◌≡◌, Bool, true, false, not, ◌&&◌, ◌||◌, List, [], ◌∷◌, ◌++◌, map, refl, sym, ap, ◌∙◌, Some, None}
+use Rattle.std.proofs.Common.{◌≡◌, Bool, true, false, not, ◌&&◌, ◌||◌, List, [], ◌∷◌, ◌++◌, map, refl, ap, ◌∙◌}
 use Rattle.std.specs.Prelude.{flat_map}
-use Rattle.std.specs.Option.{option_map_or}
+use Rattle.std.proofs.lemmas.List.{append-nil}
 use Rattle.cs_value.specs.Words.{list_of}
 use Rattle.cs_value.specs.Tree.{Tree, null, Pairs}
 use Rattle.cs_value.proofs.Views.{members-trees}
@@ -68,10 +68,6 @@ pipes-silent docs params (more_steps s ss) sc v h =
     rw (no-pipe s n.0) (pipes-silent docs params ss sc v n.1)
 
 -- ---- the value and the look-ups, document by document
-append-nothing : (ks : List Key) → ks ++ [] ≡ ks
-append-nothing [] = refl
-append-nothing (k ∷ ks) = ap (λ (xs : List Key). k ∷ xs) (append-nothing ks)
-
 pub mapped-shares : (e : Expression) (params : Pairs) (docs ds : List Tree) → is_mapped e ≡ true
     → (tail_over docs e params ds ≡ list_of (map (share docs e params) ds))
     × (tail_looked docs e params ds ≡ flat_map (share_looked docs e params) ds)
@@ -88,7 +84,7 @@ mapped-shares e params docs ds h =
     ∙ ap (λ (ts : List Tree). flat_map (rest_looked docs params ss scope) ts) (members-trees ds) in (
       pipes-keep docs params ss scope v m.1 ∙ value,
       ap (λ (ks : List Key). entered_looked (entrance (kind ss)) (rest_looked docs params ss scope) (list_of ds) ++ ks) (pipes-silent docs params ss scope v m.1)
-          ∙ append-nothing (entered_looked (entrance (kind ss)) (rest_looked docs params ss scope) (list_of ds))
+          ∙ append-nil (entered_looked (entrance (kind ss)) (rest_looked docs params ss scope) (list_of ds))
           ∙ keys,
     )
 

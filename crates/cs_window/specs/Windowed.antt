@@ -1,6 +1,6 @@
 -- Queries whose answer is settled by documents and by what the steps behind their filter look up:
 -- this project's profile.
-use Rattle.std.specs.Prelude.{Bool, true, false, ◌&&◌}
+use Rattle.std.specs.Prelude.{Bool, false, ◌&&◌}
 use Rattle.std.specs.Option.{option_map_or}
 use Rattle.cs_syntax.specs.Expression.{Expression, everything, chain}
 use Rattle.cs_plan.specs.Simple.{is_quiet, quiet_keys, filter_of, steps_behind}

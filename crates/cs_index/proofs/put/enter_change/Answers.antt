@@ -1,4 +1,4 @@
-use Rattle.std.proofs.Common.{◌∙◌, ◌&&◌, sym, ap, subst, not, option_map, is_some, Option, Some, None, Bool, ℕ, OnOk}
+use Rattle.std.proofs.Common.{◌∙◌, ◌&&◌, sym, ap, subst, not, option_map, is_some, Option, None, Bool, ℕ, OnOk}
 use Rattle.cs_value.specs.Tree.{Tree}
 use Rattle.cs_view.specs.View.{doc}
 use Rattle.cs_codes.specs.Codes.{codes, is_among}

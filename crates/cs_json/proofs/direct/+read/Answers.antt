@@ -8,7 +8,7 @@ use Rattle.json.proofs.Grammar.{value_is, value-begin_array, value-begin_object,
 use Rattle.serde_json.specs.Read.{converted}
 use Rattle.cs_value.specs.Tree.{null, boolean, integer, text, list, object, trees, no_pairs}
 use Rattle.cs_value.specs.View.{tree, list_tree}
-use Rattle.cs_value.specs.declared.val.Val.{Null, Bool, Num, Text, List', Obj', the_lemmas}
+use Rattle.cs_value.specs.declared.val.Val.{Null, Bool, Num, Text, the_lemmas}
 use Rattle.cs_value.specs.declared.val.Val as val
 use Rattle.cs_value.proofs.Views.{tree-List, tree-Obj}
 use Rattle.cs_json.specs.Direct.{made, made_items, named, named_trees, put_all, Fits, AllFit, NamedFit}

@@ -1,8 +1,6 @@
-use Rattle.std.proofs.Common.{◌≡◌, List, ◌∷◌, refl, ap, ◌∙◌}
-use Rattle.cs_value.specs.Tree.{Tree}
+use Rattle.std.proofs.Common.{List, ◌∷◌, refl, ap, ◌∙◌}
 use Rattle.cs_parts.specs.Parts.{got}
 use Rattle.cs_levels.specs.Levels.{unwound, levels_waiting}
-use Rattle.cs_levels.specs.declared.levels.Remaining.{Remaining}
 use Rattle.cs_levels.specs.declared.levels.Level.{Level}
 use Rattle.cs_levels.proofs.Climbing.{advanced_value, advanced_order, wait}
 use Rattle.cs_levels.proofs.levels.advance.Goals as goal

@@ -1,4 +1,4 @@
-use Rattle.std.proofs.Common.{◌≡◌, List, ◌++◌, sym, ap, ◌∙◌}
+use Rattle.std.proofs.Common.{◌++◌, sym, ap, ◌∙◌}
 use Rattle.cs_parts.specs.Parts.{got}
 use Rattle.cs_levels.specs.Levels.{unwound, task_value, task_waiting, levels_waiting}
 use Rattle.cs_levels.specs.declared.levels.Task.{Task}

@@ -1,4 +1,4 @@
-use Rattle.std.proofs.Common.{◌≡◌, List, map, option_map, sym, ap, ◌∙◌}
+use Rattle.std.proofs.Common.{List, map, option_map, sym, ap, ◌∙◌}
 use Rattle.cs_parts.specs.Parts.{got, item}
 use Rattle.cs_levels.specs.Levels.{unwound}
 use Rattle.cs_parts.specs.declared.item.Item.{Item}

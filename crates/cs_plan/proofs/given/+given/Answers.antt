@@ -1,5 +1,5 @@
-use Rattle.std.proofs.Common.{rules, ◌≡◌, ◌++◌, ◌∙◌, ap, sym, Result, Ok, Err, OnOk, Bool, true, false, List}
-use Rattle.cs_plan.specs.Filters.{all_and, conjuncts, operand_conjuncts, keys_given}
+use Rattle.std.proofs.Common.{rules, ◌++◌, ◌∙◌, ap, Result, Ok, Err, OnOk, List}
+use Rattle.cs_plan.specs.Filters.{conjuncts, operand_conjuncts, keys_given}
 use Rattle.cs_syntax.specs.Expression.{operands_of}
 use Rattle.cs_syntax.specs.View.{expression, operands}
 use Rattle.cs_syntax.proofs.Views.{expression_run}

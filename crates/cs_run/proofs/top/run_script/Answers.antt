@@ -1,4 +1,4 @@
-use Rattle.std.proofs.Common.{◌≡◌, ◌≤◌, ◌+◌, ℕ, suc, List, take, refl, subst, sym, arith, rules, Ok, Err, Some, None}
+use Rattle.std.proofs.Common.{◌≡◌, ◌≤◌, ◌+◌, ℕ, suc, take, refl, subst, sym, arith, rules, Ok, Err, Some, None}
 use Rattle.cs_io.specs.Laws.{given_lines}
 use Rattle.cs_io.specs.Lines.{feed_of}
 use Rattle.cs_docs.specs.Store.{docs}
