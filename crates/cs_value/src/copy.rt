@@ -3,7 +3,6 @@ ghost use Rattle.std.specs.Prelude.{◌≡◌, IfOk};
 ghost use Rattle.cs_value.specs.View.{tree, fields, list_tree};
 
 use crate::memory::NoMemory;
-use crate::txt::Txt;
 use crate::val::{Fields, Val};
 use std::alloc::Global;
 
@@ -15,7 +14,7 @@ pub(crate) fn copy(alloc: Global, value: &Val) -> Result<Val, NoMemory>
         Val::Null => Ok(Val::Null),
         Val::Bool(b) => Ok(Val::Bool(*b)),
         Val::Num(n) => Ok(Val::Num(*n)),
-        Val::Text(text) => Ok(Val::Text(Txt::copy_of(alloc, text.as_str())?)),
+        Val::Text(text) => Ok(Val::Text(text.copy(alloc)?)),
         Val::List(items) => Ok(Val::List(copy_items(alloc, items)?)),
         Val::Obj(object) => Ok(Val::Obj(copy_fields(alloc, object)?)),
     }
@@ -39,8 +38,8 @@ fn copy_fields(alloc: Global, object: &Fields) -> Result<Fields, NoMemory>
     ensures { IfOk result (λ f. fields f ≡ fields object.now) }
 {
     let mut copies = Fields::with_capacity(alloc, object.pairs.len())?;
-    for (key, member) in object.pairs.iter() {
-        let name = Txt::copy_of(alloc, key)?;
+    let mut pairs = object.pairs.iter();
+    while let Some((name, member)) = pairs.next_copied(alloc)? {
         drop(copies.put(name, copy(alloc, member)?)?);
     }
     Ok(copies)

@@ -64,6 +64,20 @@ impl<V> OrderedMap<V> {
         })
     }
 
+    /// The same pairs with room for so many more, and for no others if they stand in a vector.
+    /// `NoMemory` where the allocator has no room for them.
+    pub(crate) fn fitted(self, more: usize) -> Result<OrderedMap<V>, NoMemory>
+    where
+        V: Drop,
+        ensures { IfOk result (λ m. m ≡ self) }
+    {
+        let OrderedMap { stored, alloc } = self;
+        Ok(OrderedMap {
+            stored: stored.fitted(alloc, more)?,
+            alloc,
+        })
+    }
+
     /// How many pairs there are.
     pub fn len(&self) -> usize
         ensures len { result ≡ length self.now }

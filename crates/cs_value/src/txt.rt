@@ -75,6 +75,18 @@ impl Txt {
         }
     }
 
+    /// The same text again, which takes no memory if it is of at most 30 bytes. `NoMemory` where the
+    /// allocator has no room for a longer one.
+    pub fn copy(&self, alloc: Global) -> Result<Txt, NoMemory>
+        ensures { IfOk result (λ t. t ≡ self.now) }
+    {
+        let held = match &self.held {
+            Held::Inside(text) => Held::Inside(text.copy()),
+            Held::Outside(text) => Held::Outside(String::from_str(alloc, text.as_str())?),
+        };
+        Ok(Txt { held })
+    }
+
     /// The text, borrowed.
     pub fn as_str(&self) -> &str
         ensures { result.now ≡ self.now }

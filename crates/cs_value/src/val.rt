@@ -104,6 +104,16 @@ impl Fields {
         })
     }
 
+    /// The same object with room for so many attributes more, and for no others while they are few.
+    /// `NoMemory` where the allocator has no room for them.
+    pub fn fitted(self, more: usize) -> Result<Fields, NoMemory>
+        ensures { IfOk result (λ f. fields f ≡ fields self) }
+    {
+        Ok(Fields {
+            pairs: self.pairs.fitted(more)?,
+        })
+    }
+
     /// The value of the name. `None` exactly where the object lacks the name.
     pub fn get(&self, name: &str) -> Option<&Val>
         ensures { option_map (λ v. tree v.now) result ≡ find name.now (fields self.now) }

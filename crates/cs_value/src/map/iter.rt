@@ -1,10 +1,12 @@
 // The iterators of an ordered map. Contracts see each as the list of the pairs that are left.
-ghost use Rattle.std.specs.Prelude.{◌≡◌, ◌<◌, ◌^◌, length};
+ghost use Rattle.std.specs.Prelude.{◌≡◌, ◌<◌, ◌^◌, [], ◌∷◌, length, IfOk, MatchOption};
 ghost use Rattle.std.specs.Iterator.{at_most};
 ghost use Rattle.std_collections.specs.Map.Iter.{TakesFirst, deref_pair};
 ghost use Rattle.cs_value.specs.Entries.{named};
 
+use crate::memory::NoMemory;
 use crate::txt::Txt;
+use std::alloc::Global;
 use std::collections::{BTreeMap, btree_map};
 use std::marker::Model;
 use std::{slice, vec};
@@ -51,6 +53,24 @@ impl<'a, V> Iter<'a, V> {
     {
         Iter {
             form: Lent::LentTree(tree.iter()),
+        }
+    }
+
+    /// The next pair, with a copy of its name. `NoMemory` where the allocator has no room for it.
+    pub(crate) fn next_copied(&mut self, alloc: Global) -> Result<Option<(Txt, &'a V)>, NoMemory>
+        ensures { IfOk result (λ next. MatchOption next
+            ((self.old ≡ []) × (self.new ≡ []))
+            (λ pair. self.old ≡ (pair.0, pair.1.now) ∷ self.new)) }
+    {
+        match &mut self.form {
+            Lent::LentRow(pairs) => match pairs.next() {
+                Some((name, value)) => Ok(Some((name.copy(alloc)?, value))),
+                None => Ok(None),
+            },
+            Lent::LentTree(pairs) => match pairs.next() {
+                Some((name, value)) => Ok(Some((Txt::copy_of(alloc, name.as_str())?, value))),
+                None => Ok(None),
+            },
         }
     }
 }

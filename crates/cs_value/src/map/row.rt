@@ -1,5 +1,6 @@
 // The pairs of a small map in a vector, in ascending order of their names.
-ghost use Rattle.std.specs.Prelude.{◌≡◌, length, IfOk, OnOk, OnErr};
+ghost use Rattle.std.specs.Prelude.{◌≡◌, ◌≤◌, length, IfOk, OnOk, OnErr};
+ghost use Rattle.std.specs.List.{insert};
 ghost use Rattle.std.specs.List.Sorted.{IsSearchInRange};
 ghost use Rattle.std.specs.Map.{lookup, remove_entry};
 ghost use Rattle.std.specs.BTreeMap.{insert_entry, is_at};
@@ -9,6 +10,7 @@ ghost use Rattle.cs_value.specs.Entries.{Ascend, compares};
 
 use crate::memory::NoMemory;
 use crate::txt::Txt;
+use std::alloc::Global;
 use std::cmp::Ordering;
 use std::mem;
 
@@ -73,12 +75,40 @@ fn gap<V>(row: &[(Txt, V)], name: &str) -> Result<usize, usize>
     place(row, name)
 }
 
+/// The same pairs in a vector that has room for so many more and no others.
+pub(super) fn fitted<V: Drop>(
+    alloc: Global,
+    row: Vec<(Txt, V)>,
+    more: usize,
+) -> Result<Vec<(Txt, V)>, NoMemory>
+    ensures { IfOk result (λ fitting. fitting.items ≡ row.items) }
+{
+    let mut row = row;
+    let mut fitting = Vec::with_capacity(alloc, row.len().saturating_add(more))?;
+    fitting.append(&mut row)?;
+    Ok(fitting)
+}
+
 // Room for one pair more.
 fn make_room<V>(row: &mut Vec<(Txt, V)>) -> Result<(), NoMemory>
     ensures { row.new.items ≡ row.old.items }
 {
     if row.len() == row.capacity() {
         row.reserve_exact(STEP)?;
+    }
+    Ok(())
+}
+
+// Puts the pair at the place. At the end that moves no other pair.
+fn put_in<V: Drop>(row: &mut Vec<(Txt, V)>, at: usize, pair: (Txt, V)) -> Result<(), NoMemory>
+    requires { at ≤ length row.old.items }
+    ensures items { OnOk result (row.new.items ≡ insert row.old.items at pair) }
+    ensures kept { OnErr result (row.new.items ≡ row.old.items) }
+{
+    if at == row.len() {
+        row.push(pair)?;
+    } else {
+        row.insert(at, pair)?;
     }
     Ok(())
 }
@@ -100,7 +130,7 @@ pub(super) fn put<V: Drop>(
         Ok(at) => Ok(Some(mem::replace(&mut row[at].1, value))),
         Err(at) => {
             make_room(row)?;
-            row.insert(at, (name, value))?;
+            put_in(row, at, (name, value))?;
             Ok(None)
         }
     }

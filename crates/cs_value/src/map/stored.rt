@@ -37,6 +37,18 @@ impl<V> Stored<V> {
         Ok(Stored::Few(Vec::with_capacity(alloc, pairs)?))
     }
 
+    // The same pairs, with room for so many more.
+    pub(super) fn fitted(self, alloc: Global, more: usize) -> Result<Stored<V>, NoMemory>
+    where
+        V: Drop,
+        ensures { IfOk result (λ s. entries s ≡ entries self) }
+    {
+        match self {
+            Stored::Few(row) => Ok(Stored::Few(row::fitted(alloc, row, more)?)),
+            Stored::Many(tree) => Ok(Stored::Many(tree)),
+        }
+    }
+
     pub(super) fn len(&self) -> usize
         ensures len { result ≡ length (entries self.now) }
         ensures small { result < 2 ^ 63 }

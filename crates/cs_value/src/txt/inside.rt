@@ -39,6 +39,16 @@ impl Short {
         }
     }
 
+    /// The same text. All places are copied, and not those in use alone, since that takes no call.
+    pub(super) fn copy(&self) -> Short
+        ensures { result ≡ self.now }
+    {
+        Short {
+            len: self.len,
+            bytes: self.bytes,
+        }
+    }
+
     /// The text, borrowed.
     pub(super) fn as_str(&self) -> &str
         ensures { result.now ≡ self.now }
