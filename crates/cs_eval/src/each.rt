@@ -61,9 +61,9 @@ fn maps_each(alloc: Global, steps: &[Step]) -> Result<bool, NoMemory>
     Ok(!has_pipe(steps))
 }
 
-/// Whether a query is mapped: its filter looks nothing up, and the steps behind it make one value of
-/// each hit. What they look up for it may be anything. `NoMemory` where the allocator has no room
-/// for the kinds of many steps.
+/// Whether a query is mapped: its filter looks nothing up, and the steps behind it make one value
+/// of each hit. What they look up for it may be anything. `NoMemory` where the allocator has no
+/// room for the kinds of many steps.
 pub fn mapped(alloc: Global, query: &Query) -> Result<bool, NoMemory>
     ensures { IfOk result (λ b. b ≡ is_mapped (expression_of query.now)) }
 {
@@ -86,9 +86,9 @@ fn sole(list: Val) -> Option<Val>
     }
 }
 
-/// The share of a document in the answer of a mapped query: what the steps behind the filter make of
-/// it over the documents of a view. The record takes the key of each look-up. `NoMemory` where the
-/// allocator has no room for it.
+/// The share of a document in the answer of a mapped query: what the steps behind the filter make
+/// of it over the documents of a view. The record takes the key of each look-up. `NoMemory` where
+/// the allocator has no room for it.
 pub fn share<V: View<L>, L: Ledger>(
     alloc: Global,
     query: &Query,

@@ -152,8 +152,8 @@ pub fn keys_of(alloc: Global, query: &Query, params: &Fields) -> Result<Vec<Key>
     filter_keys(alloc, condition, &root, params)
 }
 
-/// The key by which a query of one filter looks its documents up. It visits nothing. `NoMemory` where
-/// the allocator has no room for it.
+/// The key by which a query of one filter looks its documents up. It visits nothing. `NoMemory`
+/// where the allocator has no room for it.
 pub fn key_of(alloc: Global, query: &Query, params: &Fields) -> Result<Key, NoMemory>
     requires { is_filtered (expression_of query.now) ≡ true }
     ensures { IfOk result

@@ -45,8 +45,8 @@ fn order_of(steps: &[Step]) -> Option<(&[OrderKey], &[Step])>
 }
 
 /// How many documents the window of a query has: the first in the order that stands behind its
-/// filter, which alone the answer is made of. `None` where no order stands there, or the step behind
-/// it does not say that it looks at a few alone, 257 at most.
+/// filter, which alone the answer is made of. `None` where no order stands there, or the step
+/// behind it does not say that it looks at a few alone, 257 at most.
 pub fn window(query: &Query) -> Option<usize>
     ensures many { IfSome result (λ many. option_map (λ w. w.many)
         (window (expression_of query.now)) ≡ Some many) }
@@ -185,8 +185,8 @@ fn first_ranked<'k>(
     )
 }
 
-/// Whether a document does not stand behind a bound in the order that stands first behind the filter
-/// of a query; where no order stands there, each document is near. The bound is what
+/// Whether a document does not stand behind a bound in the order that stands first behind the
+/// filter of a query; where no order stands there, each document is near. The bound is what
 /// `keys_at` tells of a document. It visits nothing.
 pub fn is_near(
     alloc: Global,
@@ -218,8 +218,8 @@ pub fn is_near(
     Ok(!is_above(&directions, &near, &last))
 }
 
-/// What the document at a place of the order is ordered by, the place counted from 0, where an order
-/// stands first behind the filter of a query. `None` exactly where no order stands there. It
+/// What the document at a place of the order is ordered by, the place counted from 0, where an
+/// order stands first behind the filter of a query. `None` exactly where no order stands there. It
 /// visits nothing.
 pub fn keys_at(
     alloc: Global,

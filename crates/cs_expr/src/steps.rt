@@ -410,7 +410,7 @@ fn order_keys<'k, S: Source<C>, C>(
     let mut behind = order;
     while let Some((first, later)) = behind.split_first() {
         let key = settled(alloc, &first.key, frame, params, source, keys, count)?;
-        push(&mut out, key.near(alloc)?)?;
+        push(&mut out, key.made_if_small(alloc)?)?;
         behind = later;
     }
     Ok(out)

@@ -80,8 +80,8 @@ pub(crate) fn list_all(
     seed: &RandomState,
     docs: &Docs,
 ) -> Result<Vec<Entry>, NoMemory>
-    ensures { IfOk result (λ es. (q : Entry)
-        → is_in q es.items ≡ or_some (puts seed.now docs.now q) (entering (dataset docs.now)) false) }
+    ensures { IfOk result (λ es. (q : Entry) → is_in q es.items
+        ≡ or_some (puts seed.now docs.now q) (entering (dataset docs.now)) false) }
 {
     let mut entries = Vec::new(alloc);
     let mut room = Vec::new(alloc);

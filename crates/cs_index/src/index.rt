@@ -48,10 +48,10 @@ impl Index {
     }
 
     /// What changes of a store do to the entries of the documents that stand before them: those of
-    /// codes that a document has before and not after are lost, and those of codes that it has after
-    /// and not before are gained. It is asked for before the changes are installed: the entries name
-    /// places, and what stands in both stores keeps its place. `NoMemory` where the allocator has no
-    /// room for them.
+    /// codes that a document has before and not after are lost, and those of codes that it has
+    /// after and not before are gained. It is asked for before the changes are installed: the
+    /// entries name places, and what stands in both stores keeps its place. `NoMemory` where the
+    /// allocator has no room for them.
     pub fn delta(&self, docs: &Docs, changes: &[Change]) -> Result<Delta, NoMemory>
         ensures { IfOk result (IsDelta self.now docs.now (edits changes.now)) }
     {

@@ -69,6 +69,10 @@ pub no_member_before : (r : Option (List Named × List Token)) → r ≡ parse_m
 no_member_before None = refl
 no_member_before (Some p) = refl
 
+pub put_all-push : (es : List Named) (e : Named) (ps : Pairs) → put_all (es ++ e ∷ []) ps ≡ put e.0 e.1 (put_all es ps)
+put_all-push [] e ps = refl
+put_all-push (f ∷ es) e ps = put_all-push es e (put f.0 f.1 ps)
+
 module _ (p : Parse json.Json) where
   -- one more item was read
   pub item_read : (all : Option (Trees × List Token)) (done : List Tree) (n : ℕ) (ts r : List Token) (t : Tree) → 0 < n → after_end_array ts ≡ None

@@ -1,21 +1,15 @@
 -- The tree that the tokens of a text are, with each part made into a tree as it is read, and what
 -- each part of it has. For private clauses.
-use Rattle.std.specs.Prelude.{ℕ, ◌≤◌, List, [], ◌∷◌, map, Option, Some, option_map, option_and_then, IsUtf8, ⊤}
+use Rattle.std.specs.Prelude.{ℕ, ◌≡◌, ◌≤◌, List, [], ◌∷◌, Option, Some, option_map, option_and_then, IsUtf8, ⊤}
 use Rattle.json.specs.Json as json
 use Rattle.serde_json.specs.Find.{as_i64}
 use Rattle.serde_json.specs.Read.{number_of}
 use Rattle.cs_value.specs.Tree.{Tree, null, boolean, integer, text, list, object, Trees, no_trees, more_trees, Pairs, no_pairs, depth}
 use Rattle.cs_value.specs.Pairs.{put}
 use Rattle.cs_value.specs.Value.{IsValue}
-use Rattle.cs_value.specs.View.{tree}
-use Rattle.cs_value.specs.declared.val.Val.{Val}
 
 abbrev pub Named : Type 0
 Named = List ℕ × Tree
-
--- the trees of named values
-abbrev pub named_trees : List (List ℕ × Val) → List Named
-named_trees ms = map (λ m. (m.0, tree m.1)) ms
 
 -- the pairs, with the named trees put among them one after another, so that the last of a name
 -- stays
@@ -57,3 +51,7 @@ AllFit levels (t ∷ ts) = Fits levels t × AllFit levels ts
 abbrev pub NamedFit : ℕ → List Named → Type 0
 NamedFit levels [] = ⊤
 NamedFit levels (e ∷ es) = IsUtf8 e.0 × Fits levels e.1 × NamedFit levels es
+
+-- an object of the named trees, of which the last of a name stays
+abbrev pub IsPutTogether : ℕ → List Named → Pairs → Type 0
+IsPutTogether levels es ps = (ps ≡ put_all es no_pairs) × NamedFit levels es

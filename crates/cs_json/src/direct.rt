@@ -1,13 +1,13 @@
 // Values read token by token, with nothing made in between.
-ghost use Rattle.std.specs.Prelude.{◌≡◌, ◌<◌, length, slice_index, true, ◌==◌, IsTrue, Some, IfSome, OnSome, IsUtf8, FitsSigned, option_and_then};
+ghost use Rattle.std.specs.Prelude.{◌≡◌, ◌<◌, List, length, slice_index, true, ◌==◌, IsTrue, Some, IfSome, OnSome, IsUtf8, FitsSigned, option_and_then};
 ghost use Rattle.std.specs.Int.{w64};
 ghost use Rattle.json.specs.Json.{value, items, members};
 ghost use Rattle.serde_json.specs.Data.{Data};
 ghost use Rattle.serde_json.specs.Find.{as_i64};
 ghost use Rattle.serde_json.specs.Read.{converted, number_of, read};
-ghost use Rattle.cs_value.specs.Tree.{trees, no_pairs};
+ghost use Rattle.cs_value.specs.Tree.{trees};
 ghost use Rattle.cs_value.specs.View.{tree, fields, list_tree};
-ghost use Rattle.cs_json.specs.Direct.{made, made_items, named, named_trees, put_all, Fits, AllFit, NamedFit};
+ghost use Rattle.cs_json.specs.Direct.{Named, made, made_items, named, Fits, AllFit, IsPutTogether};
 ghost use Rattle.cs_json.specs.Reading.{whole};
 
 use cs_value::{Fields, Txt, Val};
@@ -18,9 +18,10 @@ use std::alloc::Global;
 // The levels to which serde_json reads.
 const MOST_LEVELS: usize = 127;
 
-// The members of an object and the items of a list are gathered in a vector that has room for so
-// many at first, so that the allocator gives the same memory again and again.
-const ROOM: usize = 16;
+// An object and a list are gathered where there is room for so many members or items at first, so
+// that the allocator gives the same memory again and again: it is less than a kilobyte, up to which
+// allocators keep blocks at hand.
+const ROOM: usize = 14;
 
 /// The value that the bytes are as JSON, if its lists and objects nest at most `deepest` levels and
 /// each of its numbers is whole; an object that it is has room for `room` attributes more. `None`
@@ -97,8 +98,8 @@ fn read_value(
             if levels == 0 || left == 0 {
                 return None;
             }
-            let members = read_members(alloc, reader, levels - 1, left - 1)?;
-            Some(Val::Obj(object_of(alloc, members, room)?))
+            let object = read_members(alloc, reader, levels - 1, left - 1)?;
+            Some(Val::Obj(object.fitted(room).ok()?))
         }
         Token::EndObject | Token::EndArray | Token::Key(_) | Token::Bad => None,
     }
@@ -134,35 +135,23 @@ fn just_its_size(alloc: Global, mut found: Vec<Val>) -> Option<Vec<Val>>
     Some(items)
 }
 
+// The object of the members, where the last one of a name stays.
 #[cycle(read)]
 fn read_members(
     alloc: Global,
     reader: &mut Reader<'_>,
     levels: usize,
     left: usize,
-) -> Option<Vec<(Txt, Val)>>
-    ensures members { IfSome result
-        (λ v. converted named (members (value levels) (length reader.old) reader.old)
-        ≡ Some (named_trees v.items, reader.new)) }
+) -> Option<Fields>
+    ensures members { IfSome result (λ f. (es : List Named)
+        × (converted named (members (value levels) (length reader.old) reader.old)
+        ≡ Some (es, reader.new)) × IsPutTogether left es (fields f)) }
     ensures shorter { OnSome result (length reader.new < length reader.old) }
-    ensures fit { IfSome result (λ v. NamedFit left (named_trees v.items)) }
 {
-    let mut found = Vec::with_capacity(alloc, ROOM).ok()?;
+    let mut object = Fields::with_capacity(alloc, ROOM).ok()?;
     'members: while let Some(name) = reader.next_key().ok()? {
         let name = Txt::copy_of(alloc, name).ok()?;
         let member = read_value(alloc, reader, levels, left, 0)?;
-        found.push((name, member)).ok()?;
-    }
-    Some(found)
-}
-
-// The object of the members, where the last one of a name stays, with room for `room` more.
-fn object_of(alloc: Global, members: Vec<(Txt, Val)>, room: usize) -> Option<Fields>
-    ensures { IfSome result
-        (λ f. fields f ≡ put_all (named_trees members.items) no_pairs) }
-{
-    let mut object = Fields::with_capacity(alloc, members.len().saturating_add(room)).ok()?;
-    for (name, member) in members {
         drop(object.put(name, member).ok()?);
     }
     Some(object)

@@ -14,7 +14,7 @@ use cs_value::{NoMemory, Val};
 use std::alloc::Global;
 use std::cmp::Ordering;
 
-/// An element beside its keys, which are found once. A key that is lent is not copied.
+/// An element beside its keys, which are found once. A key that is lent is compared where it lies.
 #[derive(Drop)]
 pub struct Ranked<'k, 's> {
     pub by: Vec<Item<'k>>,

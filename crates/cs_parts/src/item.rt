@@ -4,11 +4,8 @@ ghost use Rattle.cs_value.specs.View.{tree};
 ghost use Rattle.cs_parts.specs.Parts.{got, item};
 
 use crate::answer::Got;
-use cs_value::{NoMemory, Val};
+use cs_value::{MOST_INSIDE, NoMemory, Val};
 use std::alloc::Global;
-
-// A text of at most so many bytes lies in its value.
-const SHORT: usize = 30;
 
 /// An element of a list, or one value: borrowed, or made.
 #[derive(Drop)]
@@ -40,7 +37,7 @@ impl<'s> Item<'s> {
 
     /// The same value, which the item itself holds where it is small: who compares many items then
     /// follows no reference. The copy of a small value takes no memory.
-    pub fn near(self, alloc: Global) -> Result<Item<'s>, NoMemory>
+    pub fn made_if_small(self, alloc: Global) -> Result<Item<'s>, NoMemory>
         ensures { IfOk result (λ i. item i ≡ item self.entry) }
     {
         match self {
@@ -70,7 +67,7 @@ impl<'s> Item<'s> {
 fn is_small(val: &Val) -> bool {
     match val {
         Val::Null | Val::Bool(_) | Val::Num(_) => true,
-        Val::Text(text) => text.as_str().len() <= SHORT,
+        Val::Text(text) => text.as_str().len() <= MOST_INSIDE,
         Val::List(_) | Val::Obj(_) => false,
     }
 }

@@ -18,5 +18,5 @@ pub use id::is_id;
 pub use map::OrderedMap;
 pub use memory::{NoMemory, NoName};
 pub use steps::Steps;
-pub use txt::Txt;
+pub use txt::{MOST_INSIDE, Txt};
 pub use val::{Fields, Val};

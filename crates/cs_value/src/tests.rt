@@ -1,5 +1,5 @@
-// What no clause says: how large a value is, that a text comes back, and the calls of an object at work on both of its
-// forms.
+// What no clause says: how large a value is, that a text comes back, and the calls of an object at
+// work on both of its forms.
 ghost use Rattle.std.specs.Prelude.{◌≤◌};
 
 use crate::{Fields, Txt, Val};

@@ -9,11 +9,14 @@ ghost use Rattle.std.specs.Cmp.Rules.{comparing};
 mod inside;
 
 use crate::memory::NoMemory;
-use inside::{MOST_INSIDE, Short};
+use inside::Short;
 use std::alloc::Global;
 use std::cmp::Ordering;
 use std::convert::AsStr;
 use std::marker::Model;
+
+/// The most bytes of a text that lies in its value and takes no memory of its own.
+pub const MOST_INSIDE: usize = 30;
 
 /// UTF-8 text. One of at most 30 bytes lies in the value itself and takes no memory of its own.
 /// Contracts see it as the list of its bytes.
@@ -75,8 +78,8 @@ impl Txt {
         }
     }
 
-    /// The same text again, which takes no memory if it is of at most 30 bytes. `NoMemory` where the
-    /// allocator has no room for a longer one.
+    /// The same text again, which takes no memory if it is of at most 30 bytes. `NoMemory` where
+    /// the allocator has no room for a longer one.
     pub fn copy(&self, alloc: Global) -> Result<Txt, NoMemory>
         ensures { IfOk result (λ t. t ≡ self.now) }
     {

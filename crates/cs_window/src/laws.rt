@@ -25,14 +25,14 @@ pub fn window_settles_tail()
     ensures { WindowSettlesTail }
 {}
 
-/// What the document at a place of the order is ordered by bounds a window that does not reach beyond
-/// the place.
+/// What the document at a place of the order is ordered by bounds a window that does not reach
+/// beyond the place.
 pub fn place_bounds_window()
     ensures { PlaceBoundsWindow }
 {}
 
-/// What one of the documents that do not stand behind a bound is ordered by is a nearer bound: those
-/// that do not stand behind it are all among them.
+/// What one of the documents that do not stand behind a bound is ordered by is a nearer bound:
+/// those that do not stand behind it are all among them.
 pub fn nearer_is_within()
     ensures { NearerIsWithin }
 {}
@@ -58,8 +58,8 @@ pub fn looked_settles_tail()
     ensures { LookedSettlesTail }
 {}
 
-/// Two lists of documents give the same over each dataset, and the same is looked up, where those of
-/// them that do not stand behind a bound are the same, and no fewer than a windowed query has.
+/// Two lists of documents give the same over each dataset, and the same is looked up, where those
+/// of them that do not stand behind a bound are the same, and no fewer than a windowed query has.
 pub fn window_settles_tail_over()
     ensures { WindowSettlesTailOver }
 {}

@@ -1,5 +1,5 @@
-//! What settles the answer of a live query: which documents, where it is made of the first few of an
-//! order, and which look-ups for each document, where it is made hit by hit.
+//! What settles the answer of a live query: which documents, where it is made of the first few of
+//! an order, and which look-ups for each document, where it is made hit by hit.
 #![tactic(auto)]
 
 mod laws;

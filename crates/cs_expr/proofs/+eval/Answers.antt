@@ -273,8 +273,8 @@ steps::order_keys-loop-first-preserved g t c =
     let ks = keys_of (map key c.in-Some.later.now) in
     let heavy : keys_weight (keys_of (map key l.behind.now)) ≡ 9 + (weight (expression k.key) + keys_weight ks) = ap (λ (xs : List CodeKey). keys_weight (keys_of (map key xs))) is ∙ keys_weight_more k ks in
     record {
-      value = pushed_values l.out.items _ c.in_ok-near.field-0 (keys_values docs ps ks sc) c.in_ok-push.ensures
-          ∙ (ap (λ (x : Tree). map item l.out.items ++ x ∷ keys_values docs ps ks sc) (c.in_ok-near.ensures ∙ c.in_ok-key.ensures.value) ∙ (ap (λ (xs : List Tree). map item l.out.items ++ xs) (sym (keys_values_more docs ps k ks sc))
+      value = pushed_values l.out.items _ c.in_ok-made_if_small.field-0 (keys_values docs ps ks sc) c.in_ok-push.ensures
+          ∙ (ap (λ (x : Tree). map item l.out.items ++ x ∷ keys_values docs ps ks sc) (c.in_ok-made_if_small.ensures ∙ c.in_ok-key.ensures.value) ∙ (ap (λ (xs : List Tree). map item l.out.items ++ xs) (sym (keys_values_more docs ps k ks sc))
           ∙ (ap (λ (xs : List CodeKey). map item l.out.items ++ keys_values docs ps (keys_of (map key xs)) sc) (sym is) ∙ l.invariant.value)));
       keys = one_after_another l.keys c.settled.new.keys (keys_looked docs ps (more_keys (key k) ks) sc) (looked docs ps (expression k.key) sc) (keys_looked docs ps ks sc) c.in_ok-key.ensures.keys
           (keys_looked_more docs ps k ks sc)

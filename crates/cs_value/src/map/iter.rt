@@ -67,11 +67,23 @@ impl<'a, V> Iter<'a, V> {
                 Some((name, value)) => Ok(Some((name.copy(alloc)?, value))),
                 None => Ok(None),
             },
-            Lent::LentTree(pairs) => match pairs.next() {
-                Some((name, value)) => Ok(Some((Txt::copy_of(alloc, name.as_str())?, value))),
+            Lent::LentTree(pairs) => match next_of_tree(pairs) {
+                Some((name, value)) => Ok(Some((Txt::copy_of(alloc, name)?, value))),
                 None => Ok(None),
             },
         }
+    }
+}
+
+// The next pair of a tree. It stands apart so that the step in a vector, which almost all are, is
+// short.
+fn next_of_tree<'a, V>(pairs: &mut btree_map::Iter<'a, String, V>) -> Option<(&'a str, &'a V)>
+    ensures { MatchOption result ((named pairs.old ≡ []) × (named pairs.new ≡ []))
+        (λ pair. named pairs.old ≡ (pair.0.now, pair.1.now) ∷ named pairs.new) }
+{
+    match pairs.next() {
+        Some((name, value)) => Some((name.as_str(), value)),
+        None => None,
     }
 }
 
@@ -88,10 +100,7 @@ impl<'a, V> Iterator for Iter<'a, V> {
                 Some((name, value)) => Some((name.as_str(), value)),
                 None => None,
             },
-            Lent::LentTree(pairs) => match pairs.next() {
-                Some((name, value)) => Some((name.as_str(), value)),
-                None => None,
-            },
+            Lent::LentTree(pairs) => next_of_tree(pairs),
         }
     }
 }

@@ -1,11 +1,9 @@
 // Texts that are short enough to lie in the value itself.
 ghost use Rattle.std.specs.Prelude.{◌≡◌, ◌≤◌, length};
 
+use super::MOST_INSIDE;
 use std::marker::Model;
 use std::str;
-
-/// The most bytes of a text that lies in the value.
-pub(super) const MOST_INSIDE: usize = 30;
 
 /// UTF-8 text of at most [`MOST_INSIDE`] bytes. Contracts see it as the list of its bytes.
 #[derive(Drop)]

@@ -1,8 +1,8 @@
-use Rattle.std.proofs.Common.{◌≡◌, ℕ, ◌+◌, ◌*◌, ◌≤◌, ◌++◌, length}
+use Rattle.std.proofs.Common.{◌≡◌, ℕ, ◌+◌, ◌*◌, ◌≤◌, ◌++◌, List, length}
 use Rattle.json.specs.Json.{items, members, value, parse_map}
 use Rattle.serde_json.specs.Read.{converted}
-use Rattle.cs_value.specs.View.{list_tree}
-use Rattle.cs_json.specs.Direct.{made_items, named, named_trees, AllFit, NamedFit}
+use Rattle.cs_value.specs.View.{fields, list_tree}
+use Rattle.cs_json.specs.Direct.{Named, made_items, named, AllFit, IsPutTogether}
 use Rattle.cs_json.proofs.Tokens.{before}
 use Rattle.cs_json.proofs.direct.+read.Given as goal
 
@@ -26,10 +26,10 @@ decreases-read_items-items l = length l.reader
 
 abbrev pub invariant-read_members-members : goal.invariant-read_members-members
 invariant-read_members-members l =
-    (n : ℕ) × (length l.reader ≤ n)
+    (es : List Named) × (n : ℕ) × (length l.reader ≤ n)
     × (converted named (members (value l.levels) (length l.initial.reader) l.initial.reader)
-    ≡ parse_map (λ fs. named_trees l.found.items ++ fs) (converted named (members (value l.levels) n l.reader)))
-    × (length l.reader ≤ length l.initial.reader) × NamedFit l.left (named_trees l.found.items)
+    ≡ parse_map (λ fs. es ++ fs) (converted named (members (value l.levels) n l.reader)))
+    × (length l.reader ≤ length l.initial.reader) × IsPutTogether l.left es (fields l.object)
 
 abbrev pub decreases-read_members-members : goal.decreases-read_members-members
 decreases-read_members-members l = length l.reader
