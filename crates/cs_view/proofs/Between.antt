@@ -3,11 +3,9 @@ use Rattle.std.proofs.Common.{◌≡◌, ◌≢◌, ℕ, List, [], ◌∷◌, ma
 use Rattle.std.specs.Ordering.{is_lt}
 use Rattle.std.specs.FinMap.Entries.{find, below_all, is_sorted}
 use Rattle.cs_value.specs.Tree.{Tree}
-use Rattle.cs_value.specs.Same.{same_tree}
 use Rattle.cs_view.specs.Document.{id_of}
 use Rattle.cs_view.specs.Dataset.{id_cmp, same_id, keyed, At, ascending, kept_if}
-use Rattle.cs_view.specs.Changes.{Edit, ids_ascend, IsChangeAt, AreChangesBetween, is_same_side, differ_at, united, changes_between}
-use Rattle.cs_view.proofs.Booleans.{both, and-left, and-right}
+use Rattle.cs_view.specs.Changes.{IsChangeAt, AreChangesBetween, is_same_side, differ_at, united, changes_between}
 use Rattle.cs_view.proofs.Datasets.{same_id-same, At-with_doc, At-id, ascending-placed, ascending-filter, At-filter}
 use Rattle.cs_view.proofs.Sames.{same-one, one-same}
 

@@ -1,5 +1,5 @@
 -- What the look-ups rest on.
-use Rattle.std.proofs.Common.{◌≡◌, ℕ, List, [], ◌∷◌, Vec, Global, Bool, true, false, cond, ◌&&◌, filter, bytes_eq, refl, ap, ◌∙◌}
+use Rattle.std.proofs.Common.{◌≡◌, ℕ, List, [], ◌∷◌, Vec, Global, Bool, true, false, cond, ◌&&◌, bytes_eq, refl, ap, ◌∙◌}
 use Rattle.std.proofs.lemmas.Map.Text.{is_eq-slice_cmp}
 use Rattle.std.specs.List.{list_any}
 use Rattle.cs_value.proofs.Views.{tree-List, members-trees}
@@ -8,7 +8,7 @@ use Rattle.cs_value.specs.View.{tree, list_tree}
 use Rattle.cs_value.specs.declared.val.Val.{Val}
 use Rattle.cs_value.specs.declared.val.Val as val
 use Rattle.cs_view.specs.Dataset.{same_id}
-use Rattle.cs_view.specs.Keys.{equals, has_element, has, has_all, Sel, selected}
+use Rattle.cs_view.specs.Keys.{equals, has_element, has, Sel, selected}
 use Rattle.cs_view.specs.declared.key.Key.{Key}
 use Rattle.cs_view.specs.declared.key.Scalar.{Scalar}
 
