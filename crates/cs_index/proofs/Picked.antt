@@ -50,6 +50,24 @@ one_found d k y h hs w = list_any-append (λ g. same_id y g.0.now) hs (h ∷ [])
   by_test false e true = refl
   by_test false e false = refl
 
+-- the id of what stands at a place has this place
+at_place : (d : Docs) (k : List Key) (p : ℕ) (t : Tree) → doc_at d p ≡ Some t → wanted d k (id_of t) ≡ cond (has_all k t) (Some p) None
+at_place d k p t h =
+    ap (where_has d k) (d.shelf.entered p t h) ∙ ap (λ o. cond (passes (has_all k) o) (Some p) None) h
+
+pub met_at : (d : Docs) (k : List Key) (p : ℕ) (t : Tree) → doc_at d p ≡ Some t → has_all k t ≡ true → wanted d k (id_of t) ≡ Some p
+met_at d k p t h met = at_place d k p t h ∙ ap (λ b. cond b (Some p) None) met
+
+pub unmet_at : (d : Docs) (k : List Key) (p : ℕ) (t : Tree) → doc_at d p ≡ Some t → has_all k t ≡ false → wanted d k (id_of t) ≡ None
+unmet_at d k p t h unmet = at_place d k p t h ∙ ap (λ b. cond b (Some p) None) unmet
+
+-- the one who is found at a place
+pub found_at : (d : Docs) (k : List Key) (p : ℕ) (t : Tree) (y : List ℕ) → doc_at d p ≡ Some t → is_found_at d k p y ≡ is_found d k (id_of t) y
+found_at d k p t y h = ap (λ o. passes (λ u. same_id y (id_of u)) o && is_some (wanted d k y)) h
+
+pub nothing_at : (d : Docs) (k : List Key) (p : ℕ) (y : List ℕ) → doc_at d p ≡ None → is_found_at d k p y ≡ false
+nothing_at d k p y h = ap (λ o. passes (λ u. same_id y (id_of u)) o && is_some (wanted d k y)) h
+
 abbrev is_some_place : Option ℕ → Bool
 is_some_place None = false
 is_some_place (Some p) = true

@@ -49,6 +49,7 @@ fn choose_id<'d>(
 }
 
 // Adds the document at a place, if it has each of the keys.
+#[tactic(auto, using(crate::proofs::Picked::nothing_at))]
 fn choose<'d>(
     docs: &'d Docs,
     keys: &[Key],
@@ -60,10 +61,13 @@ fn choose<'d>(
     ensures finds { OnOk result
         (Finds (is_found_at docs.now keys.now place) hits.old.items hits.new.items) }
 {
-    match docs.found(place) {
-        Some(doc) => choose_id(docs, keys, doc.id(), hits),
-        None => Ok(()),
+    let Some(found) = docs.found(place) else {
+        return Ok(());
+    };
+    if has_all(keys, found) {
+        hits.push((found.id(), place))?;
     }
+    Ok(())
 }
 
 // What stands under a code and has each of the keys.

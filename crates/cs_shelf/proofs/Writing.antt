@@ -9,7 +9,7 @@ use Rattle.cs_view.specs.Document.{id_of}
 use Rattle.cs_view.specs.Dataset.{same_id, id_cmp, At, stands, placed}
 use Rattle.cs_view.specs.Changes.{is_of_id}
 use Rattle.cs_view.proofs.Datasets.{same_id-same, same_id-refl, same_id-sym, At-placed, ascending-placed, same_docs}
-use Rattle.cs_shelf.specs.Places.{Store, Order, tree_at, found, IsSound, AreLow, StandIn, most_places, trees_at}
+use Rattle.cs_shelf.specs.Places.{Store, Order, tree_at, found, IsSound, IsEntered, AreLow, StandIn, most_places, trees_at}
 use Rattle.cs_shelf.specs.View.{documents}
 use Rattle.cs_shelf.specs.declared.shelf.Shelf.{Shelf}
 use Rattle.cs_shelf.proofs.Standing.{none_or_some, at_of, ascending_of, at-documents, ascending-documents}
@@ -74,6 +74,25 @@ module _ (s t : Store) (m n : Order) (i : List ℕ) (p : ℕ) (o : Option Tree) 
     by_test : (b : Bool) → same_id i x ≡ b → cond b (place_if o p) (get id_cmp m x) ≡ Some q → option_map id_of (tree_at t q) ≡ Some x
     by_test true e g = here_sound own x q (same_id-same i x e) g
     by_test false e g = ap (option_map id_of) (kept_place x q e g) ∙ sound x q g
+
+  -- what stands at a place has it under its id
+  pub entered_written : is_of_id i o ≡ true → ((q : ℕ) → get id_cmp m i ≡ Some q → q ≡ p) → IsEntered s m → IsEntered t n
+  entered_written own only entered q d h = by_number (nat_eq q p) refl (sym (filled q) ∙ h) where
+    there : o ≡ Some d → get id_cmp n (id_of d) ≡ Some p
+    there e =
+        ordered (id_of d) ∙ ap (λ b. cond b (place_if o p) (get id_cmp m (id_of d))) (sym (ap (is_of_id i) e) ∙ own)
+        ∙ ap (λ r. place_if r p) e
+
+    elsewhere : nat_eq q p ≡ false → get id_cmp m (id_of d) ≡ Some q → get id_cmp n (id_of d) ≡ Some q
+    elsewhere f g = ordered (id_of d) ∙ by_test (same_id i (id_of d)) refl where
+      by_test : (b : Bool) → same_id i (id_of d) ≡ b → cond b (place_if o p) (get id_cmp m (id_of d)) ≡ Some q
+      by_test true e =
+          absurd (true≢false (sym (same_number p) ∙ ap (λ z. nat_eq z p) (sym (only q (ap (get id_cmp m) (same_id-same i (id_of d) e) ∙ g))) ∙ f))
+      by_test false e = g
+
+    by_number : (b : Bool) → nat_eq q p ≡ b → cond b o (tree_at s q) ≡ Some d → get id_cmp n (id_of d) ≡ Some q
+    by_number true e g = there g ∙ ap Some (sym (one_number q p e))
+    by_number false e g = elsewhere e (entered q d g)
 
   pub as_placed : is_of_id i o ≡ true → IsSound s m → IsOrdered id_cmp m → IsOrdered id_cmp n → trees_at t n.entries ≡ placed i o (trees_at s m.entries)
   as_placed own sound before after =
@@ -155,3 +174,14 @@ stay_written m n i p fresh ordered x q h = ordered x ∙ by_test (same_id i x) r
   by_test : (b : Bool) → same_id i x ≡ b → cond b (Some p) (get id_cmp m x) ≡ Some q
   by_test true e = absurd (none_or_some q (sym fresh ∙ ap (get id_cmp m) (same_id-same i x e) ∙ h))
   by_test false e = h
+
+pub entered_same : (s t : Store) (m n : Order) → ((p : ℕ) → tree_at t p ≡ tree_at s p) → n.entries ≡ m.entries → IsEntered s m → IsEntered t n
+entered_same s t m n is same entered p d h =
+    ap (λ es. lookup (is_at (id_cmp (id_of d))) es) same ∙ entered p d (sym (is p) ∙ h)
+
+-- an id has one place at most, and a new one none
+pub one_place : (m : Order) (i : List ℕ) (p : ℕ) → get id_cmp m i ≡ Some p → (q : ℕ) → get id_cmp m i ≡ Some q → q ≡ p
+one_place m i p got q h = ap or_zero (sym h ∙ got)
+
+pub no_place_yet : (m : Order) (i : List ℕ) (p : ℕ) → get id_cmp m i ≡ None → (q : ℕ) → get id_cmp m i ≡ Some q → q ≡ p
+no_place_yet m i p fresh q h = absurd (none_or_some q (sym fresh ∙ h))

@@ -28,6 +28,10 @@ abbrev pub IsSound : Store → Order → Type 0
 IsSound s m = (x : List ℕ) (p : ℕ) → get id_cmp m x ≡ Some p
     → option_map id_of (tree_at s p) ≡ Some x
 
+-- each document's id is entered with the document's place
+abbrev pub IsEntered : Store → Order → Type 0
+IsEntered s m = (p : ℕ) (t : Tree) → tree_at s p ≡ Some t → get id_cmp m (id_of t) ≡ Some p
+
 abbrev pub or_null : Option Tree → Tree
 or_null None = null
 or_null (Some t) = t

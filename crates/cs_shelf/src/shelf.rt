@@ -2,7 +2,7 @@
 ghost use Rattle.std.proofs.Props.{props};
 ghost use Rattle.std.specs.BTreeMap.{IsOrdered};
 ghost use Rattle.cs_view.specs.Dataset.{id_cmp};
-ghost use Rattle.cs_shelf.specs.Places.{IsSound, AreLow};
+ghost use Rattle.cs_shelf.specs.Places.{IsSound, IsEntered, AreLow};
 
 use cs_value::Txt;
 use cs_view::Doc;
@@ -21,6 +21,7 @@ pub struct Shelf {
     pub(crate) order: BTreeMap<Txt, u32>,
     pub(crate) alloc: Global,
     pub ghost sound: { IsSound store order },
+    pub ghost entered: { IsEntered store order },
     pub ghost low: { AreLow order },
     pub ghost ordered: { IsOrdered id_cmp order } by { Prim.hlevel props },
 }

@@ -5,7 +5,7 @@ ghost use Rattle.slab.specs.Slab.{HasRoomFor};
 ghost use Rattle.cs_view.specs.Dataset.{id_cmp, same_id, stands, with_doc, without};
 ghost use Rattle.cs_view.specs.Document.{id_of};
 ghost use Rattle.cs_view.specs.View.{doc as document};
-ghost use Rattle.cs_shelf.specs.Places.{IsSound, AreLow, StandIn, most_places, tree_at, trees_at};
+ghost use Rattle.cs_shelf.specs.Places.{IsSound, IsEntered, AreLow, StandIn, most_places, tree_at, trees_at};
 ghost use Rattle.cs_shelf.specs.View.{documents, StayIn};
 
 use crate::shelf::{MOST_PLACES, Shelf};
@@ -68,8 +68,10 @@ fn put_new(
 ) -> Result<(), NoMemory>
     requires fresh { get id_cmp order.old (id_of (document doc)) ≡ None }
     requires sound { IsSound store.old order.old }
+    requires entered { IsEntered store.old order.old }
     requires low { AreLow order.old }
     ensures sound { IsSound store.new order.new }
+    ensures entered { IsEntered store.new order.new }
     ensures low { AreLow order.new }
     ensures ordered { IsOrdered id_cmp order.new }
     ensures put { OnOk result (trees_at store.new order.new.entries
