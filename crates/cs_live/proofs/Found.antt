@@ -1,5 +1,5 @@
 -- That entries are found by their keys, once one was put, taken out or refreshed.
-use Rattle.std.proofs.Common.{◌≡◌, ◌≢◌, ◌∙◌, ℕ, zero, suc, ◌<◌, ◌≤◌, ◌+◌, List, [], ◌∷◌, ◌++◌, length, get_or, set, take, drop, Bool, true, false, cond, ◌&&◌, ◌||◌, refl, sym, ap, subst, true≢false, nat_eq, eq-eqb, eqb-true, ne_eqb, ⊎_elim, arith, Result, Ok, Err, OnErr}
+use Rattle.std.proofs.Common.{◌≡◌, ◌≢◌, ◌∙◌, ℕ, zero, suc, ◌<◌, ◌≤◌, ◌+◌, List, [], ◌∷◌, ◌++◌, length, get_or, set, take, drop, Bool, true, false, cond, ◌||◌, refl, sym, ap, subst, true≢false, nat_eq, eq-eqb, eqb-true, ne_eqb, ⊎_elim, arith, Result, Ok, Err, OnErr}
 use Rattle.std.specs.List.{remove, All}
 use Rattle.std.proofs.lemmas.Bool.{cases_eq, cases_lt}
 use Rattle.std.proofs.lemmas.List.{get_or-map, get_or-set_same, get_or-set_other, map-append}
@@ -13,12 +13,10 @@ use Rattle.cs_view.proofs.Booleans.{or-left, or-right}
 use Rattle.cs_codes.specs.Codes.{Seed, is_among}
 use Rattle.cs_interest.specs.Interest.{holds, is_of, Entered, Left}
 use Rattle.cs_interest.specs.declared.interest.Interest.{Interest}
-use Rattle.cs_live.specs.Found.{IsFound, IsCoded, KeepsOthers, AreFoundBy, Ascend, numbers, codes_of, has_code, hit_key}
+use Rattle.cs_kept.specs.Found.{IsFound, IsCoded, KeepsOthers, codes_of}
+use Rattle.cs_kept.proofs.Found.{others-found, keeps-entered, keeps-left, stands-entered, stands-left}
+use Rattle.cs_live.specs.Found.{AreFoundBy, Ascend, numbers}
 use Rattle.cs_live.specs.declared.entry.Entry.{Entry}
-use Rattle.cs_live.specs.declared.entry.Kept.{Kept}
-use Rattle.cs_live.specs.declared.entry.Kept.TheVariants.{InRows}
-use Rattle.cs_live.specs.declared.rows.Rows.{Rows}
-use Rattle.cs_live.specs.Rows.{AsksTheSame}
 
 -- ---- numbers
 pub number-at : (es : List Entry) (j : ℕ) (d : Entry) (x : ℕ) → j < length es → get_or (numbers es) j x ≡ (get_or es j d).number
@@ -44,44 +42,6 @@ pub apart : (es : List Entry) (j q : ℕ) (d : Entry) → Ascend es → j ≢ q 
 apart es j q d h other low there =
     ⊎_elim (λ below. let l = h j q d below there in ne_eqb _ _ (λ s. omega (arith, l, s)))
     (λ above. let l = h q j d (omega (arith, above, other)) low in ne_eqb _ _ (λ s. omega (arith, l, s))) (cases_lt j q)
-
--- ---- what stands under a number
-pub others-found : (i j : Interest) (m n : ℕ) (k : Kept) → KeepsOthers m i j → nat_eq n m ≡ false → IsFound i n k → IsFound j n k
-others-found i j m n k keeps other found = record {
-  stands = λ c. keeps.others c n other ∙ found.stands c;
-  coded = subst (λ (s : Seed). IsCoded s k) (sym keeps.seed) found.coded;
-}
-
-pub keeps-entered : (i j : Interest) (m : ℕ) (cs : List ℕ) → Entered m cs i j → j.seed ≡ i.seed → KeepsOthers m i j
-keeps-entered i j m cs h s = record { others = λ c n other. h c n ∙ ap (λ b. cond (b && is_among c cs) true (holds i c n)) other; seed = s }
-
-pub keeps-left : (i j : Interest) (m : ℕ) (cs : List ℕ) → Left m cs i j → j.seed ≡ i.seed → KeepsOthers m i j
-keeps-left i j m cs h s = record { others = λ c n other. h c n ∙ ap (λ b. cond (b && is_among c cs) false (holds i c n)) other; seed = s }
-
-pub keeps-on : (i j k : Interest) (m : ℕ) → KeepsOthers m i j → KeepsOthers m j k → KeepsOthers m i k
-keeps-on i j k m a b = record { others = λ c n other. b.others c n other ∙ a.others c n other; seed = b.seed ∙ a.seed }
-
-pub keeps-all : (i : Interest) (m : ℕ) → KeepsOthers m i i
-keeps-all i m = record { others = λ c n other. refl; seed = refl }
-
-own : (n : ℕ) → nat_eq n n ≡ true
-own n = eq-eqb n n refl
-
-or-false : (a : Bool) → cond a true false ≡ a
-or-false true = refl
-or-false false = refl
-
-not-both : (a : Bool) → cond a false a ≡ false
-not-both true = refl
-not-both false = refl
-
--- a number that stood nowhere and was entered stands under these codes
-pub stands-entered : (i j : Interest) (m : ℕ) (cs : List ℕ) → Entered m cs i j → ((c : ℕ) → holds i c m ≡ false) → (c : ℕ) → holds j c m ≡ is_among c cs
-stands-entered i j m cs h none c = h c m ∙ (λ x. cond (own m x && is_among c cs) true (none c x)) ∙ or-false (is_among c cs)
-
--- one that left all its codes stands nowhere
-pub stands-left : (i j : Interest) (m : ℕ) (cs : List ℕ) → Left m cs i j → ((c : ℕ) → holds i c m ≡ is_among c cs) → (c : ℕ) → holds j c m ≡ false
-stands-left i j m cs h all c = h c m ∙ (λ x. cond (own m x && is_among c cs) false (all c x)) ∙ not-both (is_among c cs)
 
 -- ---- all entries
 pub found-none : (i : Interest) → ((c n : ℕ) → holds i c n ≡ false) → AreFoundBy i 0 []
@@ -209,24 +169,6 @@ found-set i j next es q e low same keeps now h = record {
       (others-found i j e.number (get_or es k d).number (get_or es k d).kept keeps (subst (λ n. nat_eq (get_or es k d).number n ≡ false) (sym (same d)) (apart es k q d h.ascend differs inside low)) (h.found k d inside))) (cases_eq k q)
 
 -- ---- one number that left its old codes and entered new ones
-module _ (i j k : Interest) (m : ℕ) (old new : Kept) (left : Left m (codes_of old) i j) (first : j.seed ≡ i.seed) (entered : Entered m (codes_of new) j k) (second : k.seed ≡ j.seed) where
-  pub found-moved : IsFound i m old → IsCoded i.seed new → IsFound k m new
-  found-moved found coded = record {
-    stands = stands-entered j k m (codes_of new) entered (stands-left i j m (codes_of old) left found.stands);
-    coded = subst (λ (s : Seed). IsCoded s new) (sym (second ∙ first)) coded;
-  }
-
-  pub others-moved : KeepsOthers m i k
-  others-moved = keeps-on i j k m (keeps-left i j m (codes_of old) left first) (keeps-entered j k m (codes_of new) entered second)
-
--- rows that ask the same are found by the same key
-pub found-rows : (i : Interest) (m : ℕ) (old new : Rows) → AsksTheSame old new → IsFound i m (InRows old) → IsFound i m (InRows new)
-found-rows i m old new asks found = record {
-  stands = λ c. found.stands c ∙ (λ x. is_among c (sym asks.codes x).items);
-  coded = λ c. (λ x. is_among c (asks.codes x).items) ∙ found.coded c ∙ (λ x. has_code i.seed c (hit_key (sym asks.query x) (sym asks.params x) ∷ []));
-}
-
--- codes that were entered and left again
 pub undone : (i j k : Interest) (m n : ℕ) (cs ds : List ℕ) → n ≡ m → ds ≡ cs → Entered m cs i j → Left n ds j k → Left m cs i k
 undone i j k m n cs ds number same entered left c x =
     left c x ∙ (λ y. cond (is_of (number y) (same y) c x) false (entered c x y)) ∙ once (is_of m cs c x) (holds i c x)

@@ -1,13 +1,7 @@
 mod Bringing
-mod Coded
 mod Found
-mod Keyed
 mod Named
 mod News
 mod Refreshing
-mod Sames
-mod Settled
-mod Sharing
 mod Simple
 mod Untouched
-mod Windowed

@@ -9,7 +9,8 @@ use Rattle.cs_value.specs.Tree.{Tree}
 use Rattle.cs_view.specs.Changes.{Edit}
 use Rattle.cs_live.specs.Lives.{LiveQuery, Said, say, refreshed, all_refreshed, is_stale, news, news_of}
 use Rattle.cs_live.specs.Entries.{live_query}
-use Rattle.cs_live.specs.Fits.{FitsOne, Refreshes, KeepsRecord, IsQuiet}
+use Rattle.cs_kept.specs.Fits.{KeepsRecord, IsQuiet}
+use Rattle.cs_live.specs.Fits.{FitsOne, Refreshes}
 use Rattle.cs_live.specs.declared.entry.Entry.{Entry}
 
 stale-first : (docs : List Tree) (e : LiveQuery) (es : List LiveQuery) (b : Bool) → is_stale docs e ≡ b → news docs (e ∷ es) ≡ cond b (say (refreshed docs e) ∷ []) [] ++ news docs es

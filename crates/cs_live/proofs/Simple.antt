@@ -4,13 +4,14 @@ use Rattle.cs_value.specs.Tree.{Tree}
 use Rattle.cs_view.specs.Changes.{Edit}
 use Rattle.cs_view.proofs.Booleans.{and-left, and-right}
 use Rattle.cs_plan.specs.Simple.{is_simple}
-use Rattle.cs_live.specs.Entries.{entries, live_query, query_of}
-use Rattle.cs_live.specs.Fits.{FitsKept, IsQuiet}
+use Rattle.cs_kept.specs.Kept.{query_of}
+use Rattle.cs_live.specs.Entries.{entries, live_query}
+use Rattle.cs_kept.specs.Fits.{FitsKept, IsQuiet}
 use Rattle.cs_live.specs.Laws.{SimpleLivesAskNothing}
 use Rattle.cs_live.specs.Lives.{are_simple_lives}
 use Rattle.cs_live.specs.declared.entry.Entry.{Entry}
-use Rattle.cs_live.specs.declared.entry.Kept.{Kept}
-use Rattle.cs_live.specs.declared.entry.Kept.TheVariants.{ByRecord, InRows, InShares}
+use Rattle.cs_kept.specs.declared.kept.Kept.{Kept}
+use Rattle.cs_kept.specs.declared.kept.Kept.TheVariants.{ByRecord, InRows, InShares}
 
 simple_at : (es : List Entry) (j : ℕ) (e : Entry) → j < length es
     → are_simple_lives (map live_query es) ≡ true

@@ -20,19 +20,20 @@ use Rattle.cs_interest.specs.Interest.{holds, interest_code, is_asked}
 use Rattle.cs_interest.specs.Laws.{NarrowestIsHad, TouchedIsAsked}
 use Rattle.cs_interest.specs.declared.interest.Interest.{Interest}
 use Rattle.cs_live.specs.Brought.{Still, UnaskedStays}
-use Rattle.cs_live.specs.Entries.{entries, live_query, last_of}
-use Rattle.cs_live.specs.Fits.{FitsKept, FitsRows, RefreshesKept}
-use Rattle.cs_live.specs.Found.{IsFound, has_code, hit_key, interests}
+use Rattle.cs_kept.specs.Kept.{last_of}
+use Rattle.cs_live.specs.Entries.{entries, live_query}
+use Rattle.cs_kept.specs.Fits.{FitsKept, FitsRows, RefreshesKept}
+use Rattle.cs_kept.specs.Found.{IsFound, has_code, hit_key, interests}
 use Rattle.cs_live.specs.Lives.{is_stale, news_of, refreshed, say}
-use Rattle.cs_live.specs.Rows.{rows}
+use Rattle.cs_kept.specs.Rows.{rows}
 use Rattle.cs_live.specs.declared.entry.Entry.{Entry}
-use Rattle.cs_live.specs.declared.entry.Kept.{Kept}
-use Rattle.cs_live.specs.declared.entry.Kept.TheVariants.{ByRecord, InRows, InShares}
-use Rattle.cs_live.specs.declared.rows.Rows.{Rows}
+use Rattle.cs_kept.specs.declared.kept.Kept.{Kept}
+use Rattle.cs_kept.specs.declared.kept.Kept.TheVariants.{ByRecord, InRows, InShares}
+use Rattle.cs_kept.specs.declared.rows.Rows.{Rows}
 use Rattle.cs_live.proofs.Refreshing.{entry-refreshed}
-use Rattle.cs_live.proofs.Sharing.{mapped-untouched}
-use Rattle.cs_live.proofs.Windowed.{untouched-refreshed}
-use Rattle.cs_live.proofs.Sames.{not_another}
+use Rattle.cs_kept.proofs.Sharing.{mapped-untouched}
+use Rattle.cs_kept.proofs.Windowed.{untouched-refreshed}
+use Rattle.cs_kept.proofs.Sames.{not_another}
 
 -- ---- no key of a number that is not asked is touched
 or-second : (a b : Bool) → b ≡ true → (a || b) ≡ true

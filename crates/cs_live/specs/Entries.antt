@@ -1,31 +1,12 @@
 -- What contracts see of the entries of live queries, and of their lines.
 use Rattle.std.specs.Prelude.{◌≡◌, ℕ, ◌<◌, length, get_or, true, false, Option, None, Some, List, map}
 use Rattle.std.specs.List.{remove}
-use Rattle.cs_value.specs.Tree.{Tree, Pairs}
-use Rattle.cs_value.specs.View.{tree, fields}
-use Rattle.cs_syntax.specs.Expression.{Expression}
-use Rattle.cs_syntax.specs.Queries.{query}
+use Rattle.cs_value.specs.View.{tree}
+use Rattle.cs_kept.specs.Kept.{query_of, params_of, last_of}
 use Rattle.cs_live.specs.Lives.{LiveQuery, Said, is_named, without_name, answer_of}
 use Rattle.cs_live.specs.declared.entry.Entry.{Entry}
-use Rattle.cs_live.specs.declared.entry.Kept.{Kept}
-use Rattle.cs_live.specs.declared.entry.Kept.TheVariants.{ByRecord, InRows, InShares}
 use Rattle.cs_live.specs.declared.entry.LiveLine.{LiveLine}
 use Rattle.cs_live.specs.declared.live.Live.{Live}
-
-abbrev pub query_of : Kept → Expression
-query_of (ByRecord r) = query r.query
-query_of (InRows r) = query r.query
-query_of (InShares m) = query m.query
-
-abbrev pub params_of : Kept → Pairs
-params_of (ByRecord r) = fields r.params
-params_of (InRows r) = fields r.params
-params_of (InShares m) = fields m.params
-
-abbrev pub last_of : Kept → Tree
-last_of (ByRecord r) = tree r.last
-last_of (InRows r) = tree r.answer
-last_of (InShares m) = tree m.last
 
 abbrev pub live_query : Entry → LiveQuery
 live_query e =

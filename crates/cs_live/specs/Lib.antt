@@ -1,11 +1,6 @@
 pub mod Brought
 pub mod Entries
-pub mod Evaluated
 pub mod Fits
-pub mod Followed
 pub mod Found
-pub mod Keys
 pub mod Laws
 pub mod Lives
-pub mod Mapped
-pub mod Rows

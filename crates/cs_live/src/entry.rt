@@ -1,41 +1,25 @@
 //! A live query with its last answer, and what is said of it.
-ghost use Rattle.std.specs.Prelude.{◌≡◌, ◌≤◌, ◌+◌, ◌++◌, true, not, map, IfOk, OnOk};
-ghost use Rattle.cs_value.specs.Same.{same_tree};
+ghost use Rattle.std.specs.Prelude.{◌≡◌, ◌≤◌, ◌+◌, ◌++◌, true, map, IfOk, OnOk};
 ghost use Rattle.cs_value.specs.View.{tree, fields};
 ghost use Rattle.cs_syntax.specs.Queries.{query as query_of};
 ghost use Rattle.cs_view.specs.Changes.{are_changes, LeadTo, Before};
 ghost use Rattle.cs_view.specs.View.{edits};
 ghost use Rattle.cs_plan.specs.Simple.{is_simple};
 ghost use Rattle.cs_meaning.specs.Hits.{cost};
-ghost use Rattle.cs_live.specs.Entries.{live_query, last_of, said};
-ghost use Rattle.cs_live.specs.Fits.{Answers, FitsKept, FitsOne, IsQuiet, Refreshes, RefreshesKept};
-ghost use Rattle.cs_live.specs.Found.{IsCoded, IsFound, KeepsOthers, codes_of};
+ghost use Rattle.cs_live.specs.Entries.{live_query, said};
+ghost use Rattle.cs_kept.specs.Fits.{IsQuiet};
+ghost use Rattle.cs_live.specs.Fits.{FitsOne, Refreshes};
+ghost use Rattle.cs_kept.specs.Found.{IsCoded, IsFound, KeepsOthers};
 ghost use Rattle.cs_live.specs.Lives.{has_live_name, is_stale, made, news_of, say};
 
-use crate::mapped::Mapped;
-use crate::recorded::Recorded;
-use crate::rows::Rows;
-use cs_eval::mapped;
 use cs_interest::Interest;
-use cs_plan::simple;
+use cs_kept::Kept;
 use cs_syntax::Query;
 use cs_value::{Fields, NoMemory, Steps, Txt, Val};
 use cs_view::{Change, View};
 use std::alloc::Global;
 use std::hash::RandomState;
 use std::sync::ledger::Ledger;
-
-/// How a last answer is kept.
-#[derive(Drop)]
-pub(crate) enum Kept {
-    /// With the keys that finding it looked up: it is found anew after changes that touch one.
-    ByRecord(Recorded),
-    /// With the documents behind it, of a simple query.
-    InRows(Rows),
-    /// With the share of each hit in it, of a mapped query: those that changes touch are found
-    /// anew.
-    InShares(Mapped),
-}
 
 /// A live query with its last answer, and its number among those that are interested in keys.
 #[derive(Drop)]
@@ -52,89 +36,6 @@ pub struct LiveLine {
     pub name: Txt,
     /// Its answer.
     pub answer: Val,
-}
-
-impl Kept {
-    // The value of the query over the view, kept in rows where the query is simple, in shares where
-    // it is mapped, and by its record otherwise. For a simple query no more documents are visited
-    // than have its key.
-    fn make<V: View<L>, L: Ledger>(
-        alloc: Global,
-        seed: &RandomState,
-        query: Query,
-        params: Fields,
-        view: &V,
-        steps: &mut Steps<L>,
-    ) -> Result<Kept, NoMemory>
-        ensures answers { IfOk result (λ kept. Answers (V.docs view.now) (query_of query)
-            (fields params) kept) }
-        ensures coded { IfOk result (λ kept. IsCoded seed.now kept) }
-        ensures visits { is_simple (query_of query) ≡ true
-            → steps.new ≤ steps.old + cost (query_of query) (fields params) (V.docs view.now) }
-    {
-        if simple(&query) {
-            return Ok(Kept::InRows(Rows::build(alloc, seed, query, params, view, steps)?));
-        }
-        if mapped(alloc, &query)? {
-            return Ok(Kept::InShares(Mapped::build(alloc, seed, query, params, view, steps)?));
-        }
-        Ok(Kept::ByRecord(Recorded::build(alloc, seed, query, params, view, steps)?))
-    }
-
-    /// The last answer.
-    pub(crate) fn last(&self) -> &Val
-        ensures { tree result.now ≡ last_of self.now }
-    {
-        match self {
-            Kept::ByRecord(kept) => &kept.last,
-            Kept::InRows(kept) => &kept.answer,
-            Kept::InShares(kept) => &kept.last,
-        }
-    }
-
-    /// The codes under which interest in its keys is held.
-    pub(crate) fn codes(&self) -> &[u64]
-        ensures { result.now ≡ codes_of self.now }
-    {
-        match self {
-            Kept::ByRecord(kept) => &kept.keys.codes,
-            Kept::InRows(kept) => &kept.codes,
-            Kept::InShares(kept) => &kept.codes,
-        }
-    }
-
-    // Brings the answer to the dataset after the changes, and the number to the keys that it has
-    // now: whether it is another tree now.
-    fn refresh<V: View<L>, L: Ledger>(
-        &mut self,
-        alloc: Global,
-        number: u64,
-        interest: &mut Interest,
-        view: &V,
-        changes: &[Change],
-        steps: &mut Steps<L>,
-    ) -> Result<bool, NoMemory>
-        requires changes { are_changes (edits changes.now) ≡ true }
-        requires led { LeadTo (V.docs view.now) (edits changes.now) }
-        requires fits { FitsKept (Before (V.docs view.now) (edits changes.now)) self.old }
-        requires found { IsFound interest.old number self.old }
-        ensures refreshed { OnOk result
-            (RefreshesKept (V.docs view.now) (edits changes.now) self.old self.new) }
-        ensures stale { IfOk result
-            (λ b. b ≡ not (same_tree (last_of self.new) (last_of self.old))) }
-        ensures quiet { IsQuiet (edits changes.now) self.old → steps.new ≡ steps.old }
-        ensures found { OnOk result (IsFound interest.new number self.new) }
-        ensures others { OnOk result (KeepsOthers number interest.old interest.new) }
-    {
-        match self {
-            Kept::ByRecord(kept) => kept.refresh(alloc, number, interest, view, changes, steps),
-            Kept::InRows(kept) => {
-                let stale = kept.refresh(alloc, view, changes)?;
-                Ok(stale)
-            }
-            Kept::InShares(kept) => kept.refresh(alloc, number, interest, view, changes, steps),
-        }
-    }
 }
 
 impl Entry {

@@ -2,15 +2,8 @@
 #![tactic(auto)]
 
 mod entry;
-mod evaluated;
-mod keys;
 mod laws;
 mod live;
-mod mapped;
-mod recorded;
-mod rows;
-mod same;
-mod settling;
 
 pub use entry::LiveLine;
 pub use laws::simple_lives_ask_nothing;

@@ -10,8 +10,10 @@ ghost use Rattle.cs_meaning.specs.Hits.{cost};
 ghost use Rattle.cs_live.specs.Entries.{entries, lives, said, IsPlace};
 ghost use Rattle.cs_interest.specs.Interest.{Entered, Left};
 ghost use Rattle.cs_live.specs.Brought.{AtNumber, Brings, BringsAt};
-ghost use Rattle.cs_live.specs.Fits.{Fits, FitsOne, IsUntouched, IsQuiet, KeepsRecords, HasRoom, IsCause};
-ghost use Rattle.cs_live.specs.Found.{AreFound, Ascend, IsNumberPlace, codes_of};
+ghost use Rattle.cs_kept.specs.Fits.{IsQuiet};
+ghost use Rattle.cs_live.specs.Fits.{Fits, FitsOne, IsUntouched, KeepsRecords, HasRoom, IsCause};
+ghost use Rattle.cs_kept.specs.Found.{codes_of};
+ghost use Rattle.cs_live.specs.Found.{AreFound, Ascend, IsNumberPlace};
 ghost use Rattle.cs_live.specs.declared.entry.Entry.{Entry};
 ghost use Rattle.cs_live.specs.Lives.{all_refreshed, answer_of, is_named, made, news, say, without_name};
 

@@ -6,7 +6,8 @@ use Rattle.cs_view.proofs.Booleans.{and-left}
 use Rattle.cs_interest.specs.Interest.{AreAsked}
 use Rattle.cs_live.specs.Brought.{StillUnasked}
 use Rattle.cs_live.specs.Entries.{said}
-use Rattle.cs_live.specs.Fits.{FitsOne, IsQuiet}
+use Rattle.cs_kept.specs.Fits.{IsQuiet}
+use Rattle.cs_live.specs.Fits.{FitsOne}
 use Rattle.cs_live.specs.Lives.{Said}
 use Rattle.cs_live.proofs.Bringing.{Loop, loop-start, loop-step, loop-next, loop-end}
 use Rattle.cs_live.proofs.News.{refreshed-lives, refreshed-fits, refreshed-records}

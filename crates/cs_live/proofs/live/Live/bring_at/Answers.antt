@@ -3,7 +3,7 @@ use Rattle.std.proofs.lemmas.Grind.{common_steps}
 use Rattle.cs_view.specs.View.{edits}
 use Rattle.cs_live.specs.Entries.{live_query, said}
 use Rattle.cs_live.specs.Fits.{Refreshes}
-use Rattle.cs_live.specs.Found.{IsFound, KeepsOthers}
+use Rattle.cs_kept.specs.Found.{IsFound, KeepsOthers}
 use Rattle.cs_live.specs.Lives.{news_of}
 use Rattle.cs_live.specs.declared.entry.Entry.{Entry}
 use Rattle.cs_live.proofs.Found.{found-set}

@@ -3,7 +3,8 @@ use Rattle.std.specs.List.{All}
 use Rattle.cs_codes.specs.Codes.{Seed}
 use Rattle.cs_interest.specs.Interest.{Left}
 use Rattle.cs_live.specs.Fits.{FitsOne}
-use Rattle.cs_live.specs.Found.{AreFoundBy, IsCoded, codes_of}
+use Rattle.cs_kept.specs.Found.{IsCoded, codes_of}
+use Rattle.cs_live.specs.Found.{AreFoundBy}
 use Rattle.cs_live.specs.declared.entry.Entry.{Entry}
 use Rattle.cs_live.proofs.Found.{found-left, found-pushed, on_err}
 use Rattle.cs_live.proofs.News.{fits-entered}

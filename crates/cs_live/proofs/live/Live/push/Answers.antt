@@ -1,6 +1,6 @@
 use Rattle.std.proofs.Common.{◌∙◌, ℕ, List, ap, subst}
 use Rattle.cs_interest.specs.Interest.{Entered}
-use Rattle.cs_live.specs.Found.{codes_of}
+use Rattle.cs_kept.specs.Found.{codes_of}
 use Rattle.cs_live.specs.declared.entry.Entry.{Entry}
 use Rattle.cs_live.proofs.Found.{undone}
 use Rattle.cs_live.proofs.live.Live.push.Goals as goal

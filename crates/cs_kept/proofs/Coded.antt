@@ -1,0 +1,39 @@
+-- Codes of keys, order and repeats aside.
+use Rattle.std.proofs.Common.{◌≡◌, ◌∙◌, ℕ, List, [], ◌∷◌, map, Bool, true, false, ◌||◌, refl, sym, ap, nat_eq}
+use Rattle.std.specs.Prelude.{Contains}
+use Rattle.std.specs.List.{list_any}
+use Rattle.std.proofs.lemmas.List.Folds.{Any-from_list_any, list_any-from_Any}
+use Rattle.cs_view.specs.declared.key.Key.{Key}
+use Rattle.cs_codes.specs.Codes.{Seed, is_among}
+use Rattle.cs_interest.specs.Interest.{interest_code}
+use Rattle.cs_kept.specs.Fits.{SameKeys}
+use Rattle.cs_kept.specs.Found.{has_code}
+
+bools : (r s : Bool) → (r ≡ true → s ≡ true) → (s ≡ true → r ≡ true) → r ≡ s
+bools true s f g = sym (f refl)
+bools false true f g = g refl
+bools false false f g = refl
+
+any-there : (p : Key → Bool) (xs ys : List Key) → ((k : Key) → Contains xs k → Contains ys k) → list_any p xs ≡ true → list_any p ys ≡ true
+any-there p xs ys there h =
+    let a = Any-from_list_any p xs h in
+    let c = there a.1 (a.0, a.2, a.3) in
+    list_any-from_Any p ys (c.0, a.1, c.1, c.2, a.4)
+
+same-any : (p : Key → Bool) (xs ys : List Key) → SameKeys xs ys → list_any p xs ≡ list_any p ys
+same-any p xs ys same = bools _ _ (any-there p xs ys same.there) (any-there p ys xs same.back)
+
+among-map : (seed : Seed) (c : ℕ) (ks : List Key) → is_among c (map (interest_code seed) ks) ≡ has_code seed c ks
+among-map seed c [] = refl
+among-map seed c (k ∷ ks) = ap (λ b. nat_eq c (interest_code seed k) || b) (among-map seed c ks)
+
+-- the codes of the keys that were looked up are those of the keys that are kept
+pub coded-of : (seed : Seed) (ks looked : List Key) (cs : List ℕ) → SameKeys ks looked → cs ≡ map (interest_code seed) looked → (c : ℕ) → is_among c cs ≡ has_code seed c ks
+coded-of seed ks looked cs same is c = ap (is_among c) is ∙ among-map seed c looked ∙ sym (same-any (λ k. nat_eq c (interest_code seed k)) ks looked same)
+
+pub coded-keys : (seed : Seed) (ks : List Key) (cs : List ℕ) → cs ≡ map (interest_code seed) ks → (c : ℕ) → is_among c cs ≡ has_code seed c ks
+coded-keys seed ks cs is c = ap (is_among c) is ∙ among-map seed c ks
+
+-- those of one key
+pub coded-one : (seed : Seed) (k : Key) (cs : List ℕ) → cs ≡ interest_code seed k ∷ [] → (c : ℕ) → is_among c cs ≡ has_code seed c (k ∷ [])
+coded-one seed k cs is c = ap (is_among c) is

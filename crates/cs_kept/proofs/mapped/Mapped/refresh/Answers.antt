@@ -1,0 +1,80 @@
+use Rattle.std.proofs.Common.{◌≡◌, ◌∙◌, ap, ℕ, List, Vec, Global, not, false, true, true≢false, refl, sym, subst}
+use Rattle.cs_value.specs.Same.{same_tree}
+use Rattle.cs_value.specs.View.{tree, fields}
+use Rattle.cs_value.specs.Words.{list_of}
+use Rattle.cs_syntax.specs.Queries.{query}
+use Rattle.cs_view.specs.Dataset.{ascending}
+use Rattle.cs_view.specs.Touched.{touched}
+use Rattle.cs_view.specs.View.{edits}
+use Rattle.cs_view.proofs.Booleans.{and-left}
+use Rattle.cs_hits.specs.Shares.{SharesFollow, share_docs, share_values}
+use Rattle.cs_kept.specs.Mapped.{mapped_keys}
+use Rattle.cs_kept.specs.declared.kept.Kept.TheVariants.{InShares}
+use Rattle.cs_hits.specs.declared.share.Share.{Share}
+use Rattle.cs_kept.proofs.Found.{keeps-all}
+use Rattle.cs_hits.proofs.Brought.{hits-ascend}
+use Rattle.cs_kept.proofs.Sames.{not_another}
+use Rattle.cs_kept.proofs.Sharing.{mapped-refreshed, mapped-untouched}
+use Rattle.cs_kept.proofs.mapped.Mapped.refresh.Goals as goal
+
+pub returns-then-not-touched-clause-refreshed : goal.returns-then-not-touched-clause-refreshed
+returns-then-not-touched-clause-refreshed g c =
+    let docs = g.V.View.docs c.args.view.now in let cs = edits c.args.changes.now in
+    let sorted : ascending docs ≡ true = and-left (ascending docs) _ (g.met.V.View.dataset c.args.view.now) in
+    let quiet : touched (mapped_keys c.args.self.now) cs ≡ false = cc (c.touched.ensures, c.if-not-touched.true) in
+    mapped-untouched docs cs sorted c.requires.changes c.requires.led c.untouched_selects_the_same.ensures c.changes_lead_back_and_on.ensures c.looked_settles_share.ensures
+    c.hits_have_key.ensures c.mapped_is_shares_of_hits.ensures c.args.self.now quiet c.requires.fits
+
+pub returns-then-not-touched-clause-stale : goal.returns-then-not-touched-clause-stale
+returns-then-not-touched-clause-stale g c = not_another (tree c.args.self.now.last) (tree c.args.self.now.last) refl
+
+pub returns-then-not-touched-clause-found : goal.returns-then-not-touched-clause-found
+returns-then-not-touched-clause-found g c = c.requires.found
+
+pub returns-then-not-touched-clause-others : goal.returns-then-not-touched-clause-others
+returns-then-not-touched-clause-others g c = keeps-all c.args.interest.now c.args.number
+
+pub follow-requires-clause-ascending : goal.follow-requires-clause-ascending
+follow-requires-clause-ascending g c =
+    let docs = g.V.View.docs c.args.view.now in let cs = edits c.args.changes.now in
+    let sorted : ascending docs ≡ true = and-left (ascending docs) _ (g.met.V.View.dataset c.args.view.now) in
+    let old = c.args.self.now in
+    hits-ascend docs cs sorted (query old.query) (fields old.params) (share_docs old.shares.items) c.requires.fits.hits
+
+pub returns-then-not-branch-clause-stale : goal.returns-then-not-branch-clause-stale
+returns-then-not-branch-clause-stale g c = not_another (tree c.args.self.now.last) (tree c.follow.new.self.last) (ap tree (sym c.follow.ensures.kept.last))
+
+pub returns-then-not-branch-clause-refreshed : goal.returns-then-not-branch-clause-refreshed
+returns-then-not-branch-clause-refreshed g c =
+    let docs = g.V.View.docs c.args.view.now in let cs = edits c.args.changes.now in
+    let sorted : ascending docs ≡ true = and-left (ascending docs) _ (g.met.V.View.dataset c.args.view.now) in
+    let old = c.args.self.now in let new = c.follow.new.self in let kept = c.follow.ensures.kept in
+    let hot : touched (mapped_keys old) cs ≡ true = cc (c.touched.ensures, c.if-not-touched.false) in
+    let same : new.shares.items ≡ old.shares.items = c.in_ok-follow.ensures.same c.if-not-branch.true in
+    mapped-refreshed c.mapped_is_shares_of_hits.ensures c.changes_lead_back_and_on.ensures c.filter_follows_changes.ensures docs cs sorted c.requires.changes c.requires.led old new c.requires.fits
+    (ap query kept.query) (ap fields kept.params) kept.own c.in_ok-follow.ensures.follow
+    (ap tree kept.last ∙ c.requires.fits.last ∙ ap (λ (ss : List Share). list_of (share_values ss)) (sym same))
+    (λ quiet. absurd (true≢false (sym hot ∙ quiet)))
+
+pub returns-clause-refreshed : goal.returns-clause-refreshed
+returns-clause-refreshed g c =
+    let docs = g.V.View.docs c.args.view.now in let cs = edits c.args.changes.now in
+    let sorted : ascending docs ≡ true = and-left (ascending docs) _ (g.met.V.View.dataset c.args.view.now) in
+    let old = c.args.self.now in let new = c.recode.new.self in
+    let f = c.follow.ensures.kept in let s = c.settle.ensures.kept in let r = c.recode.ensures.kept in
+    let hot : touched (mapped_keys old) cs ≡ true = cc (c.touched.ensures, c.if-not-touched.false) in
+    let shares : new.shares ≡ c.follow.new.self.shares = r.shares ∙ s.shares in
+    mapped-refreshed c.mapped_is_shares_of_hits.ensures c.changes_lead_back_and_on.ensures c.filter_follows_changes.ensures docs cs sorted c.requires.changes c.requires.led old new c.requires.fits
+    (ap query (r.query ∙ s.query ∙ f.query)) (ap fields (r.params ∙ s.params ∙ f.params)) (r.own ∙ s.own ∙ f.own)
+    (subst (λ (v : Vec Share Global). SharesFollow docs cs (query old.query) (fields old.params) old.shares.items v.items) (sym shares) c.in_ok-follow.ensures.follow)
+    (ap tree r.last ∙ c.in_ok-stale.ensures.settled ∙ ap (λ (v : Vec Share Global). list_of (share_values v.items)) (sym r.shares))
+    (λ quiet. absurd (true≢false (sym hot ∙ quiet)))
+
+pub returns-clause-stale : goal.returns-clause-stale
+returns-clause-stale g c =
+    let f = c.follow.ensures.kept in let r = c.recode.ensures.kept in
+    c.in_ok-stale.ensures.stale ∙ (λ i. not (same_tree (tree (sym r.last i)) (tree (f.last i))))
+
+pub returns-clause-found : goal.returns-clause-found
+returns-clause-found g c =
+    c.in_ok-recode.ensures.found (InShares c.args.self.now) (ap (λ (v : Vec ℕ Global). v.items) (sym (c.settle.ensures.kept.codes ∙ c.follow.ensures.kept.codes))) c.requires.found

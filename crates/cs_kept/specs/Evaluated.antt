@@ -1,0 +1,20 @@
+-- What it is that a query was evaluated. For private clauses.
+use Rattle.std.specs.Prelude.{◌≡◌, ℕ, List}
+use Rattle.cs_value.specs.Tree.{Tree, Pairs}
+use Rattle.cs_value.specs.View.{tree}
+use Rattle.cs_syntax.specs.Expression.{Expression}
+use Rattle.cs_meaning.specs.Looked.{query_looked}
+use Rattle.cs_meaning.specs.Values.{query_value}
+use Rattle.cs_codes.specs.Codes.{Seed, is_among}
+use Rattle.cs_kept.specs.Fits.{SameKeys}
+use Rattle.cs_kept.specs.Found.{has_code}
+use Rattle.cs_kept.specs.Keys.{keys_of}
+use Rattle.cs_kept.specs.declared.evaluated.Evaluated.{Evaluated}
+
+-- the answer is the value over the dataset, the keys are those that finding it looks up, and no
+-- other, and so are their codes
+pub record IsEvaluated (docs : List Tree) (e : Expression) (params : Pairs) (seed : Seed)
+    (v : Evaluated) : Type 0 where
+  pub answer : tree v.answer ≡ query_value docs params e
+  pub keys : SameKeys (keys_of v.keys) (query_looked docs params e)
+  pub coded : (c : ℕ) → is_among c v.keys.codes.items ≡ has_code seed c (keys_of v.keys)

@@ -1,0 +1,22 @@
+-- What contracts see of a last answer that is kept.
+use Rattle.cs_value.specs.Tree.{Tree, Pairs}
+use Rattle.cs_value.specs.View.{tree, fields}
+use Rattle.cs_syntax.specs.Expression.{Expression}
+use Rattle.cs_syntax.specs.Queries.{query}
+use Rattle.cs_kept.specs.declared.kept.Kept.{Kept}
+use Rattle.cs_kept.specs.declared.kept.Kept.TheVariants.{ByRecord, InRows, InShares}
+
+abbrev pub query_of : Kept → Expression
+query_of (ByRecord r) = query r.query
+query_of (InRows r) = query r.query
+query_of (InShares m) = query m.query
+
+abbrev pub params_of : Kept → Pairs
+params_of (ByRecord r) = fields r.params
+params_of (InRows r) = fields r.params
+params_of (InShares m) = fields m.params
+
+abbrev pub last_of : Kept → Tree
+last_of (ByRecord r) = tree r.last
+last_of (InRows r) = tree r.answer
+last_of (InShares m) = tree m.last

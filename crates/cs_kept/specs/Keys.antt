@@ -1,0 +1,17 @@
+-- What contracts see of the keys of an answer.
+use Rattle.std.specs.Prelude.{◌++◌, List, map}
+use Rattle.cs_view.specs.declared.key.Key.{Key}
+use Rattle.cs_view.specs.declared.key.Key.TheVariants.{Id}
+use Rattle.cs_kept.specs.declared.keys.Keys.{Keys}
+
+-- the ids among them, each once
+abbrev pub ids_of : Keys → List Key
+ids_of k = map (λ p. Id p.0) k.ids
+
+-- the ids, and the others; where the query is windowed, without its own key
+abbrev pub rest_of : Keys → List Key
+rest_of k = ids_of k ++ k.others
+
+-- all of them
+abbrev pub keys_of : Keys → List Key
+keys_of k = rest_of k ++ k.own

@@ -1,0 +1,8 @@
+pub mod Evaluated
+pub mod Fits
+pub mod Followed
+pub mod Found
+pub mod Kept
+pub mod Keys
+pub mod Mapped
+pub mod Rows

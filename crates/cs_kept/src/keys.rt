@@ -1,0 +1,138 @@
+//! The keys that finding an answer looked up, kept so that a change finds its id among them.
+ghost use Rattle.std.specs.Prelude.{◌≡◌, ◌++◌, ◌∷◌, ◌||◌, [], true, IfOk, OnOk, is_some, map};
+ghost use Rattle.std.specs.List.{list_any};
+ghost use Rattle.cs_view.specs.Changes.{are_changes, is_of_id};
+ghost use Rattle.cs_view.specs.Touched.{touched, touches};
+ghost use Rattle.cs_view.specs.View.{edit, edits};
+ghost use Rattle.cs_interest.specs.Interest.{interest_code};
+ghost use Rattle.cs_kept.specs.Fits.{SameKeys};
+ghost use Rattle.cs_kept.specs.Keys.{ids_of, keys_of, rest_of};
+
+use cs_interest::interest_code;
+use cs_value::{NoMemory, OrderedMap};
+use cs_view::{Change, Key, Record};
+use std::alloc::Global;
+use std::hash::RandomState;
+
+/// The keys that finding an answer looked up: ids, each once, apart from the others, so that a
+/// change finds its id among them; and the own key of a windowed query, apart from those that the
+/// steps behind its filter looked up. With the codes under which interest in them is held.
+#[derive(Drop)]
+pub(crate) struct Keys {
+    ids: OrderedMap<()>,
+    others: Record,
+    own: Record,
+    pub(crate) codes: Vec<u64>,
+}
+
+impl Keys {
+    /// The keys of the record.
+    pub(crate) fn of(alloc: Global, seed: &RandomState, looked: Record) -> Result<Keys, NoMemory>
+        ensures keys { IfOk result (λ keys. SameKeys (keys_of keys) looked) }
+        ensures own { IfOk result (λ keys. keys.own ≡ []) }
+        ensures codes { IfOk result
+            (λ keys. keys.codes.items ≡ map (interest_code seed.now) looked) }
+    {
+        let mut keys = Keys {
+            ids: OrderedMap::new(alloc),
+            others: Record::new(alloc),
+            own: Record::new(alloc),
+            codes: Vec::new(alloc),
+        };
+        for key in looked.into_keys() {
+            keys.add(seed, key)?;
+        }
+        Ok(keys)
+    }
+
+    /// The own key of a windowed query, and the keys of the record.
+    pub(crate) fn with(
+        alloc: Global,
+        seed: &RandomState,
+        own: Key,
+        looked: Record,
+    ) -> Result<Keys, NoMemory>
+        ensures rest { IfOk result (λ keys. SameKeys (rest_of keys) looked) }
+        ensures own { IfOk result (λ keys. keys.own ≡ own ∷ []) }
+        ensures codes { IfOk result
+            (λ keys. keys.codes.items ≡ map (interest_code seed.now) (looked ++ own ∷ [])) }
+    {
+        let mut keys = Keys::of(alloc, seed, looked)?;
+        keys.codes.push(interest_code(seed, &own))?;
+        keys.own.add(own)?;
+        Ok(keys)
+    }
+
+    // Adds the key and its code; an id that is there stays as it is.
+    fn add(&mut self, seed: &RandomState, key: Key) -> Result<(), NoMemory>
+        ensures keys { OnOk result (SameKeys (rest_of self.new) (rest_of self.old ++ key ∷ [])) }
+        ensures own { self.new.own ≡ self.old.own }
+        ensures codes { OnOk result
+            (self.new.codes.items ≡ self.old.codes.items ++ interest_code seed.now key ∷ []) }
+    {
+        self.codes.push(interest_code(seed, &key))?;
+        self.put_key(key)?;
+        Ok(())
+    }
+
+    // Puts the key beside the others.
+    fn put_key(&mut self, key: Key) -> Result<(), NoMemory>
+        ensures keys { OnOk result (SameKeys (rest_of self.new) (rest_of self.old ++ key ∷ [])) }
+        ensures own { self.new.own ≡ self.old.own }
+        ensures codes { self.new.codes ≡ self.old.codes }
+    {
+        match key {
+            Key::Id(id) => {
+                self.ids.insert(id, ())?;
+                Ok(())
+            }
+            other => self.others.add(other),
+        }
+    }
+
+    /// Whether some key is had by the document before or after some change. It takes no memory.
+    pub(crate) fn touched(&self, changes: &[Change]) -> bool
+        requires { are_changes (edits changes.now) ≡ true }
+        ensures { result ≡ touched (keys_of self.now) (edits changes.now) }
+    {
+        self.rest_touched(changes) || self.own.touched(changes)
+    }
+
+    /// The same of the keys without the own key of a windowed query.
+    pub(crate) fn rest_touched(&self, changes: &[Change]) -> bool
+        requires { are_changes (edits changes.now) ≡ true }
+        ensures { result ≡ touched (rest_of self.now) (edits changes.now) }
+    {
+        self.has_some_id(changes) || self.others.touched(changes)
+    }
+
+    // Whether some id is had by the document before or after some change.
+    fn has_some_id(&self, changes: &[Change]) -> bool
+        requires { are_changes (edits changes.now) ≡ true }
+        ensures { result ≡ touched (ids_of self.now) (edits changes.now) }
+    {
+        for change in changes {
+            if self.has_id(change) {
+                return true;
+            }
+        }
+        false
+    }
+
+    // Whether some id is had by the document before or after the change: these have its id, and so
+    // one of them has to stand, and its id to be there.
+    fn has_id(&self, change: &Change) -> bool
+        requires before { is_of_id (edit change.now).0 (edit change.now).1.0 ≡ true }
+        requires after { is_of_id (edit change.now).0 (edit change.now).1.1 ≡ true }
+        ensures { result ≡ list_any (λ key. touches key (edit change.now)) (ids_of self.now) }
+    {
+        stands(change) && self.ids.get(change.id.as_str()).is_some()
+    }
+}
+
+// Whether a document stands before the change or after it.
+fn stands(change: &Change) -> bool
+    ensures { result ≡ (is_some change.now.before || is_some change.now.after) }
+{
+    change.before.is_some() || change.after.is_some()
+}

@@ -1,0 +1,13 @@
+//! Last answers of live queries, each with what it takes to keep it as documents change.
+#![tactic(auto)]
+
+mod evaluated;
+mod kept;
+mod keys;
+mod mapped;
+mod recorded;
+mod rows;
+mod same;
+mod settling;
+
+pub use kept::Kept;

@@ -1,0 +1,218 @@
+//! Mapped queries, whose answers are kept hit by hit.
+ghost use Rattle.std.specs.Prelude.{◌≡◌, false, true, not, IfOk, OnOk};
+ghost use Rattle.cs_value.specs.Same.{same_tree};
+ghost use Rattle.cs_value.specs.View.{tree, fields};
+ghost use Rattle.cs_value.specs.Words.{list_of};
+ghost use Rattle.cs_syntax.specs.Queries.{query as query_of};
+ghost use Rattle.cs_view.specs.Changes.{are_changes, LeadTo, Before};
+ghost use Rattle.cs_view.specs.Dataset.{ascending};
+ghost use Rattle.cs_view.specs.Touched.{touched};
+ghost use Rattle.cs_view.specs.View.{edits};
+ghost use Rattle.cs_plan.specs.Simple.{is_simple};
+ghost use Rattle.cs_window.specs.Mapped.{is_mapped};
+ghost use Rattle.cs_kept.specs.Fits.{Answers, FitsShares, RefreshesKept};
+ghost use Rattle.cs_kept.specs.Found.{IsCoded, IsFound, KeepsOthers, codes_of};
+ghost use Rattle.cs_hits.specs.Shares.{AreShares, SharesFollow, share_docs, share_values};
+ghost use Rattle.cs_kept.specs.Mapped.{KeepsAllButCodes, KeepsAllButLast, KeepsAllButShares, mapped_keys};
+ghost use Rattle.cs_kept.specs.declared.kept.Kept.{Kept};
+
+use crate::same::is_same;
+use crate::settling::settle_each;
+use cs_eval::{hits_have_key, key_of};
+use cs_hits::{
+    Share, answer_of, codes_of, find_shares, follow_shares, renew_shares, shares_touched,
+};
+use cs_interest::Interest;
+use cs_syntax::Query;
+use cs_value::{Fields, NoMemory, Steps, Val};
+use cs_view::laws::{changes_lead_back_and_on, filter_follows_changes, untouched_selects_the_same};
+use cs_view::{Change, Key, View, is_touched};
+use cs_window::{looked_settles_share, mapped_is_filtered, mapped_is_shares_of_hits};
+use std::alloc::Global;
+use std::hash::RandomState;
+use std::mem;
+use std::sync::ledger::Ledger;
+
+/// A mapped query with its last answer, its own key, the shares of its hits in the answer by
+/// ascending id, and the codes under which interest is held in its key and in those that finding
+/// the shares looked up.
+#[derive(Drop)]
+pub struct Mapped {
+    pub(crate) query: Query,
+    pub(crate) params: Fields,
+    pub(crate) last: Val,
+    pub(crate) own: Key,
+    pub(crate) shares: Vec<Share>,
+    pub(crate) codes: Vec<u64>,
+}
+
+impl Mapped {
+    /// The query, which is not simple, with its value over the view as its answer.
+    pub(crate) fn build<V: View<L>, L: Ledger>(
+        alloc: Global,
+        seed: &RandomState,
+        query: Query,
+        params: Fields,
+        view: &V,
+        steps: &mut Steps<L>,
+    ) -> Result<Mapped, NoMemory>
+        requires compound { is_simple (query_of query) ≡ false }
+        requires mapped { is_mapped (query_of query) ≡ true }
+        ensures answers { IfOk result (λ m. Answers (V.docs view.now) (query_of query)
+            (fields params) (Kept.InShares m)) }
+        ensures coded { IfOk result (λ m. IsCoded seed.now (Kept.InShares m)) }
+    {
+        mapped_is_filtered();
+        mapped_is_shares_of_hits();
+        let shares = find_shares(alloc, &query, &params, view, steps)?;
+        let last = answer_of(alloc, &shares)?;
+        let own = key_of(alloc, &query, &params)?;
+        let codes = codes_of(alloc, seed, &own, &shares)?;
+        Ok(Mapped {
+            query,
+            params,
+            last,
+            own,
+            shares,
+            codes,
+        })
+    }
+
+    // Whether the changes touch one of its keys.
+    fn touched(&self, changes: &[Change]) -> bool
+        ensures { result ≡ touched (mapped_keys self.now) (edits changes.now) }
+    {
+        is_touched(&self.own, changes) || shares_touched(&self.shares, changes)
+    }
+
+    // Brings the shares to the dataset after the changes: whether one of them is not as it was.
+    fn follow<V: View<L>, L: Ledger>(
+        &mut self,
+        alloc: Global,
+        view: &V,
+        changes: &[Change],
+        steps: &mut Steps<L>,
+    ) -> Result<bool, NoMemory>
+        requires mapped { is_mapped (query_of self.old.query) ≡ true }
+        requires changes { are_changes (edits changes.now) ≡ true }
+        requires led { LeadTo (V.docs view.now) (edits changes.now) }
+        requires ascending { ascending (share_docs self.old.shares.items) ≡ true }
+        requires shares { AreShares (Before (V.docs view.now) (edits changes.now))
+            (query_of self.old.query) (fields self.old.params) self.old.shares.items }
+        ensures follow { OnOk result (SharesFollow (V.docs view.now) (edits changes.now)
+            (query_of self.old.query) (fields self.old.params) self.old.shares.items
+            self.new.shares.items) }
+        ensures same { IfOk result
+            (λ b. b ≡ false → self.new.shares.items ≡ self.old.shares.items) }
+        ensures kept { KeepsAllButShares self.old self.new }
+    {
+        let shares = mem::replace(&mut self.shares, Vec::new(alloc));
+        let (renewed, anew) = renew_shares(
+            alloc,
+            &self.query,
+            &self.params,
+            shares,
+            view,
+            changes,
+            steps,
+        )?;
+        self.shares = renewed;
+        let moved = follow_shares(
+            alloc,
+            &self.query,
+            &self.params,
+            &mut self.shares,
+            view,
+            changes,
+            steps,
+        )?;
+        Ok(anew | moved)
+    }
+
+    // Makes the answer of the shares: whether it is another tree now. Where there are as many as
+    // before, what is the same stays in its place.
+    fn settle(&mut self, alloc: Global) -> Result<bool, NoMemory>
+        ensures settled { OnOk result
+            (tree self.new.last ≡ list_of (share_values self.new.shares.items)) }
+        ensures stale { IfOk result
+            (λ b. b ≡ not (same_tree (tree self.new.last) (tree self.old.last))) }
+        ensures kept { KeepsAllButLast self.old self.new }
+    {
+        if let Val::List(list) = &mut self.last {
+            if list.len() == self.shares.len() {
+                return settle_each(alloc, list, &self.shares);
+            }
+        }
+        let answer = answer_of(alloc, &self.shares)?;
+        let stale = !is_same(&answer, &self.last);
+        self.last = answer;
+        Ok(stale)
+    }
+
+    // Brings the number from the codes that are kept to those of the keys that it has now.
+    fn recode(
+        &mut self,
+        alloc: Global,
+        number: u64,
+        interest: &mut Interest,
+    ) -> Result<(), NoMemory>
+        ensures found { OnOk result ((k : Kept) → codes_of k ≡ self.old.codes.items
+            → IsFound interest.old number k
+            → IsFound interest.new number (Kept.InShares self.new)) }
+        ensures others { OnOk result (KeepsOthers number interest.old interest.new) }
+        ensures kept { KeepsAllButCodes self.old self.new }
+    {
+        let codes = codes_of(alloc, interest.seed(), &self.own, &self.shares)?;
+        if codes.as_slice() == self.codes.as_slice() {
+            return Ok(());
+        }
+        interest.leave(number, &self.codes);
+        interest.enter(number, &codes)?;
+        self.codes = codes;
+        Ok(())
+    }
+
+    /// Brings the answer to the dataset after the changes, and the number to the keys that finding
+    /// it looks up now: whether it is another tree now. The shares of documents that changed are
+    /// found anew, and those of which the changes touch what finding them looked up. Where no
+    /// change touches a key, all stays as it is and nothing is asked of the view.
+    pub(crate) fn refresh<V: View<L>, L: Ledger>(
+        &mut self,
+        alloc: Global,
+        number: u64,
+        interest: &mut Interest,
+        view: &V,
+        changes: &[Change],
+        steps: &mut Steps<L>,
+    ) -> Result<bool, NoMemory>
+        requires changes { are_changes (edits changes.now) ≡ true }
+        requires led { LeadTo (V.docs view.now) (edits changes.now) }
+        requires fits { FitsShares (Before (V.docs view.now) (edits changes.now)) self.old }
+        requires found { IsFound interest.old number (Kept.InShares self.old) }
+        ensures refreshed { OnOk result (RefreshesKept (V.docs view.now) (edits changes.now)
+            (Kept.InShares self.old) (Kept.InShares self.new)) }
+        ensures stale { IfOk result
+            (λ b. b ≡ not (same_tree (tree self.new.last) (tree self.old.last))) }
+        ensures quiet { touched (mapped_keys self.old) (edits changes.now) ≡ false
+            → steps.new ≡ steps.old }
+        ensures found { OnOk result (IsFound interest.new number (Kept.InShares self.new)) }
+        ensures others { OnOk result (KeepsOthers number interest.old interest.new) }
+    {
+        looked_settles_share();
+        mapped_is_filtered();
+        mapped_is_shares_of_hits();
+        untouched_selects_the_same();
+        changes_lead_back_and_on();
+        filter_follows_changes();
+        hits_have_key();
+        if !self.touched(changes) {
+            return Ok(false);
+        }
+        if !self.follow(alloc, view, changes, steps)? {
+            return Ok(false);
+        }
+        let stale = self.settle(alloc)?;
+        self.recode(alloc, number, interest)?;
+        Ok(stale)
+    }
+}

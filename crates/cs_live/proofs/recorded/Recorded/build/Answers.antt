@@ -1,4 +1,0 @@
-use Rattle.cs_live.proofs.recorded.Recorded.build.Goals as goal
-
-pub returns-clause-coded : goal.returns-clause-coded
-returns-clause-coded g c = c.in_ok-found.ensures.coded
