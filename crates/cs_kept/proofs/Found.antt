@@ -1,5 +1,5 @@
 -- That a last answer is found by its keys, once its number was put under them or taken out.
-use Rattle.std.proofs.Common.{◌≡◌, ◌∙◌, ℕ, List, [], ◌∷◌, Bool, true, false, cond, ◌&&◌, refl, sym, ap, subst, nat_eq, eq-eqb, arith}
+use Rattle.std.proofs.Common.{◌≡◌, ◌∙◌, ℕ, List, [], ◌∷◌, Bool, true, false, cond, ◌&&◌, refl, sym, ap, subst, nat_eq, eq-eqb}
 use Rattle.cs_codes.specs.Codes.{Seed, is_among}
 use Rattle.cs_interest.specs.Interest.{holds, Entered, Left}
 use Rattle.cs_interest.specs.declared.interest.Interest.{Interest}

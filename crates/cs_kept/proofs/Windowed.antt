@@ -13,7 +13,7 @@ use Rattle.cs_view.specs.Keys.{Sel}
 use Rattle.cs_view.specs.Laws.{ChangesLeadBackAndOn, FilterFollowsChanges, UntouchedSelectsTheSame}
 use Rattle.cs_view.specs.Touched.{touched}
 use Rattle.cs_view.specs.declared.key.Key.{Key}
-use Rattle.cs_plan.specs.Simple.{is_simple, query_key}
+use Rattle.cs_plan.specs.Simple.{query_key}
 use Rattle.cs_meaning.specs.Hits.{hits, tail_looked, tail_over}
 use Rattle.cs_meaning.specs.Laws.{HitsHaveKey, LookedSettlesValue}
 use Rattle.cs_meaning.specs.Looked.{query_looked}
@@ -22,7 +22,7 @@ use Rattle.cs_window.specs.Laws.{LookedSettlesTail, WindowedIsFiltered, Windowed
 use Rattle.cs_window.specs.Windowed.{is_windowed}
 use Rattle.cs_codes.specs.Codes.{Seed}
 use Rattle.cs_hits.proofs.Brought.{stays}
-use Rattle.cs_kept.specs.Fits.{FitsRecord, FitsWindow, RefreshesKept, SameKeys}
+use Rattle.cs_kept.specs.Fits.{is_by_hits, FitsRecord, FitsWindow, RefreshesKept, SameKeys}
 use Rattle.cs_hits.specs.Behind.{Follows}
 use Rattle.cs_kept.specs.Followed.{AreHeld, CanFollow, Followed, FollowedBy, KeepsAnswer, StayBy, Stays, StaysSettled}
 use Rattle.cs_hits.specs.Behind.{AreBehind}
@@ -144,7 +144,7 @@ module _ (docs : List Tree) (cs : List Edit) (sorted : ascending docs ≡ true) 
 -- ---- a record that was found anew, or stays
 abbrev pub FitsFor : List Tree → Recorded → Expression → Pairs → Type 0
 FitsFor docs r e params =
-    ((is_simple e ≡ false) × (tree r.last ≡ query_value docs params e))
+    ((is_by_hits e ≡ false) × (tree r.last ≡ query_value docs params e))
     × (SameKeys (keys_of r.keys) (query_looked docs params e) × IfSome r.behind (FitsWindow docs e params (rest_of r.keys)))
 
 fits-for : (docs : List Tree) (r : Recorded) (e : Expression) (params : Pairs) → query r.query ≡ e → fields r.params ≡ params → FitsFor docs r e params → FitsRecord docs r
@@ -183,7 +183,7 @@ held docs cs sorted changes leads untouched back follows old mid keeps fits foll
 
 -- an answer that was found anew
 pub found-anew : (docs : List Tree) (cs : List Edit) (old mid new : Recorded) (v : Evaluated) (seed : Seed) → query new.query ≡ query old.query → fields new.params ≡ fields old.params
-    → query mid.query ≡ query old.query → fields mid.params ≡ fields old.params → new.last ≡ v.answer → new.keys ≡ v.keys → is_simple (query old.query) ≡ false
+    → query mid.query ≡ query old.query → fields mid.params ≡ fields old.params → new.last ≡ v.answer → new.keys ≡ v.keys → is_by_hits (query old.query) ≡ false
     → IsEvaluated docs (query mid.query) (fields mid.params) seed v → IfSome new.behind (FitsWindow docs (query mid.query) (fields mid.params) (rest_of v.keys)) → touched (keys_of old.keys) cs ≡ true
     → RefreshesKept docs cs (ByRecord old) (ByRecord new)
 found-anew docs cs old mid new v seed q p mq mp last keys compound evaluated fits hot =

@@ -1,6 +1,6 @@
 -- When a last answer that is kept fits a dataset: it is the value over it, and what is kept beside
 -- it belongs to it. This project's profile.
-use Rattle.std.specs.Prelude.{◌≡◌, List, false, IsTrue, IfSome, Contains, ⊤}
+use Rattle.std.specs.Prelude.{Bool, ◌||◌, ◌≡◌, List, false, IsTrue, IfSome, Contains, ⊤}
 use Rattle.cs_value.specs.Tree.{Tree, Pairs}
 use Rattle.cs_value.specs.View.{tree, fields}
 use Rattle.cs_value.specs.Words.{list_of}
@@ -43,10 +43,14 @@ pub record FitsWindow (docs : List Tree) (e : Expression) (ps : Pairs) (rest : L
   pub enough : AreEnoughBehind docs e ps b
   pub looked : SameKeys rest (tail_looked docs e ps (hits e ps docs))
 
--- an answer that is kept by its record fits a dataset: its query is not simple, it is the value
--- over the dataset, and the keys are those that finding it looks up, and no other
+-- a query whose answer is kept with its hits: it is simple, or mapped
+abbrev pub is_by_hits : Expression → Bool
+is_by_hits e = is_simple e || is_mapped e
+
+-- an answer that is kept by its record fits a dataset: its query is neither simple nor mapped, it is
+-- the value over the dataset, and the keys are those that finding it looks up, and no other
 pub record FitsRecord (docs : List Tree) (r : Recorded) : Type 0 where
-  pub compound : is_simple (query r.query) ≡ false
+  pub compound : is_by_hits (query r.query) ≡ false
   pub last : tree r.last ≡ query_value docs (fields r.params) (query r.query)
   pub keys : SameKeys (keys_of r.keys) (query_looked docs (fields r.params) (query r.query))
   pub behind : IfSome r.behind

@@ -6,10 +6,9 @@ ghost use Rattle.cs_syntax.specs.Queries.{query as query_of};
 ghost use Rattle.cs_view.specs.Changes.{are_changes, LeadTo, Before};
 ghost use Rattle.cs_view.specs.Touched.{touched};
 ghost use Rattle.cs_view.specs.View.{edits};
-ghost use Rattle.cs_plan.specs.Simple.{is_simple};
 ghost use Rattle.cs_window.specs.Windowed.{is_windowed};
 ghost use Rattle.cs_kept.specs.Evaluated.{IsEvaluated};
-ghost use Rattle.cs_kept.specs.Fits.{Answers, FitsRecord, FitsWindow, RefreshesKept};
+ghost use Rattle.cs_kept.specs.Fits.{is_by_hits, Answers, FitsRecord, FitsWindow, RefreshesKept};
 ghost use Rattle.cs_kept.specs.Followed.{AreHeld, CanFollow, Followed, KeepsAnswer, StaysSettled};
 ghost use Rattle.cs_kept.specs.Found.{IsCoded, IsFound, KeepsOthers};
 ghost use Rattle.cs_kept.specs.Keys.{keys_of, rest_of};
@@ -44,7 +43,7 @@ pub struct Recorded {
 }
 
 impl Recorded {
-    /// The query, which is not simple, with its value over the view as its answer.
+    /// The query, which is neither simple nor mapped, with its value over the view as its answer.
     pub(crate) fn build<V: View<L>, L: Ledger>(
         alloc: Global,
         seed: &RandomState,
@@ -53,7 +52,7 @@ impl Recorded {
         view: &V,
         steps: &mut Steps<L>,
     ) -> Result<Recorded, NoMemory>
-        requires compound { is_simple (query_of query) ≡ false }
+        requires compound { is_by_hits (query_of query) ≡ false }
         ensures answers { IfOk result (λ r. Answers (V.docs view.now) (query_of query)
             (fields params) (Kept.ByRecord r)) }
         ensures coded { IfOk result (λ r. IsCoded seed.now (Kept.ByRecord r)) }
@@ -80,7 +79,7 @@ impl Recorded {
         view: &V,
         steps: &mut Steps<L>,
     ) -> Result<Recorded, NoMemory>
-        requires compound { is_simple (query_of query) ≡ false }
+        requires compound { is_by_hits (query_of query) ≡ false }
         requires windowed { is_windowed (query_of query) ≡ true }
         ensures answers { IfOk result (λ r. Answers (V.docs view.now) (query_of query)
             (fields params) (Kept.ByRecord r)) }

@@ -2,7 +2,7 @@
 use Rattle.std.proofs.Common.{◌≡◌, ◌∙◌, ℕ, zero, suc, ◌<◌, List, [], ◌∷◌, length, get_or, map, true, sym, true≢false, arith}
 use Rattle.cs_value.specs.Tree.{Tree}
 use Rattle.cs_view.specs.Changes.{Edit}
-use Rattle.cs_view.proofs.Booleans.{and-left, and-right}
+use Rattle.cs_view.proofs.Booleans.{and-left, and-right, or-left}
 use Rattle.cs_plan.specs.Simple.{is_simple}
 use Rattle.cs_kept.specs.Kept.{query_of}
 use Rattle.cs_live.specs.Entries.{entries, live_query}
@@ -26,7 +26,7 @@ simple_at (x ∷ xs) (suc j) e low h =
 -- one that is simple is kept in rows
 kept_quiet : (docs : List Tree) (cs : List Edit) (k : Kept) → FitsKept docs k
     → is_simple (query_of k) ≡ true → IsQuiet cs k
-kept_quiet docs cs (ByRecord r) fits h = absurd (true≢false (sym h ∙ fits.compound))
+kept_quiet docs cs (ByRecord r) fits h = absurd (true≢false (sym h ∙ or-left _ _ fits.compound))
 kept_quiet docs cs (InRows r) fits h = tt
 kept_quiet docs cs (InShares m) fits h = absurd (true≢false (sym h ∙ fits.compound))
 

@@ -1,4 +1,4 @@
-use Rattle.std.proofs.Common.{◌≡◌, map, set, get_or, true, sym, ap, ◌∙◌}
+use Rattle.std.proofs.Common.{◌≡◌, map, set, get_or, sym, ap, ◌∙◌}
 use Rattle.std.proofs.lemmas.List.{map-set, set-get_or}
 use Rattle.cs_value.specs.View.{tree}
 use Rattle.cs_view.proofs.Sames.{same-one}
