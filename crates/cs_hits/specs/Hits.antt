@@ -1,8 +1,11 @@
 -- What contracts see of the documents that make a filter true, of which an answer is made. This
 -- project's profile.
 use Rattle.std.specs.Prelude.{◌≡◌, List, filter, map, option_map, IfSome, Option, Some, None}
+use Rattle.std.specs.List.{AllByRecursion}
 use Rattle.cs_value.specs.Tree.{Tree, Pairs}
 use Rattle.cs_syntax.specs.Expression.{Expression}
+use Rattle.cs_view.specs.Changes.{Edit}
+use Rattle.cs_view.specs.Dataset.{At}
 use Rattle.cs_view.specs.View.{doc}
 use Rattle.cs_meaning.specs.Hits.{hits}
 use Rattle.cs_window.specs.Window.{is_near, IsBound}
@@ -40,3 +43,7 @@ pub record AreHits (docs : List Tree) (e : Expression) (params : Pairs) (h : Hit
   pub are : docs_of h ≡ hits e params docs
   pub near : AreNear e params h
   pub enough : AreEnough e params h
+
+-- no document stands under an id under which none stood before the changes
+abbrev pub NoneIsNew : List Edit → List Tree → Type 0
+NoneIsNew cs docs = AllByRecursion (λ c. c.1.0 ≡ None → At c.0 docs ≡ None) cs

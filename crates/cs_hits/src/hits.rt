@@ -1,15 +1,15 @@
 //! The documents that make a filter true, of which an answer is made, kept as documents change.
-ghost use Rattle.std.specs.Prelude.{◌≡◌, ◌≤◌, ◌+◌, false, true, map, IfOk, OnOk};
+ghost use Rattle.std.specs.Prelude.{◌≡◌, ◌≤◌, ◌+◌, None, false, true, map, IfOk, OnOk};
 ghost use Rattle.cs_value.specs.Tree.{Pairs};
 ghost use Rattle.cs_value.specs.View.{fields};
 ghost use Rattle.cs_syntax.specs.Expression.{Expression};
 ghost use Rattle.cs_syntax.specs.Queries.{query as query_of};
-ghost use Rattle.cs_view.specs.Changes.{After, changes_where};
-ghost use Rattle.cs_view.specs.Dataset.{ascending, kept_if, placed, with_doc, without};
+ghost use Rattle.cs_view.specs.Changes.{After, are_changes, changes_where};
+ghost use Rattle.cs_view.specs.Dataset.{At, ascending, kept_if, placed, with_doc, without};
 ghost use Rattle.cs_view.specs.View.{doc as document, edit, edits};
 ghost use Rattle.cs_meaning.specs.Hits.{cost, is_hit};
 ghost use Rattle.cs_window.specs.Windowed.{is_filtered};
-ghost use Rattle.cs_hits.specs.Hits.{AreEnough, AreHits, AreNear, KeepsBound, docs_of, settling};
+ghost use Rattle.cs_hits.specs.Hits.{AreEnough, AreHits, AreNear, KeepsBound, NoneIsNew, docs_of, settling};
 
 use crate::held::{put, remove};
 use crate::near::{Near, is_enough};
@@ -113,6 +113,8 @@ impl Hits {
         requires filtered { is_filtered (query_of query.now) ≡ true }
         requires ascending { ascending (docs_of self.old) ≡ true }
         requires near { AreNear (query_of query.now) (fields params.now) self.old }
+        requires new { (edit change.now).1.0 ≡ None
+            → At (edit change.now).0 (docs_of self.old) ≡ None }
         ensures placed { OnOk result (docs_of self.new ≡ placed (edit change.now).0
             (kept_if (is_hit (query_of query.now) (fields params.now)) (edit change.now).1.1)
             (docs_of self.old)) }
@@ -124,6 +126,10 @@ impl Hits {
             if hit(alloc, query, params, doc)? {
                 return self.put(alloc, query, params, doc);
             }
+        }
+        // What is new was not among them.
+        if change.before.is_none() {
+            return Ok(false);
         }
         Ok(self.remove(&change.id))
     }
@@ -140,6 +146,8 @@ impl Hits {
         requires filtered { is_filtered (query_of query.now) ≡ true }
         requires ascending { ascending (docs_of self.old) ≡ true }
         requires near { AreNear (query_of query.now) (fields params.now) self.old }
+        requires changes { are_changes (edits changes.now) ≡ true }
+        requires new { NoneIsNew (edits changes.now) (docs_of self.old) }
         ensures docs { OnOk result (docs_of self.new ≡ After (docs_of self.old) (changes_where
             (is_hit (query_of query.now) (fields params.now)) (edits changes.now))) }
         ensures near { OnOk result (AreNear (query_of query.now) (fields params.now) self.new) }

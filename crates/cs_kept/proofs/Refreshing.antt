@@ -10,7 +10,10 @@ use Rattle.cs_view.specs.Laws.{ChangesLeadBackAndOn, FilterFollowsChanges}
 use Rattle.cs_meaning.specs.Laws.{SimpleIsTailOfHits}
 use Rattle.cs_meaning.specs.Hits.{hits, tail}
 use Rattle.cs_plan.specs.Simple.{is_simple}
+use Rattle.cs_view.proofs.Changed.{ascending-Before}
+use Rattle.cs_hits.specs.Hits.{NoneIsNew}
 use Rattle.cs_hits.proofs.Brought.{hits-after, hits-ascend}
+use Rattle.cs_hits.proofs.Newly.{none-is-new}
 use Rattle.cs_kept.specs.Fits.{FitsRows, RefreshesKept}
 use Rattle.cs_kept.specs.Rows.{rows, is_row, AsksTheSame, IsSettled}
 use Rattle.cs_kept.specs.declared.kept.Kept.TheVariants.{InRows}
@@ -22,6 +25,11 @@ asks-on old cur new a b = record { query = b.query ∙ a.query; params = b.param
 -- rows that fit the dataset before ascend
 pub rows-ascend : (docs : List Tree) (cs : List Edit) → ascending docs ≡ true → (r : Rows) → FitsRows (Before docs cs) r → ascending (rows r) ≡ true
 rows-ascend docs cs h r fits = hits-ascend docs cs h (query r.query) (fields r.params) (rows r) fits.rows
+
+-- and none of them is new
+pub rows-new : (docs : List Tree) (cs : List Edit) → ascending docs ≡ true → are_changes cs ≡ true → LeadTo docs cs → ChangesLeadBackAndOn → (r : Rows) → FitsRows (Before docs cs) r → NoneIsNew cs (rows r)
+rows-new docs cs h changes leads back r fits =
+    subst (NoneIsNew cs) (sym fits.rows) (none-is-new (is_row r) (Before docs cs) (ascending-Before docs cs h) cs (back docs cs h changes leads).1)
 
 -- rows that were refreshed fit the dataset after
 pub rows-refreshed : SimpleIsTailOfHits → ChangesLeadBackAndOn → FilterFollowsChanges

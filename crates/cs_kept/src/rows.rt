@@ -12,7 +12,7 @@ ghost use Rattle.cs_meaning.specs.Hits.{cost};
 ghost use Rattle.cs_window.specs.Windowed.{is_filtered};
 ghost use Rattle.cs_kept.specs.Fits.{Answers, FitsRows, RefreshesKept};
 ghost use Rattle.cs_kept.specs.Found.{IsCoded, hit_key};
-ghost use Rattle.cs_hits.specs.Hits.{AreNear};
+ghost use Rattle.cs_hits.specs.Hits.{AreNear, NoneIsNew};
 ghost use Rattle.cs_kept.specs.Rows.{rows, is_row, AsksTheSame, IsSettled};
 ghost use Rattle.cs_kept.specs.declared.kept.Kept.{Kept};
 
@@ -114,6 +114,8 @@ impl Rows {
         requires filtered { is_filtered (query_of self.old.query) ≡ true }
         requires ascending { ascending (rows self.old) ≡ true }
         requires settled { IsSettled self.old }
+        requires changes { are_changes (edits changes.now) ≡ true }
+        requires new { NoneIsNew (edits changes.now) (rows self.old) }
         ensures rows { OnOk result (rows self.new
             ≡ After (rows self.old) (changes_where (is_row self.old) (edits changes.now))) }
         ensures settled { OnOk result (IsSettled self.new) }

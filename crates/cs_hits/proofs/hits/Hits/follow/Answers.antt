@@ -1,4 +1,4 @@
-use Rattle.std.proofs.Common.{◌≡◌, ◌∙◌, ◌+◌, ◌-◌, ℕ, ap, subst, drop, arith}
+use Rattle.std.proofs.Common.{◌≡◌, ◌∙◌, ◌+◌, ◌-◌, ℕ, suc, ap, subst, drop, arith}
 use Rattle.cs_value.specs.View.{fields}
 use Rattle.cs_syntax.specs.Queries.{query}
 use Rattle.cs_view.specs.Changes.{After, changes_where}
@@ -8,6 +8,7 @@ use Rattle.cs_view.proofs.Booleans.{or-left, or-right}
 use Rattle.cs_view.proofs.Datasets.{ascending-placed}
 use Rattle.cs_meaning.specs.Hits.{is_hit}
 use Rattle.cs_hits.proofs.Brought.{docs-more}
+use Rattle.cs_hits.proofs.Newly.{new-now}
 use Rattle.cs_hits.specs.Hits.{docs_of}
 use Rattle.cs_hits.proofs.hits.Hits.follow.Goals as goal
 
@@ -28,6 +29,15 @@ loop-left-preserved c =
       same = λ h. moved.same (or-right _ _ h) ∙ inv.same (or-left _ _ h);
       bound = moved.bound ∙ inv.bound;
     }
+
+pub place-requires-clause-new : goal.place-requires-clause-new
+place-requires-clause-new c none =
+    let p = is_hit (query c.args.query.now) (fields c.args.params.now) in
+    let old = docs_of c.args.self.now in let cur = docs_of c.loop-left.self in
+    let changes = c.args.changes.now in let i = c.loop-left.left - 1 in
+    let next : c.loop-left.left ≡ suc i = omega arith in
+    new-now p old cur changes i c.index-changes-left.result (omega arith) c.index-changes-left.is c.requires.changes c.requires.new
+    (subst (λ (k : ℕ). cur ≡ After old (changes_where p (edits (drop k changes)))) next c.loop-left.invariant.placed) none
 
 pub returns-clause-docs : goal.returns-clause-docs
 returns-clause-docs c =
