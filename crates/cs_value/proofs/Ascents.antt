@@ -120,12 +120,14 @@ module _ {V : Type 0} where
   pub moved : (all row rest tree new : Entries V) (e : Name × V) → Ascend all → row ++ tree ≡ all
       → row ≡ rest ++ e ∷ [] → new ≡ insert_entry compares tree e.0 e.1
       → (rest ++ new ≡ all) × (length rest + length new ≡ length row + length tree)
+      × (new ≡ e ∷ tree)
   moved all row rest tree new e s is last made =
       let split : rest ++ e ∷ tree ≡ all = sym (append_assoc rest (e ∷ []) tree)
       ∙ ap (λ es. es ++ tree) (sym last) ∙ is in
       let first = put_first e tree (ascend_later rest (e ∷ tree) (subst Ascend (sym split) s)) in (
         ap (λ es. rest ++ es) (made ∙ first) ∙ split,
         omega (arith, ap length (made ∙ first), ap length last, length-append rest (e ∷ [])),
+        made ∙ first,
       )
 
   module _ (text : List ℕ) where

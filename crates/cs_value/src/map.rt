@@ -8,6 +8,7 @@ ghost use Rattle.cs_value.specs.Entries.{Name, Ascend, compares};
 
 mod grow;
 pub(crate) mod iter;
+pub(crate) mod name;
 mod row;
 pub(crate) mod stored;
 mod tree;

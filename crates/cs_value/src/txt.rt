@@ -1,12 +1,12 @@
 //! Texts.
 ghost use Rattle.std.proofs.Common.{rules};
-ghost use Rattle.std.specs.Prelude.{◌≡◌, ◌==◌, ◌≤◌, length, IfOk, string_bytes};
+ghost use Rattle.std.specs.Prelude.{◌≡◌, ◌==◌, ◌≤◌, length, IfOk, IfSome, string_bytes};
 ghost use Rattle.std.specs.Ordering.{nat_cmp, as_partial_cmp};
 ghost use Rattle.std.specs.Cmp.{partial_order_from_own_ties};
 ghost use Rattle.std.specs.Cmp.Lexicographic.{slice_cmp, pointwise};
 ghost use Rattle.std.specs.Cmp.Rules.{comparing};
 
-mod inside;
+pub(crate) mod inside;
 
 use crate::memory::NoMemory;
 use inside::Short;
@@ -27,7 +27,7 @@ pub struct Txt {
 
 #[derive(Drop)]
 enum Held {
-    Inside(Short),
+    Inside(Short<MOST_INSIDE>),
     Outside(String),
 }
 
@@ -88,6 +88,27 @@ impl Txt {
             Held::Outside(text) => Held::Outside(String::from_str(alloc, text.as_str())?),
         };
         Ok(Txt { held })
+    }
+
+    /// The text where it is held in 14 places. `None` where it is longer, and may be where it is not.
+    pub(crate) fn fitted<const N: usize>(&self) -> Option<Short<N>>
+        requires { N ≤ 30 }
+        ensures { IfSome result (λ short. short ≡ self.now) }
+    {
+        match &self.held {
+            Held::Inside(text) => text.narrowed(),
+            Held::Outside(_) => None,
+        }
+    }
+
+    /// The text that is held in fewer places.
+    pub(crate) fn widened<const N: usize>(text: &Short<N>) -> Txt
+        requires { N ≤ 30 }
+        ensures { result ≡ text.now }
+    {
+        Txt {
+            held: Held::Inside(text.widened()),
+        }
     }
 
     /// The text, borrowed.

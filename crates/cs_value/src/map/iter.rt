@@ -4,6 +4,7 @@ ghost use Rattle.std.specs.Iterator.{at_most};
 ghost use Rattle.std_collections.specs.Map.Iter.{TakesFirst, deref_pair};
 ghost use Rattle.cs_value.specs.Entries.{named};
 
+use super::name::Name;
 use crate::memory::NoMemory;
 use crate::txt::Txt;
 use std::alloc::Global;
@@ -13,7 +14,7 @@ use std::{slice, vec};
 
 #[derive(Drop)]
 enum Lent<'a, V> {
-    LentRow(slice::Iter<'a, (Txt, V)>),
+    LentRow(slice::Iter<'a, (Name, V)>),
     LentTree(btree_map::Iter<'a, String, V>),
 }
 
@@ -38,7 +39,7 @@ impl<'a, V> Model for Iter<'a, V> {
 }
 
 impl<'a, V> Iter<'a, V> {
-    pub(super) fn of_row(row: &'a [(Txt, V)]) -> Iter<'a, V>
+    pub(super) fn of_row(row: &'a [(Name, V)]) -> Iter<'a, V>
         ensures rest { result ≡ row.now }
         ensures fits { length row.now < 2 ^ 63 }
     {
@@ -107,7 +108,7 @@ impl<'a, V> Iterator for Iter<'a, V> {
 
 #[derive(Drop)]
 enum Given<V> {
-    GivenRow(vec::IntoIter<(Txt, V)>),
+    GivenRow(vec::IntoIter<(Name, V)>),
     GivenTree(btree_map::IntoIter<String, V>),
 }
 
@@ -132,7 +133,7 @@ impl<V> Model for IntoIter<V> {
 }
 
 impl<V> IntoIter<V> {
-    pub(super) fn of_row(row: Vec<(Txt, V)>) -> IntoIter<V>
+    pub(super) fn of_row(row: Vec<(Name, V)>) -> IntoIter<V>
         ensures { result ≡ row.items }
     {
         IntoIter {
@@ -160,7 +161,10 @@ impl<V: Drop> Iterator for IntoIter<V> {
 
     fn next(&mut self) -> Option<(Txt, V)> {
         match &mut self.form {
-            Given::GivenRow(pairs) => pairs.next(),
+            Given::GivenRow(pairs) => match pairs.next() {
+                Some((name, value)) => Some((name.into_txt(), value)),
+                None => None,
+            },
             Given::GivenTree(pairs) => match pairs.next() {
                 Some((name, value)) => Some((Txt::from_string(name), value)),
                 None => None,

@@ -8,6 +8,7 @@ ghost use Rattle.std.specs.Option.{option_copied};
 ghost use Rattle.std_collections.specs.Layout.BTreeMap.{seek};
 ghost use Rattle.cs_value.specs.Entries.{Ascend, compares};
 
+use super::name::Name;
 use crate::memory::NoMemory;
 use crate::txt::Txt;
 use std::alloc::Global;
@@ -19,7 +20,7 @@ const STEP: usize = 4;
 
 /// The place of the name, or else where it would go. The search stops at the first name that is not
 /// below it.
-pub(super) fn place<V>(row: &[(Txt, V)], name: &str) -> Result<usize, usize>
+pub(super) fn place<V>(row: &[(Name, V)], name: &str) -> Result<usize, usize>
     ensures place { result ≡ seek (compares name.now) row.now }
     ensures within { IsSearchInRange result (length row.now) }
 {
@@ -35,7 +36,7 @@ pub(super) fn place<V>(row: &[(Txt, V)], name: &str) -> Result<usize, usize>
 
 /// The value of the name. `None` exactly where the row lacks the name. It asks whether names are
 /// equal and not how they are ordered, since most that differ do so in their lengths.
-pub(super) fn get<'a, V>(row: &'a [(Txt, V)], name: &str) -> Option<&'a V>
+pub(super) fn get<'a, V>(row: &'a [(Name, V)], name: &str) -> Option<&'a V>
     ensures { option_copied result ≡ lookup (is_at (compares name.now)) row.now }
 {
     for (other, value) in row {
@@ -47,7 +48,7 @@ pub(super) fn get<'a, V>(row: &'a [(Txt, V)], name: &str) -> Option<&'a V>
 }
 
 /// Takes the name out, and gives its value. `None` exactly where the row lacks the name.
-pub(super) fn take<V: Drop>(row: &mut Vec<(Txt, V)>, name: &str) -> Option<V>
+pub(super) fn take<V: Drop>(row: &mut Vec<(Name, V)>, name: &str) -> Option<V>
     requires { Ascend row.old.items }
     ensures value { result ≡ lookup (is_at (compares name.now)) row.old.items }
     ensures left { row.new.items ≡ remove_entry (is_at (compares name.now)) row.old.items }
@@ -62,7 +63,7 @@ pub(super) fn take<V: Drop>(row: &mut Vec<(Txt, V)>, name: &str) -> Option<V>
 }
 
 /// The same as [`place`], with one look at the last name alone where the name is above it.
-fn gap<V>(row: &[(Txt, V)], name: &str) -> Result<usize, usize>
+fn gap<V>(row: &[(Name, V)], name: &str) -> Result<usize, usize>
     requires { Ascend row.now }
     ensures place { result ≡ seek (compares name.now) row.now }
     ensures within { IsSearchInRange result (length row.now) }
@@ -78,9 +79,9 @@ fn gap<V>(row: &[(Txt, V)], name: &str) -> Result<usize, usize>
 /// The same pairs in a vector that has room for so many more and no others.
 pub(super) fn fitted<V: Drop>(
     alloc: Global,
-    row: Vec<(Txt, V)>,
+    row: Vec<(Name, V)>,
     more: usize,
-) -> Result<Vec<(Txt, V)>, NoMemory>
+) -> Result<Vec<(Name, V)>, NoMemory>
     ensures { IfOk result (λ fitting. fitting.items ≡ row.items) }
 {
     let mut row = row;
@@ -90,7 +91,7 @@ pub(super) fn fitted<V: Drop>(
 }
 
 // Room for one pair more.
-fn make_room<V>(row: &mut Vec<(Txt, V)>) -> Result<(), NoMemory>
+fn make_room<V>(row: &mut Vec<(Name, V)>) -> Result<(), NoMemory>
     ensures { row.new.items ≡ row.old.items }
 {
     if row.len() == row.capacity() {
@@ -100,7 +101,7 @@ fn make_room<V>(row: &mut Vec<(Txt, V)>) -> Result<(), NoMemory>
 }
 
 // Puts the pair at the place. At the end that moves no other pair.
-fn put_in<V: Drop>(row: &mut Vec<(Txt, V)>, at: usize, pair: (Txt, V)) -> Result<(), NoMemory>
+fn put_in<V: Drop>(row: &mut Vec<(Name, V)>, at: usize, pair: (Name, V)) -> Result<(), NoMemory>
     requires { at ≤ length row.old.items }
     ensures items { OnOk result (row.new.items ≡ insert row.old.items at pair) }
     ensures kept { OnErr result (row.new.items ≡ row.old.items) }
@@ -114,9 +115,10 @@ fn put_in<V: Drop>(row: &mut Vec<(Txt, V)>, at: usize, pair: (Txt, V)) -> Result
 }
 
 /// Puts the value at the name, and gives back the value that it replaces. `NoMemory` where the
-/// vector cannot grow; it is unchanged then.
+/// vector cannot grow, or a long name has no room; the vector is unchanged then.
 pub(super) fn put<V: Drop>(
-    row: &mut Vec<(Txt, V)>,
+    alloc: Global,
+    row: &mut Vec<(Name, V)>,
     name: Txt,
     value: V,
 ) -> Result<Option<V>, NoMemory>
@@ -129,6 +131,7 @@ pub(super) fn put<V: Drop>(
     match gap(row.as_slice(), name.as_str()) {
         Ok(at) => Ok(Some(mem::replace(&mut row[at].1, value))),
         Err(at) => {
+            let name = Name::of(alloc, name)?;
             make_room(row)?;
             put_in(row, at, (name, value))?;
             Ok(None)

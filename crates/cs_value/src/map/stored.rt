@@ -6,6 +6,7 @@ ghost use Rattle.std.specs.Option.{option_copied};
 ghost use Rattle.cs_value.specs.Entries.{Ascend, compares, entries};
 
 use super::iter::{IntoIter, Iter};
+use super::name::Name;
 use super::{grow, row, tree};
 use crate::memory::NoMemory;
 use crate::txt::Txt;
@@ -17,7 +18,7 @@ pub const MOST_IN_ROW: usize = 32;
 
 #[derive(Drop)]
 pub(crate) enum Stored<V> {
-    Few(Vec<(Txt, V)>),
+    Few(Vec<(Name, V)>),
     Many(BTreeMap<String, V>),
 }
 
@@ -97,7 +98,7 @@ impl<V> Stored<V> {
             grow::grow(alloc, self)?;
         }
         match self {
-            Stored::Few(row) => row::put(row, name, value),
+            Stored::Few(row) => row::put(alloc, row, name, value),
             Stored::Many(tree) => tree::put(alloc, tree, name, value),
         }
     }

@@ -5,6 +5,7 @@ ghost use Rattle.std.specs.BTreeMap.{insert_entry, is_at};
 ghost use Rattle.std.specs.Option.{option_copied};
 ghost use Rattle.cs_value.specs.Entries.{compares, named};
 
+use super::name::Name;
 use crate::memory::NoMemory;
 use crate::txt::Txt;
 use std::alloc::Global;
@@ -51,7 +52,7 @@ pub(super) fn put<V: Drop>(
 pub(super) fn enter<V: Drop>(
     alloc: Global,
     tree: &mut BTreeMap<String, V>,
-    name: &Txt,
+    name: &Name,
     value: V,
 ) -> Result<(), V>
     ensures entries { OnOk result

@@ -28,6 +28,7 @@ use Rattle.std.specs.List.Sorted.{IsStrictlySortedBy, IsStrictlySortedBy-prop}
 use Rattle.std.specs.Map.{keys_of, values_of}
 use Rattle.cs_value.specs.Entries.{Name, compares, named, entries}
 use Rattle.cs_value.specs.contracts.txt.Txt as txt
+use Rattle.cs_value.specs.contracts.map.name.Name as stored_name
 use Rattle.cs_value.specs.declared.map.stored.Stored.{Stored}
 use Rattle.cs_value.specs.declared.map.stored.Stored.TheVariants.{Few, Many}
 use Rattle.cs_value.specs.contracts.map.stored.Stored as P
@@ -126,7 +127,7 @@ abbrev string_partial : partial'.Ghosts (String Global)
 string_partial = partial.ghosts heap.the_row ghosts partial.no_dict partial.no_dict
 
 abbrev pair_rows : RattleType → List RattleType
-pair_rows R = name_row ∷ R ∷ []
+pair_rows R = stored_name.the_row ∷ R ∷ []
 
 module _ (R S : RattleType) (h : R.Denot → S.Denot) where
   same_names : (p : Stored R.Denot)
@@ -136,7 +137,7 @@ module _ (R S : RattleType) (h : R.Denot → S.Denot) where
   pair_places : Alike R S h → Alike (Tuple (pair_rows R)) (Tuple (pair_rows S)) (on_value h)
   pair_places a =
       struct_places (tuple_type (pair_rows R)) (tuple_type (pair_rows S)) ((λ n. n), (h, tt))
-      (on_value h) (λ d. refl) refl (stays name_row, (laid _ _ _ a, tt))
+      (on_value h) (λ d. refl) refl (stays stored_name.the_row, (laid _ _ _ a, tt))
 
   variant : (p : Stored R.Denot)
       → (P.enum S).as_values (forms.map R.Denot S.Denot h p)

@@ -49,5 +49,8 @@ returns-in_ok-put_in-in-Err-clause-entries g c =
     ap (λ t. seek (compares t) row) (sym c.as_str.ensures)
     ∙ ap (λ r. seek (compares c.as_str.result.now) r) (sym c.as_slice.ensures.value)
     ∙ sym c.in-Err.ensures.place in
-    c.in_ok-put_in-in-Err.ensures.items ∙ ap (λ es. insert es at pair) c.make_room.ensures
+    c.in_ok-put_in-in-Err.ensures.items
+    ∙ ap (λ name. insert c.make_room.new.row.items at (name, c.args.value))
+    c.in_ok-name-in-Err.ensures
+    ∙ ap (λ es. insert es at pair) c.make_room.ensures
     ∙ insert_entry_err compares c.args.name c.args.value row at is

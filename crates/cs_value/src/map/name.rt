@@ -1,0 +1,83 @@
+// The name of a pair in a vector.
+ghost use Rattle.std.specs.Prelude.{◌≡◌, ◌≤◌, IfOk, length, min, take};
+
+use crate::memory::NoMemory;
+use crate::txt::inside::Short;
+use crate::txt::{MOST_INSIDE, Txt};
+use std::alloc::Global;
+use std::boxed::Box;
+use std::marker::Model;
+
+/// The most bytes of a name that lies in its pair and takes no memory of its own.
+const MOST_BESIDE: usize = 14;
+
+/// A name. It takes 16 bytes, and no memory of its own if it has at most 14, as most names have: a
+/// search among names then reads fewer of them than it would of texts. Contracts see it as the list
+/// of its bytes.
+#[derive(Drop)]
+pub(crate) struct Name {
+    held: Spelled,
+}
+
+#[derive(Drop)]
+pub(crate) enum Spelled {
+    Beside(Short<MOST_BESIDE>),
+    Apart(Box<String>),
+}
+
+impl Model for Name {
+    ghost use Rattle.std.specs.Prelude.{List, ℕ};
+    ghost use Rattle.cs_value.specs.Text.{name_bytes};
+
+    ghost Value = { List ℕ };
+
+    ghost view = { λ n. name_bytes n.held };
+}
+
+impl Name {
+    /// The name that the text is. `NoMemory` where the allocator has no room for a longer one.
+    pub(super) fn of(alloc: Global, text: Txt) -> Result<Name, NoMemory>
+        ensures { IfOk result (λ name. name ≡ text) }
+    {
+        if let Some(short) = text.fitted() {
+            return Ok(Name {
+                held: Spelled::Beside(short),
+            });
+        }
+        let long = Box::new(alloc, text.into_string(alloc)?)?;
+        Ok(Name {
+            held: Spelled::Apart(long),
+        })
+    }
+
+    /// The name, borrowed.
+    pub(super) fn as_str(&self) -> &str
+        ensures { result.now ≡ self.now }
+    {
+        match &self.held {
+            Spelled::Beside(short) => short.as_str(),
+            Spelled::Apart(long) => long.as_str(),
+        }
+    }
+
+    /// The name as a text. It is moved, and takes no memory.
+    pub(super) fn into_txt(self) -> Txt
+        ensures { result ≡ self }
+    {
+        let Name { held } = self;
+        match held {
+            Spelled::Beside(short) => Txt::widened(&short),
+            Spelled::Apart(long) => Txt::from_string(Box::into_inner(long)),
+        }
+    }
+
+    /// The name again, as a text. `NoMemory` where the allocator has no room for a longer one.
+    pub(super) fn copy(&self, alloc: Global) -> Result<Txt, NoMemory>
+        ensures { IfOk result (λ text. text ≡ self.now) }
+    {
+        match &self.held {
+            Spelled::Beside(short) => Ok(Txt::widened(short)),
+            Spelled::Apart(long) => Txt::copy_of(alloc, long.as_str()),
+        }
+    }
+}
