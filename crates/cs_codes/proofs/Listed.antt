@@ -12,9 +12,9 @@ use Rattle.std.proofs.lemmas.Slice.Eq.{bytes_eq-Decides}
 use Rattle.std.proofs.lemmas.Map.Lookups.{exact_bytes}
 use Rattle.cs_value.specs.Tree.{Tree, null, boolean, integer, text, list, object, Trees, no_trees, more_trees, Pairs, no_pairs, more_pairs, members}
 use Rattle.cs_value.specs.Pairs.{find}
-use Rattle.cs_value.specs.Words.{as_text}
+use Rattle.cs_value.specs.Words.{as_text, followed}
 use Rattle.cs_view.specs.Document.{passes}
-use Rattle.cs_view.specs.Keys.{has, equals, has_element, followed, has_ref, some_has_ref, some_pair_has_ref}
+use Rattle.cs_view.specs.Keys.{has, equals, has_element, has_ref, some_has_ref, some_pair_has_ref}
 use Rattle.cs_view.specs.declared.key.Scalar.{Scalar}
 use Rattle.cs_view.specs.declared.key.Scalar.TheVariants.{Bool as Boolean, Num, Text}
 use Rattle.cs_view.specs.declared.key.Key.{Key}

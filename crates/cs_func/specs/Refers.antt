@@ -1,12 +1,10 @@
 -- Whether a value refers to a document: GROQ-1.revision1, "references()". Nothing inside an object
 -- that has a text `_ref` is looked at: this project's profile.
-use Rattle.std.specs.Prelude.{ℕ, List, Bool, false, ◌||◌, Option, Some, None, codes}
+use Rattle.std.specs.Prelude.{ℕ, List, Bool, false, ◌||◌, Option, Some, None}
 use Rattle.std.specs.List.{list_any}
 use Rattle.std.specs.Str.{bytes_eq}
 use Rattle.cs_value.specs.Tree.{Tree, null, boolean, integer, text, list, object, Trees, no_trees, more_trees, Pairs, no_pairs, more_pairs}
-use Rattle.cs_value.specs.Pairs.{find}
-use Rattle.cs_value.specs.Words.{as_text}
-use Rattle.std.specs.Prelude.{option_and_then}
+use Rattle.cs_value.specs.Words.{ref_of}
 
 -- whether an object's reference is the target; without a reference, whether something inside refers
 -- to it
@@ -23,7 +21,7 @@ abbrev mutual
   refers target (list ts) = some_refers target ts
   refers target (object ps) =
       reference_or (some_pair_refers target ps) target
-      (option_and_then as_text (find (codes "_ref") ps))
+      (ref_of ps)
 
   pub some_refers : List ℕ → Trees → Bool
   some_refers target no_trees = false
@@ -47,7 +45,7 @@ abbrev mutual
   refers_to_one targets (list ts) = some_refers_to_one targets ts
   refers_to_one targets (object ps) =
       reference_among_or (some_pair_refers_to_one targets ps) targets
-      (option_and_then as_text (find (codes "_ref") ps))
+      (ref_of ps)
 
   pub some_refers_to_one : List (List ℕ) → Trees → Bool
   some_refers_to_one targets no_trees = false

@@ -1,4 +1,5 @@
--- What contracts see of the documents behind the answer of a windowed query. This project's profile.
+-- What contracts see of the documents behind the answer of a windowed query: this project's
+-- profile.
 use Rattle.std.specs.Prelude.{◌≡◌, List, Bool, filter, map, ⊤}
 use Rattle.cs_value.specs.Tree.{Tree, Pairs}
 use Rattle.cs_syntax.specs.Expression.{Expression}

@@ -1,5 +1,5 @@
--- The documents near a bound, which settle an answer that is made of the first few of an order. This
--- project's profile.
+-- The documents near a bound, which settle an answer that is made of the first few of an order:
+-- this project's profile.
 use Rattle.std.specs.Prelude.{◌≡◌, ◌≤◌, ◌&&◌, ℕ, Bool, List, filter, map, Some}
 use Rattle.cs_value.specs.Tree.{Tree, Pairs}
 use Rattle.cs_value.specs.View.{tree}

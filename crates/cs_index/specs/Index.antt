@@ -21,8 +21,8 @@ pub record IsDelta (index : Index) (d : Docs) (cs : List Edit) (delta : Delta) :
   pub lost : (q : Entry) → is_in q delta.lost.items ≡ or_some (parts index.seed d q) cs false
   pub gained : (q : Entry) → is_in q delta.gained.items ≡ or_some (gains index.seed d q) cs false
 
--- the entries of the other index: those of the one without the lost, with the gained, and with those
--- of the documents that changes made in the store
+-- the entries of the other index: those of the one without the lost, with the gained, and with
+-- those of the documents that changes made in the store
 abbrev pub AreApplied : Index → Index → Docs → List Edit → Delta → Type 0
 AreApplied old new d cs delta =
     (q : Entry) → has_entry new.entries q

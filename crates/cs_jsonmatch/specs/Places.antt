@@ -5,7 +5,7 @@ use Rattle.std.specs.List.{list_any}
 use Rattle.std.specs.declared.cmp.Ordering.{Ordering}
 use Rattle.std.specs.Ordering.{is_lt, is_le, is_gt, is_ge}
 use Rattle.cs_value.specs.Tree.{Tree, null, boolean, integer, text, list, object, Trees, no_trees, more_trees, Pairs, no_pairs, more_pairs, trees_len}
-use Rattle.cs_value.specs.Pairs.{attribute}
+use Rattle.cs_value.specs.Words.{followed}
 use Rattle.cs_ops.specs.Equal.{equal}
 use Rattle.cs_ops.specs.Order.{partial}
 use Rattle.cs_jsonmatch.specs.Path.{Item, position, range, every, named, meets, Path}
@@ -74,12 +74,6 @@ abbrev pub to_end : Option ℤ → ℕ → ℕ
 to_end None count = count
 to_end (Some n) count = clamped n count
 
--- What stands under the names, one in the other, through objects; none where one of them is
--- missing.
-abbrev pub follow : List (List ℕ) → Tree → Option Tree
-follow [] t = Some t
-follow (n ∷ ns) t = option_and_then (follow ns) (attribute n t)
-
 -- Whether there is a comparison, and the test holds of it.
 abbrev pub holds : (Ordering → Bool) → Option Ordering → Bool
 holds test None = false
@@ -111,7 +105,7 @@ selects count (Pos k) t (position n) = is_position n count k
 selects count (Pos k) t (range a b) = nat_le (from_end a count) k && nat_lt k (to_end b count)
 selects count (Pos k) t every = true
 selects count (Pos k) t (named n) = false
-selects count (Pos k) t (meets ns c u) = met c u (follow ns t)
+selects count (Pos k) t (meets ns c u) = met c u (followed ns t)
 
 -- Whether a path leads from v along a trail: no steps lead to v itself; the first step selects the
 -- first part, by one of its items, and the others lead on from there; or `..` stands before the

@@ -3,7 +3,8 @@ ghost use Rattle.std.specs.Prelude.{◌≡◌, option_map, ℕ, map};
 ghost use Rattle.std.specs.List.{list_any};
 ghost use Rattle.cs_value.specs.Tree.{Tree};
 ghost use Rattle.cs_value.specs.View.{tree};
-ghost use Rattle.cs_jsonmatch.specs.Places.{is_position, clamped, from_end, to_end, follow, stands, met, selects};
+ghost use Rattle.cs_jsonmatch.specs.Places.{is_position, clamped, from_end, to_end, stands, met, selects};
+ghost use Rattle.cs_value.specs.Words.{followed};
 ghost use Rattle.cs_jsonmatch.specs.View.{item_of, items_of, part_of};
 ghost use Rattle.cs_jsonmatch.specs.declared.places.Part.TheVariants.{Pos, Name};
 
@@ -49,7 +50,7 @@ fn stands_so(comparison: Comparison, val: &Val, constant: &Val) -> bool
 }
 
 fn follow_names<'v>(val: &'v Val, names: &[Txt]) -> Option<&'v Val>
-    ensures { option_map (λ v. tree v.now) result ≡ follow names.now (tree val.now) }
+    ensures { option_map (λ v. tree v.now) result ≡ followed names.now (tree val.now) }
 {
     let mut here = val;
     for name in names {
@@ -63,7 +64,7 @@ fn follow_names<'v>(val: &'v Val, names: &[Txt]) -> Option<&'v Val>
 
 fn meets(test: &Test, val: &Val) -> bool
     ensures { result ≡ met test.now.comparison (tree test.now.constant)
-        (follow test.now.names.items (tree val.now)) }
+        (followed test.now.names.items (tree val.now)) }
 {
     let Some(found) = follow_names(val, &test.names) else {
         return false;

@@ -47,8 +47,8 @@ pub record FitsWindow (docs : List Tree) (e : Expression) (ps : Pairs) (rest : L
 abbrev pub is_by_hits : Expression → Bool
 is_by_hits e = is_simple e || is_mapped e
 
--- an answer that is kept by its record fits a dataset: its query is neither simple nor mapped, it is
--- the value over the dataset, and the keys are those that finding it looks up, and no other
+-- an answer that is kept by its record fits a dataset: its query is neither simple nor mapped, it
+-- is the value over the dataset, and the keys are those that finding it looks up, and no other
 pub record FitsRecord (docs : List Tree) (r : Recorded) : Type 0 where
   pub compound : is_by_hits (query r.query) ≡ false
   pub last : tree r.last ≡ query_value docs (fields r.params) (query r.query)
@@ -63,8 +63,8 @@ pub record FitsRows (docs : List Tree) (r : Rows) : Type 0 where
   pub rows : rows_of r ≡ hits (query r.query) (fields r.params) docs
   pub settled : IsSettled r
 
--- one that is kept in shares fits a dataset: the query is mapped and not simple, the shares are those
--- of its hits over the dataset, and the answer is their list
+-- one that is kept in shares fits a dataset: the query is mapped and not simple, the shares are
+-- those of its hits over the dataset, and the answer is their list
 pub record FitsShares (docs : List Tree) (m : Mapped) : Type 0 where
   pub compound : is_simple (query m.query) ≡ false
   pub mapped : IsTrue (is_mapped (query m.query))

@@ -22,8 +22,8 @@ use Rattle.cs_kept.specs.declared.kept.Kept.TheVariants.{ByRecord, InRows, InSha
 abbrev pub hit_key : Expression → Pairs → Key
 hit_key e params = narrowest (query_keys e params)
 
--- the keys whose documents an answer depends on: those of its record, that of the hits of its simple
--- query, or those of its mapped one
+-- the keys whose documents an answer depends on: those of its record, that of the hits of its
+-- simple query, or those of its mapped one
 abbrev pub interests : Kept → List Key
 interests (ByRecord r) = keys_of r.keys
 interests (InRows r) = hit_key (query r.query) (fields r.params) ∷ []

@@ -37,9 +37,9 @@ pub enum Kept {
 }
 
 impl Kept {
-    /// The value of the query over the view, kept in rows where the query is simple, in shares where
-    /// it is mapped, and by its record otherwise. For a simple query no more documents are visited
-    /// than have its key. `NoMemory` where the allocator has no room for it.
+    /// The value of the query over the view, kept in rows where the query is simple, in shares
+    /// where it is mapped, and by its record otherwise. For a simple query no more documents are
+    /// visited than have its key. `NoMemory` where the allocator has no room for it.
     pub fn make<V: View<L>, L: Ledger>(
         alloc: Global,
         seed: &RandomState,

@@ -6,7 +6,8 @@ use Rattle.cs_value.specs.Pairs.{attribute, find}
 use Rattle.cs_ops.specs.Equal.{equal}
 use Rattle.cs_syntax.specs.declared.tree.PreSign.TheVariants as sign
 use Rattle.cs_syntax.specs.Expression.{Expression, bool_literal, number_literal, text_literal, param, word, parent, chain, prefix, attr, bracket, Steps, no_steps, more_steps}
-use Rattle.cs_view.specs.Keys.{equals, followed}
+use Rattle.cs_view.specs.Keys.{equals}
+use Rattle.cs_value.specs.Words.{followed}
 use Rattle.cs_view.specs.declared.key.Scalar.{Scalar}
 use Rattle.cs_view.specs.declared.key.Scalar.TheVariants.{Bool as Boolean, Num, Text}
 use Rattle.cs_plan.specs.Constants.{literal, scalar_of, at_names, constant}

@@ -9,7 +9,7 @@ use Rattle.std.proofs.lemmas.Map.Text.{is_eq-slice_cmp}
 use Rattle.std.proofs.lemmas.Slice.Eq.{bytes_eq-Decides}
 use Rattle.cs_value.specs.Tree.{Tree, null, boolean, integer, text, list, object, Trees, no_trees, more_trees, Pairs, no_pairs, more_pairs, members}
 use Rattle.cs_value.specs.Pairs.{attribute, find}
-use Rattle.cs_value.specs.Words.{as_text}
+use Rattle.cs_value.specs.Words.{as_text, followed}
 use Rattle.cs_ops.specs.Equal.{equal}
 use Rattle.cs_ops.specs.Truth.{truth, said, both}
 use Rattle.cs_ops.specs.Operators as operators
@@ -20,7 +20,7 @@ use Rattle.cs_syntax.specs.Functions.{without_global}
 use Rattle.cs_syntax.specs.Expression.{Expression, word, round, call, chain, run, within, Operands, no_operands, more_operands, Arguments, no_arguments, more_arguments, argument}
 use Rattle.cs_view.specs.Dataset.{same_id}
 use Rattle.cs_view.specs.Document.{passes}
-use Rattle.cs_view.specs.Keys.{equals, has_element, followed, has_ref, some_has_ref, some_pair_has_ref, has, has_all}
+use Rattle.cs_view.specs.Keys.{equals, has_element, has_ref, some_has_ref, some_pair_has_ref, has, has_all}
 use Rattle.cs_view.specs.declared.key.Scalar.{Scalar}
 use Rattle.cs_view.specs.declared.key.Scalar.TheVariants.{Bool as Boolean, Num, Text}
 use Rattle.cs_view.specs.declared.key.Key.{Key}

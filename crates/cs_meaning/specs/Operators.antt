@@ -6,7 +6,7 @@ use Rattle.std.specs.List.{list_any}
 use Rattle.std.specs.Str.{bytes_eq}
 use Rattle.cs_value.specs.Tree.{Tree, null, boolean, Pairs}
 use Rattle.cs_value.specs.Pairs.{find, put}
-use Rattle.cs_value.specs.Words.{as_text, as_object, as_list}
+use Rattle.cs_value.specs.Words.{as_text, as_object, as_list, ref_of}
 use Rattle.cs_syntax.specs.declared.tree.BinSign.{BinSign}
 use Rattle.cs_syntax.specs.declared.tree.BinSign.TheVariants as sign
 use Rattle.cs_syntax.specs.declared.tree.PreSign.{PreSign}
@@ -153,7 +153,7 @@ put_under (Some k) v pairs = put k v pairs
 abbrev pub reference_in : Pairs → Option (List ℕ)
 reference_in pairs =
     option_map_or (λ other. None) (find (codes "_dataset") pairs)
-    (option_and_then as_text (find (codes "_ref") pairs))
+    (ref_of pairs)
 
 -- The text that a value refers by: none where it is no object.
 abbrev pub reference_of : Tree → Option (List ℕ)

@@ -2,21 +2,11 @@
 ghost use Rattle.std.specs.Prelude.{◌≡◌, is_some, map};
 ghost use Rattle.cs_syntax.specs.Expression.{steps_of};
 ghost use Rattle.cs_syntax.specs.View.{expression, step as step_of};
-ghost use Rattle.cs_plan.specs.Simple.{is_condition};
-ghost use Rattle.cs_plan.specs.Steps.{bracketed};
 ghost use Rattle.cs_plain.specs.Plain.{filter_in, filter_alone, listened_filter};
 
 use crate::forms::is_plain;
+use cs_plan::is_condition;
 use cs_syntax::{Expr, Step};
-
-// The bracket around this expression is a filter: what is in it is neither a position nor a text
-// alone.
-#[tactic(auto, using(cs_plan::proofs::Conditions::neither_position_nor_text))]
-fn is_condition(expr: &Expr) -> bool
-    ensures { result ≡ is_condition (bracketed (expression expr.now)) }
-{
-    !expr.is_position() && !expr.is_text()
-}
 
 // A filter with a plain condition.
 #[tactic(auto, using(crate::proofs::Sets::filter), unfolding(cs_syntax::proofs::Open::of_step))]

@@ -21,7 +21,7 @@ pub use numbers::literal;
 pub use quiet::is_quiet;
 pub use scopes::up;
 pub use steps::text_of;
-pub use tails::simple;
+pub use tails::{is_condition, simple};
 
 #[cfg(test)]
 mod tests;

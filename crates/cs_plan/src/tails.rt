@@ -9,10 +9,10 @@ ghost use Rattle.cs_plan.specs.Steps.{bracketed};
 use crate::quiet::{quiet_step, quiet_steps};
 use cs_syntax::{Expr, Query, Step};
 
-// The bracket around this expression is a filter: what is in it is neither a position nor a text
-// alone.
+/// Whether the bracket around this expression is a filter: what is in it is neither a position nor
+/// a text alone.
 #[tactic(auto, using(crate::proofs::Conditions::neither_position_nor_text))]
-fn is_condition(expr: &Expr) -> bool
+pub fn is_condition(expr: &Expr) -> bool
     ensures { result ≡ is_condition (bracketed (expression expr.now)) }
 {
     !expr.is_position() && !expr.is_text()

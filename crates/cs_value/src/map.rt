@@ -129,8 +129,8 @@ impl<V> OrderedMap<V> {
     }
 
     /// Puts the value at the name, and gives back the value that it replaces: `Ok(None)` exactly
-    /// where the name was not there. A name above all others goes last without a search. `NoMemory`
-    /// where the map cannot grow; it is unchanged then.
+    /// where the name was not there. A name above all others goes last without a search while the
+    /// pairs stand in one vector. `NoMemory` where the map cannot grow; it is unchanged then.
     pub fn insert(&mut self, name: Txt, value: V) -> Result<Option<V>, NoMemory>
     where
         V: Drop,

@@ -90,7 +90,7 @@ impl Txt {
         Ok(Txt { held })
     }
 
-    /// The text where it is held in 14 places. `None` where it is longer, and may be where it is not.
+    /// The text again, held in `N` places, where it lies in its value and is short enough.
     pub(crate) fn fitted<const N: usize>(&self) -> Option<Short<N>>
         requires { N ≤ 30 }
         ensures { IfSome result (λ short. short ≡ self.now) }
@@ -101,7 +101,7 @@ impl Txt {
         }
     }
 
-    /// The text that is held in fewer places.
+    /// The text again that is held in `N` places. It takes no memory.
     pub(crate) fn widened<const N: usize>(text: &Short<N>) -> Txt
         requires { N ≤ 30 }
         ensures { result ≡ text.now }

@@ -122,8 +122,8 @@ impl Fields {
     }
 
     /// Puts the value at the name, and gives back the value that it replaces: `Ok(None)` exactly
-    /// where the name was not there. A name above all others goes last without a search. `NoMemory`
-    /// where the object cannot grow; it is unchanged then.
+    /// where the name was not there. A name above all others goes last without a search where the
+    /// object has at most 32 names. `NoMemory` where it cannot grow; it is unchanged then.
     pub fn put(&mut self, name: Txt, val: Val) -> Result<Option<Val>, NoMemory>
         ensures replaced { IfOk result (λ old. option_map tree old ≡ find name (fields self.old)) }
         ensures put { IfOk result (λ _. fields self.new ≡ put name (tree val) (fields self.old)) }

@@ -1,13 +1,12 @@
 -- Keys, by which documents are looked up, and which documents have one: this project's profile.
 -- Equality is that of GROQ-1.revision1, "Equality operators"; names are followed as in its
 -- "Attribute access traversal".
-use Rattle.std.specs.Prelude.{ℕ, Bool, true, false, ◌&&◌, ◌||◌, List, [], ◌∷◌, Option, Some, option_and_then, codes, filter}
+use Rattle.std.specs.Prelude.{ℕ, Bool, true, false, ◌&&◌, ◌||◌, List, [], ◌∷◌, filter}
 use Rattle.std.specs.List.{list_any}
 use Rattle.std.specs.Ordering.{is_eq, bool_cmp, int_eq}
 use Rattle.std.specs.Str.{bytes_eq}
 use Rattle.cs_value.specs.Tree.{Tree, null, boolean, integer, text, list, object, Trees, no_trees, more_trees, Pairs, no_pairs, more_pairs, members}
-use Rattle.cs_value.specs.Pairs.{attribute, find}
-use Rattle.cs_value.specs.Words.{as_text}
+use Rattle.cs_value.specs.Words.{followed, ref_of}
 use Rattle.cs_view.specs.Document.{passes, id_of}
 use Rattle.cs_view.specs.Dataset.{same_id}
 use Rattle.cs_view.specs.declared.key.Scalar.{Scalar}
@@ -27,12 +26,6 @@ abbrev pub has_element : Scalar → Tree → Bool
 has_element s (list ts) = list_any (equals s) (members ts)
 has_element s v = false
 
--- what following the names through objects gives: none where it leaves the objects, or a name is
--- not there
-abbrev pub followed : List (List ℕ) → Tree → Option Tree
-followed [] v = Some v
-followed (n ∷ ns) v = option_and_then (followed ns) (attribute n v)
-
 -- an object at any depth, the value itself included, has the text as `_ref`
 abbrev mutual
   pub has_ref : List ℕ → Tree → Bool
@@ -42,7 +35,7 @@ abbrev mutual
   has_ref target (text s) = false
   has_ref target (list ts) = some_has_ref target ts
   has_ref target (object ps) =
-      passes (λ s. bytes_eq s target) (option_and_then as_text (find (codes "_ref") ps))
+      passes (λ s. bytes_eq s target) (ref_of ps)
       || some_pair_has_ref target ps
 
   pub some_has_ref : List ℕ → Trees → Bool

@@ -5,9 +5,9 @@ ghost use Rattle.std.specs.Str.{bytes_eq};
 ghost use Rattle.cs_value.specs.Pairs.{find};
 ghost use Rattle.cs_value.specs.Tree.{trees};
 ghost use Rattle.cs_value.specs.View.{tree, fields, list_tree};
-ghost use Rattle.cs_value.specs.Words.{as_text};
+ghost use Rattle.cs_value.specs.Words.{as_text, followed};
 ghost use Rattle.cs_view.specs.Document.{passes};
-ghost use Rattle.cs_view.specs.Keys.{has, has_all, equals, has_element, followed, has_ref, some_has_ref, some_pair_has_ref};
+ghost use Rattle.cs_view.specs.Keys.{has, has_all, equals, has_element, has_ref, some_has_ref, some_pair_has_ref};
 ghost use Rattle.cs_view.specs.View.{doc as document};
 
 use crate::doc::Doc;

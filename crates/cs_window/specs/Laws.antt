@@ -43,8 +43,8 @@ WindowSettlesTail = (e : Expression) (params : Pairs) (bound xs ys : List Tree)
     → filter (is_near e params bound) xs ≡ filter (is_near e params bound) ys
     → (tail e params xs ≡ tail e params ys) × IsBound e params bound ys
 
--- What the document at a place of the order is ordered by bounds a window that does not reach beyond
--- the place.
+-- What the document at a place of the order is ordered by bounds a window that does not reach
+-- beyond the place.
 abbrev pub PlaceBoundsWindow : Type 0
 PlaceBoundsWindow = (e : Expression) (params : Pairs) (w : Window) (ds : List Tree) (place : ℕ)
     (bound : List Tree)
@@ -68,12 +68,13 @@ SimpleIsFiltered = (e : Expression) → IsTrue (is_simple e) → IsTrue (is_filt
 abbrev pub WindowedIsFiltered : Type 0
 WindowedIsFiltered = (e : Expression) → IsTrue (is_windowed e) → IsTrue (is_filtered e)
 
--- A windowed query's value is what the steps behind its filter make of its hits, and it looks up its
--- key and what these steps look up.
+-- A windowed query's value is what the steps behind its filter make of its hits, and it looks up
+-- its key and what these steps look up.
 abbrev pub WindowedIsTailOfHits : Type 0
 WindowedIsTailOfHits = (e : Expression) (params : Pairs) (docs : List Tree) → IsTrue (is_windowed e)
     → (query_value docs params e ≡ tail_over docs e params (hits e params docs))
-    × (query_looked docs params e ≡ query_key e params ∷ tail_looked docs e params (hits e params docs))
+    × (query_looked docs params e
+    ≡ query_key e params ∷ tail_looked docs e params (hits e params docs))
 
 -- What the steps behind a filter look up settles what they make of documents.
 abbrev pub LookedSettlesTail : Type 0

@@ -161,8 +161,8 @@ module _ (R S : RattleType) (h : R.Denot → S.Denot) where
         (
           (
             laid _ _ _
-                (btree.the_places string_row heap.the_row string_ord string_eq string_partial ghosts R S
-                h a),
+                (btree.the_places string_row heap.the_row string_ord string_eq string_partial
+                ghosts R S h a),
             tt,
           ),
           tt,

@@ -1,6 +1,6 @@
 use Rattle.std.proofs.Common.{◌≡◌, drop}
 use Rattle.cs_value.specs.View.{tree}
-use Rattle.cs_view.specs.Keys.{followed}
+use Rattle.cs_value.specs.Words.{followed}
 use Rattle.cs_view.proofs.lookup.followed.Given as goal
 
 abbrev pub invariant-loop-name : goal.invariant-loop-name
