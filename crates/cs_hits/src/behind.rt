@@ -2,7 +2,7 @@
 ghost use Rattle.std.specs.Prelude.{◌≡◌, List, false, true, map, IfOk, OnOk};
 ghost use Rattle.cs_value.specs.Tree.{Tree, Pairs};
 ghost use Rattle.cs_value.specs.View.{fields};
-ghost use Rattle.cs_syntax.specs.Queries.{query as query_of};
+ghost use Rattle.cs_syntax.specs.Queries.{query as expression_of};
 ghost use Rattle.cs_view.specs.Changes.{After, changes_where};
 ghost use Rattle.cs_view.specs.Dataset.{ascending, kept_if, placed};
 ghost use Rattle.cs_view.specs.View.{doc as document, edit, edits};
@@ -37,11 +37,11 @@ impl Behind {
         view: &V,
         steps: &mut Steps<L>,
     ) -> Result<Behind, NoMemory>
-        requires { is_filtered (query_of query.now) ≡ true }
+        requires { is_filtered (expression_of query.now) ≡ true }
         ensures are { IfOk result
-            (AreBehind (V.docs view.now) (query_of query.now) (fields params.now)) }
+            (AreBehind (V.docs view.now) (expression_of query.now) (fields params.now)) }
         ensures enough { IfOk result
-            (AreEnoughBehind (V.docs view.now) (query_of query.now) (fields params.now)) }
+            (AreEnoughBehind (V.docs view.now) (expression_of query.now) (fields params.now)) }
     {
         let docs = hits(alloc, query, params, view, steps)?;
         match Near::among(alloc, query, params, &docs)? {
@@ -68,10 +68,10 @@ impl Behind {
         params: &Fields,
         change: &Change,
     ) -> Result<bool, NoMemory>
-        requires filtered { is_filtered (query_of query.now) ≡ true }
+        requires filtered { is_filtered (expression_of query.now) ≡ true }
         requires ascending { ascending (held_docs self.old) ≡ true }
         ensures placed { OnOk result (held_docs self.new ≡ placed (edit change.now).0
-            (kept_if (is_held (query_of query.now) (fields params.now) self.old)
+            (kept_if (is_held (expression_of query.now) (fields params.now) self.old)
             (edit change.now).1.1) (held_docs self.old)) }
         ensures same { IfOk result (λ b. b ≡ false → held_docs self.new ≡ held_docs self.old) }
         ensures kind { OnOk result (KeepsKind self.old self.new) }
@@ -99,10 +99,10 @@ impl Behind {
         params: &Fields,
         changes: &[Change],
     ) -> Result<bool, NoMemory>
-        requires filtered { is_filtered (query_of query.now) ≡ true }
+        requires filtered { is_filtered (expression_of query.now) ≡ true }
         requires ascending { ascending (held_docs self.old) ≡ true }
         ensures docs { OnOk result (held_docs self.new ≡ After (held_docs self.old) (changes_where
-            (is_held (query_of query.now) (fields params.now) self.old) (edits changes.now))) }
+            (is_held (expression_of query.now) (fields params.now) self.old) (edits changes.now))) }
         ensures same { IfOk result (λ b. b ≡ false → held_docs self.new ≡ held_docs self.old) }
         ensures kind { OnOk result (KeepsKind self.old self.new) }
     {
@@ -119,8 +119,8 @@ impl Behind {
     // Whether no fewer are left near the window than it has.
     fn is_enough(&self, query: &Query) -> bool
         ensures { result ≡ true → (docs : List Tree) (params : Pairs)
-            → AreBehind docs (query_of query.now) params self.now
-            → AreEnoughBehind docs (query_of query.now) params self.now }
+            → AreBehind docs (expression_of query.now) params self.now
+            → AreEnoughBehind docs (expression_of query.now) params self.now }
     {
         match self {
             Behind::All(_) => true,
@@ -138,12 +138,12 @@ impl Behind {
         view: &V,
         steps: &mut Steps<L>,
     ) -> Result<(), NoMemory>
-        requires filtered { is_filtered (query_of query.now) ≡ true }
-        requires are { AreBehind (V.docs view.now) (query_of query.now) (fields params.now)
+        requires filtered { is_filtered (expression_of query.now) ≡ true }
+        requires are { AreBehind (V.docs view.now) (expression_of query.now) (fields params.now)
             self.old }
-        ensures are { OnOk result (AreBehind (V.docs view.now) (query_of query.now)
+        ensures are { OnOk result (AreBehind (V.docs view.now) (expression_of query.now)
             (fields params.now) self.new) }
-        ensures enough { OnOk result (AreEnoughBehind (V.docs view.now) (query_of query.now)
+        ensures enough { OnOk result (AreEnoughBehind (V.docs view.now) (expression_of query.now)
             (fields params.now) self.new) }
     {
         if !self.is_enough(query) {
@@ -155,12 +155,12 @@ impl Behind {
     /// Keeps fewer of them where there are many. `NoMemory` where the allocator has no room to
     /// order them.
     pub fn narrow(&mut self, alloc: Global, query: &Query, params: &Fields) -> Result<(), NoMemory>
-        requires { is_filtered (query_of query.now) ≡ true }
+        requires { is_filtered (expression_of query.now) ≡ true }
         ensures { (docs : List Tree)
-            → AreBehind docs (query_of query.now) (fields params.now) self.old
-            → AreEnoughBehind docs (query_of query.now) (fields params.now) self.old
-            → AreBehind docs (query_of query.now) (fields params.now) self.new
-            × AreEnoughBehind docs (query_of query.now) (fields params.now) self.new }
+            → AreBehind docs (expression_of query.now) (fields params.now) self.old
+            → AreEnoughBehind docs (expression_of query.now) (fields params.now) self.old
+            → AreBehind docs (expression_of query.now) (fields params.now) self.new
+            × AreEnoughBehind docs (expression_of query.now) (fields params.now) self.new }
     {
         nearer_is_within();
         if let Some(near) = Near::among(alloc, query, params, self.docs())? {

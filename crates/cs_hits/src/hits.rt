@@ -3,7 +3,7 @@ ghost use Rattle.std.specs.Prelude.{◌≡◌, ◌≤◌, ◌+◌, None, false, 
 ghost use Rattle.cs_value.specs.Tree.{Pairs};
 ghost use Rattle.cs_value.specs.View.{fields};
 ghost use Rattle.cs_syntax.specs.Expression.{Expression};
-ghost use Rattle.cs_syntax.specs.Queries.{query as query_of};
+ghost use Rattle.cs_syntax.specs.Queries.{query as expression_of};
 ghost use Rattle.cs_view.specs.Changes.{After, are_changes, changes_where};
 ghost use Rattle.cs_view.specs.Dataset.{At, ascending, kept_if, placed, with_doc, without};
 ghost use Rattle.cs_view.specs.View.{doc as document, edit, edits};
@@ -39,11 +39,11 @@ impl Hits {
         view: &V,
         steps: &mut Steps<L>,
     ) -> Result<Hits, NoMemory>
-        requires { is_filtered (query_of query.now) ≡ true }
+        requires { is_filtered (expression_of query.now) ≡ true }
         ensures hits { IfOk result
-            (AreHits (V.docs view.now) (query_of query.now) (fields params.now)) }
+            (AreHits (V.docs view.now) (expression_of query.now) (fields params.now)) }
         ensures visits { steps.new
-            ≤ steps.old + cost (query_of query.now) (fields params.now) (V.docs view.now) }
+            ≤ steps.old + cost (expression_of query.now) (fields params.now) (V.docs view.now) }
     {
         let docs = hits(alloc, query, params, view, steps)?;
         let near = Near::among(alloc, query, params, &docs)?;
@@ -69,12 +69,13 @@ impl Hits {
         params: &Fields,
         doc: &Doc,
     ) -> Result<bool, NoMemory>
-        requires filtered { is_filtered (query_of query.now) ≡ true }
+        requires filtered { is_filtered (expression_of query.now) ≡ true }
         requires ascending { ascending (docs_of self.old) ≡ true }
-        requires near { AreNear (query_of query.now) (fields params.now) self.old }
+        requires near { AreNear (expression_of query.now) (fields params.now) self.old }
         ensures put { OnOk result (docs_of self.new
             ≡ with_doc (document doc.now) (docs_of self.old)) }
-        ensures near { OnOk result (AreNear (query_of query.now) (fields params.now) self.new) }
+        ensures near { OnOk result
+            (AreNear (expression_of query.now) (fields params.now) self.new) }
         ensures same { IfOk result (λ b. b ≡ false → settling self.new ≡ settling self.old) }
         ensures bound { KeepsBound self.old self.new }
     {
@@ -110,15 +111,16 @@ impl Hits {
         params: &Fields,
         change: &Change,
     ) -> Result<bool, NoMemory>
-        requires filtered { is_filtered (query_of query.now) ≡ true }
+        requires filtered { is_filtered (expression_of query.now) ≡ true }
         requires ascending { ascending (docs_of self.old) ≡ true }
-        requires near { AreNear (query_of query.now) (fields params.now) self.old }
+        requires near { AreNear (expression_of query.now) (fields params.now) self.old }
         requires new { (edit change.now).1.0 ≡ None
             → At (edit change.now).0 (docs_of self.old) ≡ None }
         ensures placed { OnOk result (docs_of self.new ≡ placed (edit change.now).0
-            (kept_if (is_hit (query_of query.now) (fields params.now)) (edit change.now).1.1)
+            (kept_if (is_hit (expression_of query.now) (fields params.now)) (edit change.now).1.1)
             (docs_of self.old)) }
-        ensures near { OnOk result (AreNear (query_of query.now) (fields params.now) self.new) }
+        ensures near { OnOk result
+            (AreNear (expression_of query.now) (fields params.now) self.new) }
         ensures same { IfOk result (λ b. b ≡ false → settling self.new ≡ settling self.old) }
         ensures bound { OnOk result (KeepsBound self.old self.new) }
     {
@@ -143,14 +145,15 @@ impl Hits {
         params: &Fields,
         changes: &[Change],
     ) -> Result<bool, NoMemory>
-        requires filtered { is_filtered (query_of query.now) ≡ true }
+        requires filtered { is_filtered (expression_of query.now) ≡ true }
         requires ascending { ascending (docs_of self.old) ≡ true }
-        requires near { AreNear (query_of query.now) (fields params.now) self.old }
+        requires near { AreNear (expression_of query.now) (fields params.now) self.old }
         requires changes { are_changes (edits changes.now) ≡ true }
         requires new { NoneIsNew (edits changes.now) (docs_of self.old) }
         ensures docs { OnOk result (docs_of self.new ≡ After (docs_of self.old) (changes_where
-            (is_hit (query_of query.now) (fields params.now)) (edits changes.now))) }
-        ensures near { OnOk result (AreNear (query_of query.now) (fields params.now) self.new) }
+            (is_hit (expression_of query.now) (fields params.now)) (edits changes.now))) }
+        ensures near { OnOk result
+            (AreNear (expression_of query.now) (fields params.now) self.new) }
         ensures same { IfOk result (λ b. b ≡ false → settling self.new ≡ settling self.old) }
         ensures bound { OnOk result (KeepsBound self.old self.new) }
     {
@@ -167,10 +170,10 @@ impl Hits {
     /// Keeps no documents near the window where too few are left.
     pub fn loosen(&mut self, query: &Query)
         ensures docs { docs_of self.new ≡ docs_of self.old }
-        ensures near { (params : Pairs) → AreNear (query_of query.now) params self.old
-            → AreNear (query_of query.now) params self.new }
-        ensures enough { (params : Pairs) → AreNear (query_of query.now) params self.old
-            → AreEnough (query_of query.now) params self.new }
+        ensures near { (params : Pairs) → AreNear (expression_of query.now) params self.old
+            → AreNear (expression_of query.now) params self.new }
+        ensures enough { (params : Pairs) → AreNear (expression_of query.now) params self.old
+            → AreEnough (expression_of query.now) params self.new }
     {
         let enough = match &self.near {
             Some(near) => is_enough(query, near.docs.len()),
@@ -184,11 +187,11 @@ impl Hits {
     /// Keeps fewer documents near the window where there are many. `NoMemory` where the allocator
     /// has no room to order them.
     pub fn narrow(&mut self, alloc: Global, query: &Query, params: &Fields) -> Result<(), NoMemory>
-        requires filtered { is_filtered (query_of query.now) ≡ true }
-        requires near { AreNear (query_of query.now) (fields params.now) self.old }
-        requires enough { AreEnough (query_of query.now) (fields params.now) self.old }
-        ensures near { AreNear (query_of query.now) (fields params.now) self.new }
-        ensures enough { AreEnough (query_of query.now) (fields params.now) self.new }
+        requires filtered { is_filtered (expression_of query.now) ≡ true }
+        requires near { AreNear (expression_of query.now) (fields params.now) self.old }
+        requires enough { AreEnough (expression_of query.now) (fields params.now) self.old }
+        ensures near { AreNear (expression_of query.now) (fields params.now) self.new }
+        ensures enough { AreEnough (expression_of query.now) (fields params.now) self.new }
         ensures docs { docs_of self.new ≡ docs_of self.old }
     {
         window_settles_tail();

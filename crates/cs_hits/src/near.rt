@@ -1,7 +1,7 @@
 //! The documents near a bound, which settle an answer that is made of the first few of an order.
 ghost use Rattle.std.specs.Prelude.{◌≡◌, ◌≤◌, false, true, filter, map, IfOk, IfSome, OnOk, Some};
 ghost use Rattle.cs_value.specs.View.{tree, fields};
-ghost use Rattle.cs_syntax.specs.Queries.{query as query_of};
+ghost use Rattle.cs_syntax.specs.Queries.{query as expression_of};
 ghost use Rattle.cs_view.specs.Dataset.{ascending, kept_if, placed, without};
 ghost use Rattle.cs_view.specs.Document.{id_of};
 ghost use Rattle.cs_view.specs.View.{doc as document, edit};
@@ -27,7 +27,7 @@ pub struct Near {
 
 /// Whether so many documents are no fewer than the window of the query has.
 pub fn is_enough(query: &Query, count: usize) -> bool
-    ensures { result ≡ true → IsWithin (query_of query.now) count }
+    ensures { result ≡ true → IsWithin (expression_of query.now) count }
 {
     match window(query) {
         Some(many) => many <= count,
@@ -43,9 +43,9 @@ fn copies(
     bound: &[Val],
     docs: &[Doc],
 ) -> Result<Vec<Doc>, NoMemory>
-    requires { is_filtered (query_of query.now) ≡ true }
+    requires { is_filtered (expression_of query.now) ≡ true }
     ensures { IfOk result (λ v. map document v.items
-        ≡ filter (is_near (query_of query.now) (fields params.now) (map tree bound.now))
+        ≡ filter (is_near (expression_of query.now) (fields params.now) (map tree bound.now))
         (map document docs.now)) }
 {
     let mut near = Vec::new(alloc);
@@ -66,9 +66,9 @@ impl Near {
         params: &Fields,
         docs: &[Doc],
     ) -> Result<Option<Near>, NoMemory>
-        requires { is_filtered (query_of query.now) ≡ true }
+        requires { is_filtered (expression_of query.now) ≡ true }
         ensures { IfOk result (λ o. IfSome o
-            (AreNearest (query_of query.now) (fields params.now) (map document docs.now))) }
+            (AreNearest (expression_of query.now) (fields params.now) (map document docs.now))) }
     {
         place_bounds_window();
         let Some(many) = window(query) else {
@@ -97,10 +97,10 @@ impl Near {
         params: &Fields,
         doc: &Doc,
     ) -> Result<bool, NoMemory>
-        requires filtered { is_filtered (query_of query.now) ≡ true }
+        requires filtered { is_filtered (expression_of query.now) ≡ true }
         requires ascending { ascending (near_docs self.old) ≡ true }
         ensures placed { OnOk result (near_docs self.new ≡ placed (id_of (document doc.now))
-            (kept_if (is_near (query_of query.now) (fields params.now) (bound_of self.old))
+            (kept_if (is_near (expression_of query.now) (fields params.now) (bound_of self.old))
             (Some (document doc.now))) (near_docs self.old)) }
         ensures same { IfOk result (λ b. b ≡ false → near_docs self.new ≡ near_docs self.old) }
         ensures bound { self.new.bound ≡ self.old.bound }
@@ -121,10 +121,10 @@ impl Near {
         params: &Fields,
         change: &Change,
     ) -> Result<bool, NoMemory>
-        requires filtered { is_filtered (query_of query.now) ≡ true }
+        requires filtered { is_filtered (expression_of query.now) ≡ true }
         requires ascending { ascending (near_docs self.old) ≡ true }
         ensures placed { OnOk result (near_docs self.new ≡ placed (edit change.now).0
-            (kept_if (is_near_hit (query_of query.now) (fields params.now) (bound_of self.old))
+            (kept_if (is_near_hit (expression_of query.now) (fields params.now) (bound_of self.old))
             (edit change.now).1.1) (near_docs self.old)) }
         ensures same { IfOk result (λ b. b ≡ false → near_docs self.new ≡ near_docs self.old) }
         ensures bound { self.new.bound ≡ self.old.bound }

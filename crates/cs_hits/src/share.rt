@@ -1,7 +1,7 @@
 //! The share that a hit has in the answer of a mapped query.
 ghost use Rattle.std.specs.Prelude.{◌≡◌, false, true, IfOk};
 ghost use Rattle.cs_value.specs.View.{fields};
-ghost use Rattle.cs_syntax.specs.Queries.{query as query_of};
+ghost use Rattle.cs_syntax.specs.Queries.{query as expression_of};
 ghost use Rattle.cs_view.specs.Changes.{are_changes, LeadTo, Before};
 ghost use Rattle.cs_view.specs.Touched.{touched};
 ghost use Rattle.cs_view.specs.View.{doc as document, edit, edits};
@@ -45,9 +45,9 @@ impl Share {
         view: &V,
         steps: &mut Steps<L>,
     ) -> Result<Share, NoMemory>
-        requires { is_mapped (query_of query.now) ≡ true }
+        requires { is_mapped (expression_of query.now) ≡ true }
         ensures share { IfOk result
-            (IsShare (V.docs view.now) (query_of query.now) (fields params.now)) }
+            (IsShare (V.docs view.now) (expression_of query.now) (fields params.now)) }
         ensures doc { IfOk result (λ s. share_doc s ≡ document doc.now) }
     {
         let mut looked = Record::new(alloc);
@@ -78,13 +78,13 @@ impl Share {
         changes: &[Change],
         steps: &mut Steps<L>,
     ) -> Result<(Share, bool), NoMemory>
-        requires mapped { is_mapped (query_of query.now) ≡ true }
+        requires mapped { is_mapped (expression_of query.now) ≡ true }
         requires changes { are_changes (edits changes.now) ≡ true }
         requires led { LeadTo (V.docs view.now) (edits changes.now) }
         requires share { IsShare (Before (V.docs view.now) (edits changes.now))
-            (query_of query.now) (fields params.now) self }
+            (expression_of query.now) (fields params.now) self }
         ensures share { IfOk result
-            (λ r. IsShare (V.docs view.now) (query_of query.now) (fields params.now) r.0) }
+            (λ r. IsShare (V.docs view.now) (expression_of query.now) (fields params.now) r.0) }
         ensures doc { IfOk result (λ r. share_doc r.0 ≡ share_doc self) }
         ensures same { IfOk result (λ r. r.1 ≡ false → r.0 ≡ self) }
     {

@@ -2,7 +2,7 @@
 ghost use Rattle.std.specs.Prelude.{◌≡◌, ◌++◌, ◌∷◌, ◌&&◌, false, true, map, IfOk, OnOk};
 ghost use Rattle.cs_value.specs.View.{tree, fields};
 ghost use Rattle.cs_value.specs.Words.{list_of};
-ghost use Rattle.cs_syntax.specs.Queries.{query as query_of};
+ghost use Rattle.cs_syntax.specs.Queries.{query as expression_of};
 ghost use Rattle.cs_view.specs.Changes.{After, are_changes, Before, changes_where, LeadTo};
 ghost use Rattle.cs_view.specs.Dataset.{ascending, kept_if, placed};
 ghost use Rattle.cs_view.specs.Touched.{touched};
@@ -33,9 +33,9 @@ fn shares_of<V: View<L>, L: Ledger>(
     view: &V,
     steps: &mut Steps<L>,
 ) -> Result<Vec<Share>, NoMemory>
-    requires { is_mapped (query_of query.now) ≡ true }
+    requires { is_mapped (expression_of query.now) ≡ true }
     ensures docs { IfOk result (λ ss. share_docs ss.items ≡ map document docs.now) }
-    ensures shares { IfOk result (λ ss. AreShares (V.docs view.now) (query_of query.now)
+    ensures shares { IfOk result (λ ss. AreShares (V.docs view.now) (expression_of query.now)
         (fields params.now) ss.items) }
 {
     let mut shares = Vec::with_capacity(alloc, docs.len())?;
@@ -54,10 +54,10 @@ pub fn find_shares<V: View<L>, L: Ledger>(
     view: &V,
     steps: &mut Steps<L>,
 ) -> Result<Vec<Share>, NoMemory>
-    requires { is_mapped (query_of query.now) ≡ true }
+    requires { is_mapped (expression_of query.now) ≡ true }
     ensures hits { IfOk result (λ ss. share_docs ss.items
-        ≡ hits (query_of query.now) (fields params.now) (V.docs view.now)) }
-    ensures shares { IfOk result (λ ss. AreShares (V.docs view.now) (query_of query.now)
+        ≡ hits (expression_of query.now) (fields params.now) (V.docs view.now)) }
+    ensures shares { IfOk result (λ ss. AreShares (V.docs view.now) (expression_of query.now)
         (fields params.now) ss.items) }
 {
     mapped_is_filtered();
@@ -130,13 +130,13 @@ pub fn renew_shares<V: View<L>, L: Ledger>(
     changes: &[Change],
     steps: &mut Steps<L>,
 ) -> Result<(Vec<Share>, bool), NoMemory>
-    requires mapped { is_mapped (query_of query.now) ≡ true }
+    requires mapped { is_mapped (expression_of query.now) ≡ true }
     requires changes { are_changes (edits changes.now) ≡ true }
     requires led { LeadTo (V.docs view.now) (edits changes.now) }
     requires shares { AreShares (Before (V.docs view.now) (edits changes.now))
-        (query_of query.now) (fields params.now) shares.items }
+        (expression_of query.now) (fields params.now) shares.items }
     ensures docs { IfOk result (λ r. share_docs r.0.items ≡ share_docs shares.items) }
-    ensures shares { IfOk result (λ r. AreShares (V.docs view.now) (query_of query.now)
+    ensures shares { IfOk result (λ r. AreShares (V.docs view.now) (expression_of query.now)
         (fields params.now) r.0.items) }
     ensures same { IfOk result (λ r. r.1 ≡ false → r.0.items ≡ shares.items) }
 {
@@ -160,14 +160,14 @@ fn place<V: View<L>, L: Ledger>(
     change: &Change,
     steps: &mut Steps<L>,
 ) -> Result<bool, NoMemory>
-    requires mapped { is_mapped (query_of query.now) ≡ true }
+    requires mapped { is_mapped (expression_of query.now) ≡ true }
     requires ascending { ascending (share_docs shares.old.items) ≡ true }
-    requires shares { AreShares (V.docs view.now) (query_of query.now) (fields params.now)
+    requires shares { AreShares (V.docs view.now) (expression_of query.now) (fields params.now)
         shares.old.items }
     ensures placed { OnOk result (share_docs shares.new.items ≡ placed (edit change.now).0
-        (kept_if (is_hit (query_of query.now) (fields params.now)) (edit change.now).1.1)
+        (kept_if (is_hit (expression_of query.now) (fields params.now)) (edit change.now).1.1)
         (share_docs shares.old.items)) }
-    ensures shares { OnOk result (AreShares (V.docs view.now) (query_of query.now)
+    ensures shares { OnOk result (AreShares (V.docs view.now) (expression_of query.now)
         (fields params.now) shares.new.items) }
     ensures same { IfOk result (λ b. b ≡ false → shares.new.items ≡ shares.old.items) }
 {
@@ -192,12 +192,12 @@ pub fn follow_shares<V: View<L>, L: Ledger>(
     changes: &[Change],
     steps: &mut Steps<L>,
 ) -> Result<bool, NoMemory>
-    requires mapped { is_mapped (query_of query.now) ≡ true }
+    requires mapped { is_mapped (expression_of query.now) ≡ true }
     requires ascending { ascending (share_docs shares.old.items) ≡ true }
-    requires shares { AreShares (V.docs view.now) (query_of query.now) (fields params.now)
+    requires shares { AreShares (V.docs view.now) (expression_of query.now) (fields params.now)
         shares.old.items }
     ensures follow { OnOk result (SharesFollow (V.docs view.now) (edits changes.now)
-        (query_of query.now) (fields params.now) shares.old.items shares.new.items) }
+        (expression_of query.now) (fields params.now) shares.old.items shares.new.items) }
     ensures same { IfOk result (λ b. b ≡ false → shares.new.items ≡ shares.old.items) }
 {
     let mut touched = false;

@@ -20,7 +20,7 @@ use Rattle.cs_kept.specs.Keys.{keys_of, rest_of}
 use Rattle.cs_kept.specs.Rows.{rows as rows_of, IsSettled}
 use Rattle.cs_hits.specs.Shares.{AreShares, share_docs, share_values}
 use Rattle.cs_kept.specs.Mapped.{mapped_keys}
-use Rattle.cs_kept.specs.Kept.{query_of, params_of, last_of}
+use Rattle.cs_kept.specs.Kept.{expression_of, params_of, last_of}
 use Rattle.cs_kept.specs.declared.recorded.Recorded.{Recorded}
 use Rattle.cs_hits.specs.declared.behind.Behind.{Behind}
 use Rattle.cs_kept.specs.declared.kept.Kept.{Kept}
@@ -95,12 +95,12 @@ KeepsRecord cs _ _ = ⊥
 
 -- what is kept is the answer to this query with these parameters over a dataset, and fits it
 pub record Answers (docs : List Tree) (q : Expression) (ps : Pairs) (k : Kept) : Type 0 where
-  pub query : query_of k ≡ q
+  pub query : expression_of k ≡ q
   pub params : params_of k ≡ ps
   pub last : last_of k ≡ query_value docs ps q
   pub fits : FitsKept docs k
 
 -- what a commit does to how one answer is kept
 pub record RefreshesKept (docs : List Tree) (cs : List Edit) (old new : Kept) : Type 0 where
-  pub answers : Answers docs (query_of old) (params_of old) new
+  pub answers : Answers docs (expression_of old) (params_of old) new
   pub records : KeepsRecord cs old new

@@ -6,10 +6,10 @@ use Rattle.cs_syntax.specs.Queries.{query}
 use Rattle.cs_kept.specs.declared.kept.Kept.{Kept}
 use Rattle.cs_kept.specs.declared.kept.Kept.TheVariants.{ByRecord, InRows, InShares}
 
-abbrev pub query_of : Kept → Expression
-query_of (ByRecord r) = query r.query
-query_of (InRows r) = query r.query
-query_of (InShares m) = query m.query
+abbrev pub expression_of : Kept → Expression
+expression_of (ByRecord r) = query r.query
+expression_of (InRows r) = query r.query
+expression_of (InShares m) = query m.query
 
 abbrev pub params_of : Kept → Pairs
 params_of (ByRecord r) = fields r.params

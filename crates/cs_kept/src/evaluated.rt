@@ -1,7 +1,7 @@
 //! The value of a query that is not simple, with what finding it looked up.
 ghost use Rattle.std.specs.Prelude.{◌≡◌, true, IfOk};
 ghost use Rattle.cs_value.specs.View.{fields};
-ghost use Rattle.cs_syntax.specs.Queries.{query as query_of};
+ghost use Rattle.cs_syntax.specs.Queries.{query as expression_of};
 ghost use Rattle.cs_window.specs.Windowed.{is_windowed};
 ghost use Rattle.cs_hits.specs.Behind.{AreBehind};
 ghost use Rattle.cs_kept.specs.Evaluated.{IsEvaluated};
@@ -35,7 +35,7 @@ pub(crate) fn evaluate<V: View<L>, L: Ledger>(
     view: &V,
     steps: &mut Steps<L>,
 ) -> Result<Evaluated, NoMemory>
-    ensures { IfOk result (IsEvaluated (V.docs view.now) (query_of query.now)
+    ensures { IfOk result (IsEvaluated (V.docs view.now) (expression_of query.now)
         (fields params.now) seed.now) }
 {
     let mut record = Record::new(alloc);
@@ -54,12 +54,12 @@ pub(crate) fn evaluate_behind<V: View<L>, L: Ledger>(
     view: &V,
     steps: &mut Steps<L>,
 ) -> Result<Evaluated, NoMemory>
-    requires windowed { is_windowed (query_of query.now) ≡ true }
-    requires are { AreBehind (V.docs view.now) (query_of query.now) (fields params.now)
+    requires windowed { is_windowed (expression_of query.now) ≡ true }
+    requires are { AreBehind (V.docs view.now) (expression_of query.now) (fields params.now)
         behind.old }
-    ensures evaluated { IfOk result (IsEvaluated (V.docs view.now) (query_of query.now)
+    ensures evaluated { IfOk result (IsEvaluated (V.docs view.now) (expression_of query.now)
         (fields params.now) seed.now) }
-    ensures fits { IfOk result (λ found. FitsWindow (V.docs view.now) (query_of query.now)
+    ensures fits { IfOk result (λ found. FitsWindow (V.docs view.now) (expression_of query.now)
         (fields params.now) (rest_of found.keys) behind.new) }
 {
     windowed_is_filtered();

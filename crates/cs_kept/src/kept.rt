@@ -2,7 +2,7 @@
 ghost use Rattle.std.specs.Prelude.{◌≡◌, ◌≤◌, ◌+◌, true, not, IfOk, OnOk};
 ghost use Rattle.cs_value.specs.Same.{same_tree};
 ghost use Rattle.cs_value.specs.View.{tree, fields};
-ghost use Rattle.cs_syntax.specs.Queries.{query as query_of};
+ghost use Rattle.cs_syntax.specs.Queries.{query as expression_of};
 ghost use Rattle.cs_view.specs.Changes.{are_changes, LeadTo, Before};
 ghost use Rattle.cs_view.specs.View.{edits};
 ghost use Rattle.cs_plan.specs.Simple.{is_simple};
@@ -48,11 +48,11 @@ impl Kept {
         view: &V,
         steps: &mut Steps<L>,
     ) -> Result<Kept, NoMemory>
-        ensures answers { IfOk result (λ kept. Answers (V.docs view.now) (query_of query)
+        ensures answers { IfOk result (λ kept. Answers (V.docs view.now) (expression_of query)
             (fields params) kept) }
         ensures coded { IfOk result (λ kept. IsCoded seed.now kept) }
-        ensures visits { is_simple (query_of query) ≡ true
-            → steps.new ≤ steps.old + cost (query_of query) (fields params) (V.docs view.now) }
+        ensures visits { is_simple (expression_of query) ≡ true
+            → steps.new ≤ steps.old + cost (expression_of query) (fields params) (V.docs view.now) }
     {
         if simple(&query) {
             return Ok(Kept::InRows(Rows::build(alloc, seed, query, params, view, steps)?));

@@ -3,7 +3,7 @@ ghost use Rattle.std.specs.Prelude.{◌≡◌, false, true, not, IfOk, OnOk};
 ghost use Rattle.cs_value.specs.Same.{same_tree};
 ghost use Rattle.cs_value.specs.View.{tree, fields};
 ghost use Rattle.cs_value.specs.Words.{list_of};
-ghost use Rattle.cs_syntax.specs.Queries.{query as query_of};
+ghost use Rattle.cs_syntax.specs.Queries.{query as expression_of};
 ghost use Rattle.cs_view.specs.Changes.{are_changes, LeadTo, Before};
 ghost use Rattle.cs_view.specs.Dataset.{ascending};
 ghost use Rattle.cs_view.specs.Touched.{touched};
@@ -56,9 +56,9 @@ impl Mapped {
         view: &V,
         steps: &mut Steps<L>,
     ) -> Result<Mapped, NoMemory>
-        requires compound { is_simple (query_of query) ≡ false }
-        requires mapped { is_mapped (query_of query) ≡ true }
-        ensures answers { IfOk result (λ m. Answers (V.docs view.now) (query_of query)
+        requires compound { is_simple (expression_of query) ≡ false }
+        requires mapped { is_mapped (expression_of query) ≡ true }
+        ensures answers { IfOk result (λ m. Answers (V.docs view.now) (expression_of query)
             (fields params) (Kept.InShares m)) }
         ensures coded { IfOk result (λ m. IsCoded seed.now (Kept.InShares m)) }
     {
@@ -93,14 +93,14 @@ impl Mapped {
         changes: &[Change],
         steps: &mut Steps<L>,
     ) -> Result<bool, NoMemory>
-        requires mapped { is_mapped (query_of self.old.query) ≡ true }
+        requires mapped { is_mapped (expression_of self.old.query) ≡ true }
         requires changes { are_changes (edits changes.now) ≡ true }
         requires led { LeadTo (V.docs view.now) (edits changes.now) }
         requires ascending { ascending (share_docs self.old.shares.items) ≡ true }
         requires shares { AreShares (Before (V.docs view.now) (edits changes.now))
-            (query_of self.old.query) (fields self.old.params) self.old.shares.items }
+            (expression_of self.old.query) (fields self.old.params) self.old.shares.items }
         ensures follow { OnOk result (SharesFollow (V.docs view.now) (edits changes.now)
-            (query_of self.old.query) (fields self.old.params) self.old.shares.items
+            (expression_of self.old.query) (fields self.old.params) self.old.shares.items
             self.new.shares.items) }
         ensures same { IfOk result
             (λ b. b ≡ false → self.new.shares.items ≡ self.old.shares.items) }

@@ -2,7 +2,7 @@
 ghost use Rattle.std.specs.Prelude.{◌≡◌, false, true, not, IfOk, IfSome, OnOk};
 ghost use Rattle.cs_value.specs.Same.{same_tree};
 ghost use Rattle.cs_value.specs.View.{tree, fields};
-ghost use Rattle.cs_syntax.specs.Queries.{query as query_of};
+ghost use Rattle.cs_syntax.specs.Queries.{query as expression_of};
 ghost use Rattle.cs_view.specs.Changes.{are_changes, LeadTo, Before};
 ghost use Rattle.cs_view.specs.Touched.{touched};
 ghost use Rattle.cs_view.specs.View.{edits};
@@ -52,8 +52,8 @@ impl Recorded {
         view: &V,
         steps: &mut Steps<L>,
     ) -> Result<Recorded, NoMemory>
-        requires compound { is_by_hits (query_of query) ≡ false }
-        ensures answers { IfOk result (λ r. Answers (V.docs view.now) (query_of query)
+        requires compound { is_by_hits (expression_of query) ≡ false }
+        ensures answers { IfOk result (λ r. Answers (V.docs view.now) (expression_of query)
             (fields params) (Kept.ByRecord r)) }
         ensures coded { IfOk result (λ r. IsCoded seed.now (Kept.ByRecord r)) }
     {
@@ -79,9 +79,9 @@ impl Recorded {
         view: &V,
         steps: &mut Steps<L>,
     ) -> Result<Recorded, NoMemory>
-        requires compound { is_by_hits (query_of query) ≡ false }
-        requires windowed { is_windowed (query_of query) ≡ true }
-        ensures answers { IfOk result (λ r. Answers (V.docs view.now) (query_of query)
+        requires compound { is_by_hits (expression_of query) ≡ false }
+        requires windowed { is_windowed (expression_of query) ≡ true }
+        ensures answers { IfOk result (λ r. Answers (V.docs view.now) (expression_of query)
             (fields params) (Kept.ByRecord r)) }
         ensures coded { IfOk result (λ r. IsCoded seed.now (Kept.ByRecord r)) }
     {
@@ -126,10 +126,10 @@ impl Recorded {
         steps: &mut Steps<L>,
     ) -> Result<Evaluated, NoMemory>
         requires { IfSome self.old.behind (AreHeld (V.docs view.now) self.old) }
-        ensures evaluated { IfOk result (IsEvaluated (V.docs view.now) (query_of self.old.query)
+        ensures evaluated { IfOk result (IsEvaluated (V.docs view.now) (expression_of self.old.query)
             (fields self.old.params) seed.now) }
         ensures fits { IfOk result (λ found. IfSome self.new.behind (FitsWindow (V.docs view.now)
-            (query_of self.old.query) (fields self.old.params) (rest_of found.keys))) }
+            (expression_of self.old.query) (fields self.old.params) (rest_of found.keys))) }
         ensures asks { KeepsAnswer self.old self.new }
     {
         match &mut self.behind {

@@ -2,7 +2,7 @@
 ghost use Rattle.std.specs.Prelude.{◌≡◌, ◌≤◌, ◌+◌, ◌∷◌, [], true, not, IfOk, OnOk};
 ghost use Rattle.cs_value.specs.Same.{same_tree};
 ghost use Rattle.cs_value.specs.View.{tree, fields};
-ghost use Rattle.cs_syntax.specs.Queries.{query as query_of};
+ghost use Rattle.cs_syntax.specs.Queries.{query as expression_of};
 ghost use Rattle.cs_view.specs.Changes.{are_changes, LeadTo, Before, After, changes_where};
 ghost use Rattle.cs_view.specs.Dataset.{ascending};
 ghost use Rattle.cs_view.specs.View.{edits};
@@ -47,9 +47,9 @@ fn codes(
     query: &Query,
     params: &Fields,
 ) -> Result<Vec<u64>, NoMemory>
-    requires { is_filtered (query_of query.now) ≡ true }
+    requires { is_filtered (expression_of query.now) ≡ true }
     ensures { IfOk result (λ cs. cs.items
-        ≡ interest_code seed.now (hit_key (query_of query.now) (fields params.now)) ∷ []) }
+        ≡ interest_code seed.now (hit_key (expression_of query.now) (fields params.now)) ∷ []) }
 {
     let keys = keys_of(alloc, query, params)?;
     let mut codes = Vec::new(alloc);
@@ -67,12 +67,12 @@ impl Rows {
         view: &V,
         steps: &mut Steps<L>,
     ) -> Result<Rows, NoMemory>
-        requires { is_simple (query_of query) ≡ true }
-        ensures answers { IfOk result (λ r. Answers (V.docs view.now) (query_of query)
+        requires { is_simple (expression_of query) ≡ true }
+        ensures answers { IfOk result (λ r. Answers (V.docs view.now) (expression_of query)
             (fields params) (Kept.InRows r)) }
         ensures coded { IfOk result (λ r. IsCoded seed.now (Kept.InRows r)) }
         ensures visits { steps.new
-            ≤ steps.old + cost (query_of query) (fields params) (V.docs view.now) }
+            ≤ steps.old + cost (expression_of query) (fields params) (V.docs view.now) }
     {
         simple_is_filtered();
         simple_is_tail_of_hits();
@@ -91,8 +91,8 @@ impl Rows {
 
     // Finds the answer anew: whether it is another tree now.
     fn settle(&mut self, alloc: Global) -> Result<bool, NoMemory>
-        requires filtered { is_filtered (query_of self.old.query) ≡ true }
-        requires near { AreNear (query_of self.old.query) (fields self.old.params) self.old.hits }
+        requires filtered { is_filtered (expression_of self.old.query) ≡ true }
+        requires near { AreNear (expression_of self.old.query) (fields self.old.params) self.old.hits }
         ensures settled { OnOk result (IsSettled self.new) }
         ensures rows { OnOk result (rows self.new ≡ rows self.old) }
         ensures stale { IfOk result
@@ -111,7 +111,7 @@ impl Rows {
     // Brings the rows and the answer behind the changes: whether the answer is another tree now.
     // Where no change touches what settles the answer it stays as it is.
     fn follow(&mut self, alloc: Global, changes: &[Change]) -> Result<bool, NoMemory>
-        requires filtered { is_filtered (query_of self.old.query) ≡ true }
+        requires filtered { is_filtered (expression_of self.old.query) ≡ true }
         requires ascending { ascending (rows self.old) ≡ true }
         requires settled { IsSettled self.old }
         requires changes { are_changes (edits changes.now) ≡ true }

@@ -1,7 +1,7 @@
 //! A live query with its last answer, and what is said of it.
 ghost use Rattle.std.specs.Prelude.{◌≡◌, ◌≤◌, ◌+◌, ◌++◌, true, map, IfOk, OnOk};
 ghost use Rattle.cs_value.specs.View.{tree, fields};
-ghost use Rattle.cs_syntax.specs.Queries.{query as query_of};
+ghost use Rattle.cs_syntax.specs.Queries.{query as expression_of};
 ghost use Rattle.cs_view.specs.Changes.{are_changes, LeadTo, Before};
 ghost use Rattle.cs_view.specs.View.{edits};
 ghost use Rattle.cs_plan.specs.Simple.{is_simple};
@@ -52,12 +52,12 @@ impl Entry {
         steps: &mut Steps<L>,
     ) -> Result<Entry, NoMemory>
         ensures made { IfOk result (λ e. live_query e
-            ≡ made (V.docs view.now) name (query_of query) (fields params)) }
+            ≡ made (V.docs view.now) name (expression_of query) (fields params)) }
         ensures fits { IfOk result (λ e. FitsOne (V.docs view.now) e) }
         ensures coded { IfOk result (λ e. IsCoded seed.now e.kept) }
         ensures number { IfOk result (λ e. e.number ≡ number) }
-        ensures visits { is_simple (query_of query) ≡ true
-            → steps.new ≤ steps.old + cost (query_of query) (fields params) (V.docs view.now) }
+        ensures visits { is_simple (expression_of query) ≡ true
+            → steps.new ≤ steps.old + cost (expression_of query) (fields params) (V.docs view.now) }
     {
         let kept = Kept::make(alloc, seed, query, params, view, steps)?;
         Ok(Entry { name, kept, number })

@@ -2,7 +2,7 @@
 ghost use Rattle.std.specs.Prelude.{◌≡◌, ◌++◌, ◌∷◌, ◌<◌, ◌≤◌, ◌+◌, [], List, length, get_or, IfOk, OnOk, OnErr, IfErr, true, false, map, option_map};
 ghost use Rattle.cs_value.specs.Tree.{Tree};
 ghost use Rattle.cs_value.specs.View.{tree, fields};
-ghost use Rattle.cs_syntax.specs.Queries.{query as query_of};
+ghost use Rattle.cs_syntax.specs.Queries.{query as expression_of};
 ghost use Rattle.cs_view.specs.Changes.{are_changes, LeadTo, Before};
 ghost use Rattle.cs_view.specs.View.{edits};
 ghost use Rattle.cs_plan.specs.Simple.{is_simple};
@@ -154,17 +154,17 @@ impl Live {
     ) -> Result<LiveLine, LiveFault>
         ensures room { OnOk result (HasRoom name (lives self.old)) }
         ensures added { OnOk result (lives self.new ≡ lives self.old
-            ++ made (V.docs view.now) name (query_of query) (fields params) ∷ []) }
+            ++ made (V.docs view.now) name (expression_of query) (fields params) ∷ []) }
         ensures line { IfOk result (λ line. said line
-            ≡ say (made (V.docs view.now) name (query_of query) (fields params))) }
+            ≡ say (made (V.docs view.now) name (expression_of query) (fields params))) }
         ensures fits { OnOk result (Fits self.old (V.docs view.now)
             → Fits self.new (V.docs view.now)) }
         ensures cause { IfErr result (λ fault. IsCause fault name (lives self.old)) }
         ensures unchanged { OnErr result (entries self.new ≡ entries self.old) }
         ensures fits_still { OnErr result ((docs : List Tree) → Fits self.old docs
             → Fits self.new docs) }
-        ensures visits { is_simple (query_of query) ≡ true
-            → steps.new ≤ steps.old + cost (query_of query) (fields params) (V.docs view.now) }
+        ensures visits { is_simple (expression_of query) ≡ true
+            → steps.new ≤ steps.old + cost (expression_of query) (fields params) (V.docs view.now) }
     {
         self.find_room(name.as_str())?;
         match self.enter(name, query, params, view, steps) {
@@ -183,16 +183,16 @@ impl Live {
         steps: &mut Steps<L>,
     ) -> Result<LiveLine, NoMemory>
         ensures added { OnOk result (lives self.new ≡ lives self.old
-            ++ made (V.docs view.now) name (query_of query) (fields params) ∷ []) }
+            ++ made (V.docs view.now) name (expression_of query) (fields params) ∷ []) }
         ensures line { IfOk result (λ line. said line
-            ≡ say (made (V.docs view.now) name (query_of query) (fields params))) }
+            ≡ say (made (V.docs view.now) name (expression_of query) (fields params))) }
         ensures fits { OnOk result (Fits self.old (V.docs view.now)
             → Fits self.new (V.docs view.now)) }
         ensures unchanged { OnErr result (entries self.new ≡ entries self.old) }
         ensures fits_still { OnErr result ((docs : List Tree) → Fits self.old docs
             → Fits self.new docs) }
-        ensures visits { is_simple (query_of query) ≡ true
-            → steps.new ≤ steps.old + cost (query_of query) (fields params) (V.docs view.now) }
+        ensures visits { is_simple (expression_of query) ≡ true
+            → steps.new ≤ steps.old + cost (expression_of query) (fields params) (V.docs view.now) }
     {
         let number = self.next;
         if number >= HIGHEST {
