@@ -12,5 +12,5 @@ pub use cs_meaning::{
 };
 pub use cs_parts::Got;
 pub use each::{mapped, share};
-pub use queries::{eval, hit, hits, key_of, keys_of, tail};
+pub use queries::{eval, hit, hits, query_key, query_keys, tail};
 pub use windows::{is_near, keys_at, tail_over, window, windowed};

@@ -107,7 +107,7 @@ pub fn hits<V: View<L>, L: Ledger>(
     ensures visits { steps.new
         ≤ steps.old + cost (expression_of query.now) (fields params.now) (V.docs view.now) }
 {
-    let keys = keys_of(alloc, query, params)?;
+    let keys = query_keys(alloc, query, params)?;
     let places = View::select_all(view, alloc, &keys)?;
     let mut found = Vec::new(alloc);
     for place in &places {
@@ -137,7 +137,7 @@ fn push_hit(
 
 /// The keys that the filter of a query gives: each of its hits has them all. It visits nothing.
 /// `NoMemory` where the allocator has no room for them.
-pub fn keys_of(alloc: Global, query: &Query, params: &Fields) -> Result<Vec<Key>, NoMemory>
+pub fn query_keys(alloc: Global, query: &Query, params: &Fields) -> Result<Vec<Key>, NoMemory>
     requires { is_filtered (expression_of query.now) ≡ true }
     ensures { IfOk result
         (λ ks. ks.items ≡ query_keys (expression_of query.now) (fields params.now)) }
@@ -154,7 +154,7 @@ pub fn keys_of(alloc: Global, query: &Query, params: &Fields) -> Result<Vec<Key>
 
 /// The key by which a query of one filter looks its documents up. It visits nothing. `NoMemory`
 /// where the allocator has no room for it.
-pub fn key_of(alloc: Global, query: &Query, params: &Fields) -> Result<Key, NoMemory>
+pub fn query_key(alloc: Global, query: &Query, params: &Fields) -> Result<Key, NoMemory>
     requires { is_filtered (expression_of query.now) ≡ true }
     ensures { IfOk result
         (λ k. k ≡ query_key (expression_of query.now) (fields params.now)) }

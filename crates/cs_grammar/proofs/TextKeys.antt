@@ -3,9 +3,9 @@ use Rattle.std.proofs.Common.{IsTrue}
 use Rattle.std.specs.Prelude.{◌↔◌, IsSome}
 use Rattle.cs_syntax.specs.Brackets.{is_text}
 use Rattle.cs_syntax.specs.Expression.{Expression, null_literal, bool_literal, number_literal, text_literal, param, word, this, everything, parent, round, call, array, object_literal, chain, prefix, run, within, between}
-use Rattle.cs_grammar.specs.Reading.{key_of}
+use Rattle.cs_grammar.specs.Reading.{text_key}
 
-pub text_has_key : (e : Expression) → IsTrue (is_text e) ↔ IsSome (key_of e)
+pub text_has_key : (e : Expression) → IsTrue (is_text e) ↔ IsSome (text_key e)
 text_has_key null_literal = (λ h. h, λ h. h)
 text_has_key (bool_literal b) = (λ h. h, λ h. h)
 text_has_key (number_literal n) = (λ h. h, λ h. h)

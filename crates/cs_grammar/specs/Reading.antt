@@ -179,9 +179,9 @@ abbrev pub expect : Sign → List Tok → (List Tok → Outcome) → Outcome
 expect s ts k = match_after (after s ts) k fail
 
 -- what a text is, where the expression is one alone
-abbrev pub key_of : Expression → Option (List ℕ)
-key_of (text_literal t) = Some t
-key_of _ = None
+abbrev pub text_key : Expression → Option (List ℕ)
+text_key (text_literal t) = Some t
+text_key _ = None
 
 -- a word that nothing follows which makes it a name
 abbrev pub plain_word : List ℕ → Option Expression → Expression
@@ -370,7 +370,7 @@ module _ (f : Oracle) where
   read_keyed xs e r =
       match_after (after sign.FatArrow r) (λ s. bind (f expr s) (λ v t. f (next_entry (xs
       ++ (when e v ∷ []))) t))
-      (match_after (key_of e)
+      (match_after (text_key e)
       (λ k. match_after (after sign.Colon r) (λ s. bind (f expr s) (λ v t. f (next_entry (xs
       ++ (keyed k v ∷ []))) t)) (f (next_entry (xs ++ (bare e ∷ []))) r))
       (f (next_entry (xs ++ (bare e ∷ []))) r))

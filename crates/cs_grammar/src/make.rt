@@ -4,7 +4,7 @@ ghost use Rattle.cs_syntax.specs.Expression.{number_literal, text_literal, param
 ghost use Rattle.cs_syntax.specs.Escapes.{decoded};
 ghost use Rattle.cs_syntax.specs.View.{expression, step, entry, elem, arg, key, operands, steps, entries, elements, arguments, keys};
 ghost use Rattle.cs_grammar.specs.Spells.{constant_of};
-ghost use Rattle.cs_grammar.specs.Reading.{key_of, plain_word, name_of_words};
+ghost use Rattle.cs_grammar.specs.Reading.{text_key, plain_word, name_of_words};
 ghost use Rattle.cs_grammar.specs.View.{text_of};
 
 use cs_syntax::{Arg, BinSign, Elem, Entry, Expr, OrderKey, PreSign, Step, unescape};
@@ -320,7 +320,7 @@ pub fn spread_this() -> Entry
 // Whether the expression is a text alone, and so the key of an entry before a colon.
 #[tactic(auto, using(crate::proofs::TextKeys::text_has_key))]
 pub fn is_text(e: &Box<Expr>) -> bool
-    ensures { IsTrue result ↔ IsSome (key_of (expression e.now.value)) }
+    ensures { IsTrue result ↔ IsSome (text_key (expression e.now.value)) }
 {
     e.is_text()
 }
@@ -328,8 +328,8 @@ pub fn is_text(e: &Box<Expr>) -> bool
 // An entry with a key, where the expression before the colon is a text alone.
 #[tactic(auto, unfolding(cs_syntax::specs::View::entry, cs_syntax::specs::View::expression))]
 pub fn keyed(key: Box<Expr>, e: Box<Expr>) -> Entry
-    requires { IsSome (key_of (expression key.value)) }
-    ensures { (k : List ℕ) → key_of (expression key.value) ≡ Some k →
+    requires { IsSome (text_key (expression key.value)) }
+    ensures { (k : List ℕ) → text_key (expression key.value) ≡ Some k →
         entry result ≡ keyed k (expression e.value) }
 {
     match Box::into_inner(key) {

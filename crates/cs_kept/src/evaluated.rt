@@ -9,7 +9,7 @@ ghost use Rattle.cs_kept.specs.Fits.{FitsWindow};
 ghost use Rattle.cs_kept.specs.Keys.{rest_of};
 
 use crate::keys::Keys;
-use cs_eval::{eval, key_of, tail_over};
+use cs_eval::{eval, query_key, tail_over};
 use cs_hits::Behind;
 use cs_syntax::Query;
 use cs_value::{Fields, NoMemory, Steps, Val};
@@ -69,7 +69,7 @@ pub(crate) fn evaluate_behind<V: View<L>, L: Ledger>(
     let mut record = Record::new(alloc);
     let docs = behind.docs();
     let answer = tail_over(alloc, query, params, docs, view, &mut record, steps)?;
-    let own = key_of(alloc, query, params)?;
+    let own = query_key(alloc, query, params)?;
     let keys = Keys::with(alloc, seed, own, record)?;
     behind.narrow(alloc, query, params)?;
     Ok(Evaluated { answer, keys })

@@ -18,7 +18,7 @@ ghost use Rattle.cs_kept.specs.declared.kept.Kept.{Kept};
 
 use crate::same::is_same;
 use crate::settling::settle_each;
-use cs_eval::{hits_have_key, key_of};
+use cs_eval::{hits_have_key, query_key};
 use cs_hits::{
     Share, answer_of, codes_of, find_shares, follow_shares, renew_shares, shares_touched,
 };
@@ -66,7 +66,7 @@ impl Mapped {
         mapped_is_shares_of_hits();
         let shares = find_shares(alloc, &query, &params, view, steps)?;
         let last = answer_of(alloc, &shares)?;
-        let own = key_of(alloc, &query, &params)?;
+        let own = query_key(alloc, &query, &params)?;
         let codes = codes_of(alloc, seed, &own, &shares)?;
         Ok(Mapped {
             query,

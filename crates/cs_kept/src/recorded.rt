@@ -126,8 +126,8 @@ impl Recorded {
         steps: &mut Steps<L>,
     ) -> Result<Evaluated, NoMemory>
         requires { IfSome self.old.behind (AreHeld (V.docs view.now) self.old) }
-        ensures evaluated { IfOk result (IsEvaluated (V.docs view.now) (expression_of self.old.query)
-            (fields self.old.params) seed.now) }
+        ensures evaluated { IfOk result (IsEvaluated (V.docs view.now)
+            (expression_of self.old.query) (fields self.old.params) seed.now) }
         ensures fits { IfOk result (λ found. IfSome self.new.behind (FitsWindow (V.docs view.now)
             (expression_of self.old.query) (fields self.old.params) (rest_of found.keys))) }
         ensures asks { KeepsAnswer self.old self.new }

@@ -17,7 +17,7 @@ ghost use Rattle.cs_kept.specs.Rows.{rows, is_row, AsksTheSame, IsSettled};
 ghost use Rattle.cs_kept.specs.declared.kept.Kept.{Kept};
 
 use crate::same::is_same;
-use cs_eval::{keys_of, simple_is_tail_of_hits, tail};
+use cs_eval::{query_keys, simple_is_tail_of_hits, tail};
 use cs_hits::Hits;
 use cs_interest::narrowest_code;
 use cs_syntax::Query;
@@ -51,7 +51,7 @@ fn codes(
     ensures { IfOk result (λ cs. cs.items
         ≡ interest_code seed.now (hit_key (expression_of query.now) (fields params.now)) ∷ []) }
 {
-    let keys = keys_of(alloc, query, params)?;
+    let keys = query_keys(alloc, query, params)?;
     let mut codes = Vec::new(alloc);
     codes.push(narrowest_code(seed, &keys))?;
     Ok(codes)
@@ -92,7 +92,8 @@ impl Rows {
     // Finds the answer anew: whether it is another tree now.
     fn settle(&mut self, alloc: Global) -> Result<bool, NoMemory>
         requires filtered { is_filtered (expression_of self.old.query) ≡ true }
-        requires near { AreNear (expression_of self.old.query) (fields self.old.params) self.old.hits }
+        requires near { AreNear (expression_of self.old.query) (fields self.old.params)
+            self.old.hits }
         ensures settled { OnOk result (IsSettled self.new) }
         ensures rows { OnOk result (rows self.new ≡ rows self.old) }
         ensures stale { IfOk result

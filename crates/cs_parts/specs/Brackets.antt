@@ -19,7 +19,7 @@ is_back true (suc n) = true
 abbrev pub place_of : Place → ℤ
 place_of p = signed_place p.negative (whole_number p.digits.now)
 
-abbrev pub asked : Bracket → Bracketed
-asked (Position p) = position (place_of p)
-asked (Named w) = named w.now
-asked Condition = condition
+abbrev pub stands_for : Bracket → Bracketed
+stands_for (Position p) = position (place_of p)
+stands_for (Named w) = named w.now
+stands_for Condition = condition

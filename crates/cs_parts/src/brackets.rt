@@ -7,7 +7,7 @@ ghost use Rattle.cs_plan.specs.Steps.{bracketed, condition, position_of, number_
 ghost use Rattle.cs_plan.specs.Simple.{is_filter};
 ghost use Rattle.cs_meaning.specs.Looked.{starts_with_filter};
 ghost use Rattle.cs_parts.specs.Kinds.{kinds_of};
-ghost use Rattle.cs_parts.specs.Brackets.{asked, place_of, signed_place};
+ghost use Rattle.cs_parts.specs.Brackets.{stands_for, place_of, signed_place};
 
 use cs_plan::text_of;
 use cs_syntax::{Expr, PreSign, Step};
@@ -65,7 +65,7 @@ pub fn position_of(expr: &Expr) -> Option<Place<'_>>
 
 /// What the bracket around this expression asks for.
 pub fn bracket_of(expr: &Expr) -> Bracket<'_>
-    ensures { asked result ≡ bracketed (expression expr.now) }
+    ensures { stands_for result ≡ bracketed (expression expr.now) }
 {
     match position_of(expr) {
         Some(place) => Bracket::Position(place),

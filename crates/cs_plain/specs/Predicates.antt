@@ -9,5 +9,5 @@ abbrev pub filter : Plain → Expression
 filter p = unwrap_or (listened_filter (query p.query)) null_literal
 
 -- the query that it came from
-abbrev pub asked : Plain → Expression
-asked p = query p.query
+abbrev pub own_query : Plain → Expression
+own_query p = query p.query

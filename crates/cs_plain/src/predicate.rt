@@ -19,7 +19,7 @@ pub struct Plain {
 }
 
 impl Plain {
-    ghost use Rattle.cs_plain.specs.Predicates.{filter, asked};
+    ghost use Rattle.cs_plain.specs.Predicates.{filter, own_query};
 
     /// The predicate of a query: `*`, which stands for `true`, or `*` and one filter whose
     /// condition is plain. Any other query is handed back, and no other. It takes no memory.
@@ -39,8 +39,8 @@ impl Plain {
 
     /// The tree of the query that it came from.
     pub(crate) fn expr(&self) -> &Expr
-        ensures kept { expression result.now ≡ asked self.now }
-        ensures plain { is_some (listened_filter (asked self.now)) ≡ true }
+        ensures kept { expression result.now ≡ own_query self.now }
+        ensures plain { is_some (listened_filter (own_query self.now)) ≡ true }
     {
         self.query.expr()
     }
