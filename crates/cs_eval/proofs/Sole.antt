@@ -1,5 +1,5 @@
 -- The element of a list of one.
-use Rattle.std.proofs.Common.{◌≡◌, List, [], ◌∷◌, length, arith, ◌++◌, map, ap, sym, ◌∙◌, refl, Option, Some, None}
+use Rattle.std.proofs.Common.{◌≡◌, List, [], ◌∷◌, ◌++◌, map, ap, sym, ◌∙◌, refl, Option, Some, None}
 use Rattle.std.specs.Prelude.{option_map}
 use Rattle.std.specs.Option.{option_to_list}
 use Rattle.cs_value.specs.Tree.{Tree, null, boolean, integer, text, list, object, members}

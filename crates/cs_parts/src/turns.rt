@@ -1,7 +1,7 @@
 //! Small questions and makings of an evaluation.
 ghost use Rattle.std.specs.Prelude.{◌≡◌, ◌∷◌, [], IfOk, map, unwrap_or};
 ghost use Rattle.cs_value.specs.Words.{as_list};
-ghost use Rattle.cs_syntax.specs.View.{expression, step as step_of};
+ghost use Rattle.cs_syntax.specs.View.{expression};
 ghost use Rattle.cs_meaning.specs.Looked.{is_everything};
 ghost use Rattle.cs_meaning.specs.Operators.{signed};
 ghost use Rattle.cs_parts.specs.Turns.{turn, is_end, is_over_way};
@@ -9,7 +9,7 @@ ghost use Rattle.cs_parts.specs.Parts.{got, item};
 
 use crate::literals::signed;
 use crate::{Entrance, Got, Item, Way, elements, push, settle};
-use cs_syntax::{Expr, PreSign, Step};
+use cs_syntax::{Expr, PreSign};
 use cs_value::NoMemory;
 use std::alloc::Global;
 

@@ -1,9 +1,9 @@
 // The name of a pair in a vector.
-ghost use Rattle.std.specs.Prelude.{◌≡◌, ◌≤◌, IfOk, length, min, take};
+ghost use Rattle.std.specs.Prelude.{◌≡◌, IfOk};
 
 use crate::memory::NoMemory;
+use crate::txt::Txt;
 use crate::txt::inside::Short;
-use crate::txt::{MOST_INSIDE, Txt};
 use std::alloc::Global;
 use std::boxed::Box;
 use std::marker::Model;
