@@ -8,8 +8,6 @@ mod mutation;
 mod parts;
 mod patch;
 mod target;
-#[cfg(test)]
-mod tests;
 mod txn;
 
 pub use laws::{transactions_are_within, transactions_have_ids};

@@ -7,8 +7,6 @@ mod fault;
 mod functions;
 mod laws;
 mod numbers;
-#[cfg(test)]
-mod tests;
 mod walk;
 
 pub use fault::Fault;

@@ -12,8 +12,6 @@ mod narrow;
 mod pick;
 mod put;
 mod referrers;
-#[cfg(test)]
-mod tests;
 mod view;
 
 pub use commit::{InstallFault, install};

@@ -8,8 +8,6 @@ mod direct;
 mod node;
 mod send;
 mod ser;
-#[cfg(test)]
-mod tests;
 
 pub use de::{ValueReader, read};
 pub use node::{Member, Node};

@@ -17,6 +17,3 @@ pub use laws::{a_text_spells_at_most_one_path, each_text_is_read, reading_is_ver
 pub use path::{Comparison, Item, Items, JsonPath, Step, Test};
 pub use places::{Part, Place};
 pub use read::PathFault;
-
-#[cfg(test)]
-mod tests;

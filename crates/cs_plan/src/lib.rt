@@ -22,6 +22,3 @@ pub use quiet::is_quiet;
 pub use scopes::up;
 pub use steps::text_of;
 pub use tails::{is_condition, simple};
-
-#[cfg(test)]
-mod tests;

@@ -1,6 +1,5 @@
 //! Paths, read and followed.
-use super::*;
-use crate::path::Step;
+use cs_jsonmatch::{JsonPath, Part, PathFault, Place, Step};
 use cs_value::{Fields, Txt, Val};
 use std::alloc::Global;
 use std::mem::size_of;

@@ -1,7 +1,7 @@
 use Rattle.std.proofs.Common.{map, ap, ◌∙◌}
 use Rattle.cs_view.specs.Keys.{Sel}
 use Rattle.cs_docs.proofs.Placed.{stands}
-use Rattle.cs_index.proofs.tests.selected.Goals as goal
+use Rattle.cs_index_tests.proofs.tests.selected.Goals as goal
 
 pub at-requires : goal.at-requires
 at-requires g c =

@@ -1,5 +1,5 @@
-// Faults of small trees.
-use super::*;
+//! Faults of small trees.
+use cs_faults::{Fault, first_fault};
 use cs_syntax::{Arg, BinSign, Expr, Step};
 use cs_value::Txt;
 use std::alloc::Global;

@@ -4,8 +4,8 @@ ghost use Rattle.cs_view.specs.View.{edits};
 ghost use Rattle.cs_docs.specs.Gathered.{entering};
 ghost use Rattle.cs_index.specs.Index.{IsIndexOf};
 
-use super::*;
 use cs_docs::{Docs, Prepared, Referrers};
+use cs_index::{Index, Indexed, install};
 use cs_value::{Fields, NoMemory, Steps, Txt, Val};
 use cs_view::{Change, Doc, Key, Names, Scalar, View};
 use std::alloc::Global;

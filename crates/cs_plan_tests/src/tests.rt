@@ -1,5 +1,5 @@
 //! The keys of filters that were worked out by hand.
-use super::*;
+use cs_plan::choose;
 use cs_syntax::{Arg, BinSign, Expr, PreSign, Step};
 use cs_value::{Fields, Txt, Val};
 use cs_view::{Key, Names, Scalar, Scope};

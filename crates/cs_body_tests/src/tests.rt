@@ -1,6 +1,5 @@
 //! Transactions, from a few bodies each.
-use super::*;
-use crate::ids::is_tx_id;
+use cs_body::{Mutation, Target, Txn, TxnFault};
 use cs_value::{Fields, Txt, Val};
 use std::alloc::Global;
 use std::test::Fail;
@@ -76,8 +75,28 @@ fn reads_mutations(rt: HostRuntime) -> Result<(), Fail> {
 }
 
 #[test]
-fn reads_ids(rt: HostRuntime) -> Result<(), Fail> {
-    let cases = [("a", "a create"), ("tx-9", "bad-tx"), ("", "bad-tx")];
+fn takes_ids_of_clients_and_no_others(rt: HostRuntime) -> Result<(), Fail> {
+    let cases = [
+        ("a", "a create"),
+        ("_", "_ create"),
+        ("tx", "tx create"),
+        ("tx_1", "tx_1 create"),
+        ("a-b", "a-b create"),
+        (
+            "0123456789abcdef0123456789ABCDEF0123456789abcdef0123456789ABC-_Z",
+            "0123456789abcdef0123456789ABCDEF0123456789abcdef0123456789ABC-_Z create",
+        ),
+        ("", "bad-tx"),
+        ("-a", "bad-tx"),
+        ("tx-", "bad-tx"),
+        ("tx-9", "bad-tx"),
+        ("a.b", "bad-tx"),
+        ("a b", "bad-tx"),
+        (
+            "0123456789abcdef0123456789abcdef0123456789abcdef0123456789abcdefg",
+            "bad-tx",
+        ),
+    ];
     for (id, wanted) in cases {
         let mut given = body(rt.alloc(), "create", Val::Null)?;
         drop(given.put(
@@ -87,33 +106,6 @@ fn reads_ids(rt: HostRuntime) -> Result<(), Fail> {
         let read = Txn::read(rt.alloc(), Val::Obj(given), 7);
         let found = words_of(rt.alloc(), &read)?;
         assert_eq!(rt; found.as_str(), wanted, "of {id}");
-    }
-    Ok(())
-}
-
-#[test]
-fn knows_ids_of_clients(rt: HostRuntime) -> Result<(), Fail> {
-    let longest = "0123456789abcdef0123456789ABCDEF0123456789abcdef0123456789ABC-_Z";
-    let cases = [
-        ("a", true),
-        ("_", true),
-        ("tx", true),
-        ("tx_1", true),
-        ("a-b", true),
-        (longest, true),
-        ("", false),
-        ("-a", false),
-        ("tx-", false),
-        ("tx-1", false),
-        ("a.b", false),
-        ("a b", false),
-        (
-            "0123456789abcdef0123456789abcdef0123456789abcdef0123456789abcdefg",
-            false,
-        ),
-    ];
-    for (id, wanted) in cases {
-        assert_eq!(rt; is_tx_id(id), wanted, "of {id}");
     }
     Ok(())
 }
