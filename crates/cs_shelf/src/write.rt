@@ -84,7 +84,7 @@ fn put_new(
     let Some(place) = next_place(store) else {
         return Err(NoMemory);
     };
-    let id = Txt::copy_of(alloc, doc.id().as_str())?;
+    let id = doc.id().copy(alloc)?;
     store.reserve(1)?;
     drop(order.insert(id, place)?);
     fill(store, place, doc);

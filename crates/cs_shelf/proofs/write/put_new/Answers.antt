@@ -23,7 +23,7 @@ returns-clause-sound c =
     let p = c.in-Some.place in
     sound_written c.args.store.now c.fill.new.store c.args.order.now c.insert.new.self (id_of d) p (Some d)
     (λ q. c.fill.ensures q ∙ ap (λ s. cond (nat_eq q p) (Some d) (tree_at s q)) c.in_ok-reserve.ensures.rest_kept)
-    (subst (λ (i : List ℕ). (x : List ℕ) → get id_cmp c.insert.new.self x ≡ cond (same_id i x) (Some p) (get id_cmp c.args.order.now x)) (c.in_ok-id.ensures ∙ c.as_str.ensures ∙ c.id.ensures) c.in_ok-insert.ensures.updates.0)
+    (subst (λ (i : List ℕ). (x : List ℕ) → get id_cmp c.insert.new.self x ≡ cond (same_id i x) (Some p) (get id_cmp c.args.order.now x)) (c.in_ok-id.ensures ∙ c.id.ensures) c.in_ok-insert.ensures.updates.0)
     (vacant_apart c.args.store.now c.args.order.now p (id_of d) c.in-Some.ensures.vacant c.requires.sound) (own_id d) c.requires.sound
 
 pub returns-clause-put : goal.returns-clause-put
@@ -32,7 +32,7 @@ returns-clause-put c =
     let p = c.in-Some.place in
     as_placed c.args.store.now c.fill.new.store c.args.order.now c.insert.new.self (id_of d) p (Some d)
     (λ q. c.fill.ensures q ∙ ap (λ s. cond (nat_eq q p) (Some d) (tree_at s q)) c.in_ok-reserve.ensures.rest_kept)
-    (subst (λ (i : List ℕ). (x : List ℕ) → get id_cmp c.insert.new.self x ≡ cond (same_id i x) (Some p) (get id_cmp c.args.order.now x)) (c.in_ok-id.ensures ∙ c.as_str.ensures ∙ c.id.ensures) c.in_ok-insert.ensures.updates.0)
+    (subst (λ (i : List ℕ). (x : List ℕ) → get id_cmp c.insert.new.self x ≡ cond (same_id i x) (Some p) (get id_cmp c.args.order.now x)) (c.in_ok-id.ensures ∙ c.id.ensures) c.in_ok-insert.ensures.updates.0)
     (vacant_apart c.args.store.now c.args.order.now p (id_of d) c.in-Some.ensures.vacant c.requires.sound) (own_id d) c.requires.sound c.in_ok-insert.ensures.was_ordered c.in_ok-insert.ensures.ordered
 
 pub returns-clause-low : goal.returns-clause-low
@@ -40,7 +40,7 @@ returns-clause-low c =
     let d = doc c.args.doc in
     let p = c.in-Some.place in
     low_written c.args.order.now c.insert.new.self (id_of d) p (Some d)
-    (subst (λ (i : List ℕ). (x : List ℕ) → get id_cmp c.insert.new.self x ≡ cond (same_id i x) (Some p) (get id_cmp c.args.order.now x)) (c.in_ok-id.ensures ∙ c.as_str.ensures ∙ c.id.ensures) c.in_ok-insert.ensures.updates.0)
+    (subst (λ (i : List ℕ). (x : List ℕ) → get id_cmp c.insert.new.self x ≡ cond (same_id i x) (Some p) (get id_cmp c.args.order.now x)) (c.in_ok-id.ensures ∙ c.id.ensures) c.in_ok-insert.ensures.updates.0)
     c.in-Some.ensures.low c.requires.low
 
 pub returns-in_err-insert-clause-low : goal.returns-in_err-insert-clause-low
@@ -51,7 +51,7 @@ returns-clause-stay c =
     let d = doc c.args.doc in
     let p = c.in-Some.place in
     stay_written c.args.order.now c.insert.new.self (id_of d) p c.requires.fresh
-    (subst (λ (i : List ℕ). (x : List ℕ) → get id_cmp c.insert.new.self x ≡ cond (same_id i x) (Some p) (get id_cmp c.args.order.now x)) (c.in_ok-id.ensures ∙ c.as_str.ensures ∙ c.id.ensures) c.in_ok-insert.ensures.updates.0)
+    (subst (λ (i : List ℕ). (x : List ℕ) → get id_cmp c.insert.new.self x ≡ cond (same_id i x) (Some p) (get id_cmp c.args.order.now x)) (c.in_ok-id.ensures ∙ c.id.ensures) c.in_ok-insert.ensures.updates.0)
 
 pub returns-clause-entered : goal.returns-clause-entered
 returns-clause-entered c =
@@ -59,7 +59,7 @@ returns-clause-entered c =
     let p = c.in-Some.place in
     entered_written c.args.store.now c.fill.new.store c.args.order.now c.insert.new.self (id_of d) p (Some d)
     (λ q. c.fill.ensures q ∙ ap (λ s. cond (nat_eq q p) (Some d) (tree_at s q)) c.in_ok-reserve.ensures.rest_kept)
-    (subst (λ (i : List ℕ). (x : List ℕ) → get id_cmp c.insert.new.self x ≡ cond (same_id i x) (Some p) (get id_cmp c.args.order.now x)) (c.in_ok-id.ensures ∙ c.as_str.ensures ∙ c.id.ensures) c.in_ok-insert.ensures.updates.0)
+    (subst (λ (i : List ℕ). (x : List ℕ) → get id_cmp c.insert.new.self x ≡ cond (same_id i x) (Some p) (get id_cmp c.args.order.now x)) (c.in_ok-id.ensures ∙ c.id.ensures) c.in_ok-insert.ensures.updates.0)
     (vacant_apart c.args.store.now c.args.order.now p (id_of d) c.in-Some.ensures.vacant c.requires.sound) (own_id d)
     (no_place_yet c.args.order.now (id_of d) p c.requires.fresh) c.requires.entered
 
