@@ -1,11 +1,12 @@
 //! The strong references of a value that dangle after changes.
-ghost use Rattle.std.specs.Prelude.{◌≡◌, ◌++◌, ◌&&◌, not, is_some, option_map};
+ghost use Rattle.std.specs.Prelude.{◌≡◌, ◌++◌, ◌&&◌, ◌||◌, not, is_some, option_map, codes};
 ghost use Rattle.std.specs.FinMap.Entries.{find};
+ghost use Rattle.cs_value.specs.Pairs.{find as find_pair};
 ghost use Rattle.cs_value.specs.Tree.{trees};
 ghost use Rattle.cs_value.specs.View.{tree, fields, list_tree};
 ghost use Rattle.cs_view.specs.Dataset.{id_cmp, stands};
 ghost use Rattle.cs_view.specs.View.{edit, edits, doc};
-ghost use Rattle.cs_docs.specs.References.{own_target, strong, strong_items, strong_pairs};
+ghost use Rattle.cs_docs.specs.References.{is_yes, own_target, strong, strong_items, strong_pairs};
 ghost use Rattle.cs_docs.specs.Missing.{first_missing};
 ghost use Rattle.cs_docs.specs.Suspects.{dangles, is_changed};
 ghost use Rattle.cs_view.specs.Document.{id_of};
@@ -38,27 +39,31 @@ fn stands_after(store: &Docs, changes: &[Change], id: &Txt) -> bool
     }
 }
 
-// The target of the object itself, where it dangles.
+// Whether a reference may name no document: it is weak, or names one of another dataset.
+fn may_dangle(object: &Fields) -> bool
+    ensures { result ≡ (is_some (find_pair (codes "_dataset") (fields object.now))
+        || is_yes (find_pair (codes "_weak") (fields object.now))) }
+{
+    if let Some(Val::Bool(true)) = object.get("_weak") {
+        return true;
+    }
+    object.get("_dataset").is_some()
+}
+
+// The target of the object itself, where it dangles. Most objects are no references, and of those
+// nothing but `_ref` is sought.
 fn own_missing<'v>(object: &'v Fields, store: &Docs, changes: &[Change]) -> Option<&'v Txt>
     requires { AreChanges changes.now }
     ensures { option_map (λ t. t.now) result ≡ first_missing (after store.now changes.now)
         (own_target (fields object.now)) }
 {
-    if object.get("_dataset").is_some() {
+    let Some(Val::Text(target)) = object.get("_ref") else {
         return None;
-    }
-    if let Some(Val::Bool(true)) = object.get("_weak") {
-        return None;
-    }
-    match object.get("_ref") {
-        Some(Val::Text(target)) => {
-            if stands_after(store, changes, target) {
-                None
-            } else {
-                Some(target)
-            }
-        }
-        _ => None,
+    };
+    if may_dangle(object) || stands_after(store, changes, target) {
+        None
+    } else {
+        Some(target)
     }
 }
 
