@@ -13,9 +13,9 @@ use Rattle.cs_view.proofs.Datasets.{same_id-same}
 use Rattle.cs_view.proofs.Changed.{own_ids, At-After, After-leads}
 use Rattle.cs_shelf.specs.Places.{found}
 use Rattle.cs_shelf.proofs.Standing.{at-documents}
-use Rattle.cs_docs.specs.Store.{docs, place_at, ArePlacesSteady}
+use Rattle.cs_docs.specs.Store.{docs, doc_at, place_at, ArePlacesSteady}
 use Rattle.cs_docs.specs.declared.docs.Docs.{Docs}
-use Rattle.cs_codes.specs.Codes.{Seed, is_among}
+use Rattle.cs_codes.specs.Codes.{Seed, codes, is_among}
 use Rattle.cs_index.specs.Entries.{same_entry, entry, has_entry, side_codes, is_put, is_put_at, puts, parts, gains, enters, or_some, AreEntriesOf}
 use Rattle.cs_index.specs.Picking.{entering}
 use Rattle.cs_index.specs.declared.entry.Entry.{Entry}
@@ -113,6 +113,10 @@ puts_it : (seed : Seed) (d : Docs) (x : List ℕ) (c p : ℕ) (s : Option Tree �
     → puts seed d (entry c p) (x, s) ≡ true
 puts_it seed d x c p s at has hasnt =
     ap (λ o. is_put_at (λ y. is_among y (side_codes seed s.0)) o (side_codes seed s.1) (entry c p)) at ∙ put_found (λ y. is_among y (side_codes seed s.0)) p c (side_codes seed s.1) hasnt has
+
+-- the document at a place is entered with the place, so these are the entries that it enters
+pub put_at_place : (seed : Seed) (d : Docs) (p : ℕ) (t : Tree) (q : Entry) → doc_at d p ≡ Some t → is_put (λ x. false) p (codes seed t) q ≡ puts seed d q (id_of t, (None, Some t))
+put_at_place seed d p t q h = sym (ap (λ o. is_put_at (λ x. false) o (codes seed t) q) (d.shelf.entered p t h))
 
 -- ---- partings
 abbrev text_of : Option (List ℕ) → List ℕ

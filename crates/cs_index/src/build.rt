@@ -1,7 +1,6 @@
 //! The entries of all documents of a store.
-ghost use Rattle.std.specs.Prelude.{◌≡◌, false, None, Some, IfOk, OnOk};
+ghost use Rattle.std.specs.Prelude.{◌≡◌, false, IfOk, OnOk};
 ghost use Rattle.std.specs.BTreeSet.{IsFromIterResult};
-ghost use Rattle.cs_view.specs.Document.{id_of};
 ghost use Rattle.cs_view.specs.View.{doc as document};
 ghost use Rattle.cs_docs.specs.Store.{docs as dataset};
 ghost use Rattle.cs_codes.specs.Codes.{codes};
@@ -40,7 +39,7 @@ fn list_codes(entries: &mut Vec<Entry>, codes: &Vec<u64>, place: u32) -> Result<
 }
 
 // Adds an entry at a place for each code of a document. What stood in `room` is gone.
-fn list_doc_at(
+fn list_doc(
     seed: &RandomState,
     entries: &mut Vec<Entry>,
     room: &mut Vec<u64>,
@@ -56,25 +55,7 @@ fn list_doc_at(
     list_codes(entries, room, place)
 }
 
-// Adds the entries of a document. What stood in `room` is gone.
-fn list_doc(
-    seed: &RandomState,
-    entries: &mut Vec<Entry>,
-    room: &mut Vec<u64>,
-    docs: &Docs,
-    doc: &Doc,
-) -> Result<(), NoMemory>
-    ensures { OnOk result (Collect
-        (λ q. puts seed.now docs.now q (id_of (document doc.now), (None, Some (document doc.now))))
-        entries.old.items entries.new.items) }
-{
-    match docs.place(doc.id()) {
-        Some(place) => list_doc_at(seed, entries, room, doc, place),
-        None => Ok(()),
-    }
-}
-
-// The entries of all documents.
+// The entries of all documents. The walk is over their places, so none is sought by its id.
 pub(crate) fn list_all(
     alloc: Global,
     seed: &RandomState,
@@ -87,7 +68,7 @@ pub(crate) fn list_all(
     let mut room = Vec::new(alloc);
     for place in docs.places(alloc)? {
         let doc = docs.at(place);
-        list_doc(seed, &mut entries, &mut room, docs, doc)?;
+        list_doc(seed, &mut entries, &mut room, doc, place)?;
     }
     Ok(entries)
 }

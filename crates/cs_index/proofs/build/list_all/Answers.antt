@@ -7,6 +7,7 @@ use Rattle.cs_view.specs.View.{doc}
 use Rattle.cs_docs.specs.Store.{doc_at}
 use Rattle.cs_index.specs.Entries.{is_in, or_some, puts}
 use Rattle.cs_index.specs.Picking.{entering}
+use Rattle.cs_index.proofs.Applied.{put_at_place}
 use Rattle.cs_index.proofs.Split.{split, no_rest, or_null}
 use Rattle.cs_index.proofs.build.list_all.Goals as goal
 
@@ -27,7 +28,9 @@ loop-place-preserved c =
       s.others,
       λ q.
           ap (or_some (puts c.args.seed.now d q) (entering s.more))
-          (c.in_ok-list_doc.ensures q ∙ ap (λ (o : Option Tree). cond (puts c.args.seed.now d q (id_of (or_null o), (None, Some (or_null o)))) true (is_in q c.loop-place.entries.items)) one)
+          (c.in_ok-list_doc.ensures q
+          ∙ ap (λ b. cond b true (is_in q c.loop-place.entries.items)) (put_at_place c.args.seed.now d c.in-Some.place this q c.at-doc.ensures)
+          ∙ ap (λ (o : Option Tree). cond (puts c.args.seed.now d q (id_of (or_null o), (None, Some (or_null o)))) true (is_in q c.loop-place.entries.items)) one)
           ∙ sym (ap (λ ds. or_some (puts c.args.seed.now d q) (entering ds) (is_in q c.loop-place.entries.items)) s.is)
           ∙ c.loop-place.invariant.2 q,
     )
