@@ -72,7 +72,7 @@ fn admit(alloc: Global, documents: &mut Collected, body: &Val) -> Result<(), Lin
     };
     documents.make_way(alloc, id)?;
     if documents.has(id) {
-        let id = Txt::copy_of(alloc, id.as_str())?;
+        let id = id.copy(alloc)?;
         return Err(LineRefusal::Cause(DataCause::Repeated { id }));
     }
     if documents.len() == MOST_DOCUMENTS {

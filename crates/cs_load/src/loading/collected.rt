@@ -45,7 +45,7 @@ fn put_by_id(
         ≡ with_doc (doc document) (gathered documents.old.entries)) }
     ensures kept { OnErr result (documents.new.entries ≡ documents.old.entries) }
 {
-    let id = Txt::copy_of(alloc, document.id().as_str())?;
+    let id = document.id().copy(alloc)?;
     drop(documents.insert(id, document)?);
     Ok(())
 }

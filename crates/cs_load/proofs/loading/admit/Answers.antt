@@ -11,7 +11,7 @@ returns-then-has-clause-refused c =
     let docs = held c.args.documents.now in
     let given = id_given (is_body (tree c.args.body.now)) (id_of (tree c.args.body.now)) c.in-Some.id.now (sym (ap (option_map (λ i. i.now)) c.in-Some.is) ∙ c.body_id.ensures) in
     let stood = ap (λ i. stands i docs) (sym given.1) ∙ ap (stands c.in-Some.id.now) (sym c.in_ok-make_way.ensures.same) ∙ sym c.has.ensures ∙ c.if-has.true in
-    body_repeated docs (tree c.args.body.now) c.in_ok-id.id given.0 stood (c.in_ok-id.ensures ∙ c.as_str.ensures ∙ given.1)
+    body_repeated docs (tree c.args.body.now) c.in_ok-id.id given.0 stood (c.in_ok-id.ensures ∙ given.1)
 
 pub returns-then-len-eq-MOST_DOCUMENTS-clause-refused :
     goal.returns-then-len-eq-MOST_DOCUMENTS-clause-refused

@@ -7,10 +7,10 @@ use Rattle.cs_load.proofs.loading.collected.put_by_id.Goals as goal
 
 pub returns-clause-put : goal.returns-clause-put
 returns-clause-put c =
-    let key : c.in_ok-id.id ≡ id_of (doc c.args.document) = c.in_ok-id.ensures ∙ c.as_str.ensures ∙ c.id.ensures in
+    let key : c.in_ok-id.id ≡ id_of (doc c.args.document) = c.in_ok-id.ensures ∙ c.id.ensures in
     ap gathered c.in_ok-insert.ensures.entries ∙ gathered-insert c.args.documents.now.entries c.in_ok-id.id c.args.document key c.requires.by_id
 
 pub returns-clause-by_id : goal.returns-clause-by_id
 returns-clause-by_id c =
-    let key : c.in_ok-id.id ≡ id_of (doc c.args.document) = c.in_ok-id.ensures ∙ c.as_str.ensures ∙ c.id.ensures in
+    let key : c.in_ok-id.id ≡ id_of (doc c.args.document) = c.in_ok-id.ensures ∙ c.id.ensures in
     subst AreById (sym c.in_ok-insert.ensures.entries) (by_id-insert c.args.documents.now.entries c.in_ok-id.id c.args.document key c.requires.by_id)
