@@ -1,5 +1,5 @@
 -- A simple query by its parts.
-use Rattle.std.proofs.Common.{◌≡◌, ◌≤◌, ◌+◌, ℕ, List, [], ◌∷◌, map, length, sym, ap, ◌∙◌, rules, Vec, Box, Global, refl, true, false, true≢false, cond, Bool, IfNone, arith}
+use Rattle.std.proofs.Common.{◌≡◌, ◌≤◌, ◌+◌, ℕ, List, [], ◌∷◌, map, length, sym, ap, ◌∙◌, Vec, Box, Global, refl, true, false, true≢false, cond, Bool, IfNone, arith}
 use Rattle.std.specs.Prelude.{filter, IfSome}
 use Rattle.std.proofs.Common.{Option, None, Some}
 use Rattle.cs_value.specs.Words.{list_of}
@@ -8,7 +8,8 @@ use Rattle.cs_view.specs.Keys.{Sel, has, has_all, selected}
 use Rattle.cs_view.specs.declared.key.Key.{Key}
 use Rattle.cs_syntax.specs.Expression.{Expression, everything, chain, bracket, Steps, more_steps, steps_of}
 use Rattle.cs_syntax.specs.View.{expression, step}
-use Rattle.cs_syntax.specs.declared.tree.Expr.{Expr, the_lemmas}
+use Rattle.cs_syntax.proofs.Views.{expression_chain, expression_all}
+use Rattle.cs_syntax.specs.declared.tree.Expr.{Expr}
 use Rattle.cs_syntax.specs.declared.tree.Expr as code
 use Rattle.cs_syntax.specs.declared.tree.Step.{Step as CodeStep}
 use Rattle.cs_plan.specs.Filters.{filter_keys, key_in}
@@ -22,14 +23,6 @@ use Rattle.cs_meaning.proofs.Sound.{filter-within}
 use Rattle.cs_meaning.proofs.TrueKey.{true-has_all, all-have_key}
 use Rattle.cs_expr.specs.Starts.{enter_value}
 use Rattle.cs_window.specs.Windowed.{is_filtered}
-
-pub expression_chain : (base : Box Expr Global) (ss : Vec CodeStep Global) → expression (code.Chain base ss) ≡ chain (expression base.value) (steps_of (map step ss.items))
-unfolding expression step
-expression_chain base ss = search (rules, the_lemmas)
-
-pub expression_all : expression code.All ≡ everything
-unfolding expression
-expression_all = search (rules, the_lemmas)
 
 pub ruleset form = (expression_chain, expression_all)
 

@@ -1,14 +1,14 @@
 -- The truth of a query that stands for a filter is that of the filter.
-use Rattle.std.proofs.Common.{◌≡◌, Bool, true, false, cond, ◌&&◌, List, [], ◌∷◌, refl, ap, sym, ◌∙◌, Option, Some, None, map, rules, Vec, Box, Global}
+use Rattle.std.proofs.Common.{◌≡◌, Bool, true, false, cond, ◌&&◌, List, [], ◌∷◌, refl, ap, sym, ◌∙◌, Option, Some, None, map, Vec, Box, Global}
 use Rattle.std.specs.Prelude.{is_some, unwrap_or}
 use Rattle.cs_value.specs.Tree.{Tree, null, Pairs}
 use Rattle.cs_syntax.specs.Expression.{Expression, null_literal, everything, chain, Step, bracket, Steps, no_steps, more_steps}
 use Rattle.cs_syntax.specs.Expression.{steps_of}
 use Rattle.cs_syntax.specs.View.{expression, step}
-use Rattle.cs_syntax.specs.declared.tree.Expr.{Expr, the_lemmas}
+use Rattle.cs_syntax.specs.declared.tree.Expr.{Expr}
 use Rattle.cs_syntax.specs.declared.tree.Expr as code
 use Rattle.cs_syntax.specs.declared.tree.Step.{Step as CodeStep}
-use Rattle.cs_syntax.proofs.Views.{chain_parts}
+use Rattle.cs_syntax.proofs.Views.{chain_parts, expression_all}
 use Rattle.cs_plan.specs.Simple.{is_filter, is_condition}
 use Rattle.cs_plan.specs.Steps.{bracketed}
 use Rattle.cs_meaning.proofs.Silent.{both-true}
@@ -55,10 +55,6 @@ some-cond false e = refl
 pub filter_in_bracket : (e : Expression)
     → is_some (filter_in (bracket e)) ≡ (is_condition (bracketed e) && is_plain e)
 filter_in_bracket e = some-cond (is_condition (bracketed e) && is_plain e) e
-
-expression_all : expression code.All ≡ everything
-unfolding expression
-expression_all = search (rules, the_lemmas)
 
 pub listened_chain : (e : Expr) (base : Box Expr Global) (v : Vec CodeStep Global) (b : Expr)
     (ss : List CodeStep) → e ≡ code.Chain base v → b ≡ base.value → b ≡ code.All → ss ≡ v.items

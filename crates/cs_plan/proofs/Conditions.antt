@@ -1,15 +1,15 @@
 -- Which brackets are filters.
-use Rattle.std.proofs.Common.{◌≡◌, sym, ap, ◌∙◌, List, [], ◌∷◌, map, refl, rules, Vec, Box, Global, not}
+use Rattle.std.proofs.Common.{◌≡◌, sym, ap, ◌∙◌, List, [], ◌∷◌, map, refl, Vec, Box, Global, not}
 use Rattle.std.specs.Prelude.{◌&&◌}
-use Rattle.cs_syntax.specs.Expression.{Expression, everything, number_literal, text_literal, prefix, chain, steps_of}
+use Rattle.cs_syntax.specs.Expression.{Expression, number_literal, text_literal, prefix, chain, steps_of}
 use Rattle.cs_syntax.specs.Brackets.{is_position, is_text}
 use Rattle.cs_syntax.specs.View.{expression, step}
 use Rattle.cs_syntax.specs.declared.tree.PreSign.TheVariants as sign
-use Rattle.cs_syntax.specs.declared.tree.Expr.{Expr, the_lemmas}
+use Rattle.cs_syntax.specs.declared.tree.Expr.{Expr}
 use Rattle.cs_syntax.specs.declared.tree.Expr as code
 use Rattle.cs_syntax.specs.declared.tree.Step.{Step as CodeStep}
 use Rattle.cs_plan.specs.Steps.{bracketed}
-use Rattle.cs_syntax.proofs.Views.{chain_parts}
+use Rattle.cs_syntax.proofs.Views.{chain_parts, expression_all}
 use Rattle.cs_plan.specs.Simple.{is_condition, is_simple, is_simple_rest}
 
 -- a bracket is a filter where it is neither an element nor an attribute
@@ -24,10 +24,6 @@ neither_position_nor_text (prefix (sign.Minus ∷ p ∷ ps) e) = refl
 neither_position_nor_text (prefix (sign.Plus ∷ ps) e) = refl
 neither_position_nor_text (prefix (sign.Not ∷ ps) e) = refl
 neither_position_nor_text _ = refl
-
-expression_all : expression code.All ≡ everything
-unfolding expression
-expression_all = search (rules, the_lemmas)
 
 pub simple_chain : (e : Expr) (base : Box Expr Global) (v : Vec CodeStep Global) (b : Expr)
     (ss : List CodeStep) → e ≡ code.Chain base v → b ≡ base.value → b ≡ code.All → ss ≡ v.items

@@ -1,7 +1,7 @@
 -- The expression of a tree of the code, each by its parts, and the lists of trees as those
 -- inside an expression.
 use Rattle.std.proofs.Common.{◌≡◌, ℕ, List, [], ◌∷◌, map, length, refl, sym, ap, ◌∙◌, arith, rules, Vec, Box, Global, Bool}
-use Rattle.cs_syntax.specs.Expression.{call, array, object_literal, chain, prefix, run, word, parent, within, between, slice, bracket, project, pipe, bare, when, when_argument, order_key, arguments_of, elements_of, entries_of, steps_of, operands_of, keys_of}
+use Rattle.cs_syntax.specs.Expression.{everything, call, array, object_literal, chain, prefix, run, word, parent, within, between, slice, bracket, project, pipe, bare, when, when_argument, order_key, arguments_of, elements_of, entries_of, steps_of, operands_of, keys_of}
 use Rattle.cs_syntax.specs.Functions.{count_of}
 use Rattle.cs_syntax.specs.View.{expression, arg, elem, entry, step, key, operands}
 use Rattle.cs_syntax.specs.declared.tree.Arg.{Arg, the_lemmas}
@@ -102,6 +102,10 @@ expression_prefix signs e = search (rules, the_lemmas)
 pub expression_word : (w : List ℕ) → expression (code.Word w) ≡ word w
 unfolding expression
 expression_word w = search (rules, the_lemmas)
+
+pub expression_all : expression code.All ≡ everything
+unfolding expression
+expression_all = search (rules, the_lemmas)
 
 pub expression_up : (n : ℕ) → expression (code.Up n) ≡ parent n
 unfolding expression
