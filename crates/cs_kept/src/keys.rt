@@ -112,7 +112,7 @@ impl Keys {
         ensures { result ≡ touched (ids_of self.now) (edits changes.now) }
     {
         for change in changes {
-            if self.has_id(change) {
+            if self.holds_id(change) {
                 return true;
             }
         }
@@ -121,7 +121,7 @@ impl Keys {
 
     // Whether some id is had by the document before or after the change: these have its id, and so
     // one of them has to stand, and its id to be there.
-    fn has_id(&self, change: &Change) -> bool
+    fn holds_id(&self, change: &Change) -> bool
         requires before { is_of_id (edit change.now).0 (edit change.now).1.0 ≡ true }
         requires after { is_of_id (edit change.now).0 (edit change.now).1.1 ≡ true }
         ensures { result ≡ list_any (λ key. touches key (edit change.now)) (ids_of self.now) }

@@ -12,7 +12,7 @@ use Rattle.cs_patch.specs.Targets.{Target, location, if_some, targets_from, oute
 use Rattle.cs_patch.specs.Operations.{Refusal, refused, bounded, each, first_refusal, or_else, fixed_at, number_refusal, list_refusal, number_check, list_check, insert_at_parents, count_by, fixed_check, unset_by, by_reading}
 use Rattle.cs_alter.specs.Alterations.{counted}
 use Rattle.cs_patch.specs.Seen.{Seen, seen_of, value_of, outer_seen, each_seen}
-use Rattle.cs_patch.specs.Asked.{number_of, list_of, check_of, first_seen}
+use Rattle.cs_patch.specs.Asked.{number_of, list_at, check_of, first_seen}
 use Rattle.cs_patch.specs.Outcomes.{outcome_of, removal, Answers}
 use Rattle.cs_alter.specs.declared.alteration.Change.{Change}
 use Rattle.cs_patch.specs.declared.refusal.Ask.TheVariants as ask
@@ -94,7 +94,7 @@ unset_answers t (spelled p) v new r ls read h =
     ∙ sym (unset_same t p v) in
     rw (← whole) h
 
-list_same : (path : List ℕ) (o : Option Tree) → list_refusal path o ≡ list_of path (value_of o)
+list_same : (path : List ℕ) (o : Option Tree) → list_refusal path o ≡ list_at path (value_of o)
 list_same path None = refl
 list_same path (Some null) = refl
 list_same path (Some (boolean b)) = refl

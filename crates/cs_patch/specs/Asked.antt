@@ -32,14 +32,14 @@ abbrev pub number_of : List ℕ → Change → Stands → Option Refusal
 number_of path c (stands.Number m) = cond (is_whole (counted c m)) None (Some (overflow path))
 number_of path c _ = Some (not_number path)
 
-abbrev pub list_of : List ℕ → Stands → Option Refusal
-list_of path stands.List = None
-list_of path _ = Some (not_array path)
+abbrev pub list_at : List ℕ → Stands → Option Refusal
+list_at path stands.List = None
+list_at path _ = Some (not_array path)
 
 abbrev pub check_of : Ask → List ℕ → Seen → Option Refusal
 check_of ask.Free path x = fixed_at x.location
 check_of (ask.Number c) path x = or_else (fixed_at x.location) (number_of path c x.stands)
-check_of ask.List path x = or_else (fixed_at x.location) (list_of path x.stands)
+check_of ask.List path x = or_else (fixed_at x.location) (list_at path x.stands)
 
 abbrev pub first_seen : (Seen → Option Refusal) → List Seen → Option Refusal
 first_seen check [] = None

@@ -3,7 +3,7 @@ ghost use Rattle.std.specs.Prelude.{◌≡◌, ℕ, List, Option, Some, None, op
 ghost use Rattle.std.specs.List.{list_any};
 ghost use Rattle.cs_patch.specs.Operations.{fixed, fixed_at, immutable};
 ghost use Rattle.cs_patch.specs.Seen.{seen};
-ghost use Rattle.cs_patch.specs.Asked.{name_of, refusal_of, number_of, list_of, check_of, first_seen};
+ghost use Rattle.cs_patch.specs.Asked.{name_of, refusal_of, number_of, list_at, check_of, first_seen};
 
 use crate::targets::{Stands, Target};
 use cs_alter::Change;
@@ -76,7 +76,7 @@ fn number_cause(stands: Stands, change: Change) -> Option<Cause>
 }
 
 fn list_cause(stands: Stands) -> Option<Cause>
-    ensures { (path : List ℕ) → option_map (refusal_of path) result ≡ list_of path stands }
+    ensures { (path : List ℕ) → option_map (refusal_of path) result ≡ list_at path stands }
 {
     match stands {
         Stands::List => None,

@@ -11,11 +11,11 @@ use Rattle.cs_kept.proofs.keys.Keys.has_some_id.Goals as goal
 pub loop-change-init : goal.loop-change-init
 loop-change-init c = record { left = refl; own = own_ids (edits c.args.changes.now) c.requires }
 
-pub returns-then-has_id : goal.returns-then-has_id
-returns-then-has_id c =
+pub returns-then-holds_id : goal.returns-then-holds_id
+returns-then-holds_id c =
     let ids = ids_of c.args.self.now in let cs = c.args.changes.now in let i = c.loop-change.change-index in let d = c.change-item.result in
     let here : d ≡ get_or cs i d = cc c.change-item.is in
-    let so : true ≡ list_any (λ key. touches key (edit d)) ids = cc (c.if-has_id.true, c.has_id.ensures) in
+    let so : true ≡ list_any (λ key. touches key (edit d)) ids = cc (c.if-holds_id.true, c.holds_id.ensures) in
     (λ j. so j || touched ids (edits (drop (i + 1) cs)))
     ∙ ap (λ (e : Change). list_any (λ key. touches key (edit e)) ids || touched ids (edits (drop (i + 1) cs))) here
     ∙ sym (touched-here ids cs i d (omega arith)) ∙ c.loop-change.invariant.left
@@ -24,7 +24,7 @@ pub loop-change-preserved : goal.loop-change-preserved
 loop-change-preserved c =
     let ids = ids_of c.args.self.now in let cs = c.args.changes.now in let i = c.loop-change.change-index in let d = c.change-item.result in
     let here : d ≡ get_or cs i d = cc c.change-item.is in
-    let so : false ≡ list_any (λ key. touches key (edit d)) ids = cc (c.if-has_id.false, c.has_id.ensures) in
+    let so : false ≡ list_any (λ key. touches key (edit d)) ids = cc (c.if-holds_id.false, c.holds_id.ensures) in
     record {
       left = (λ j. so j || touched ids (edits (drop (i + 1) cs)))
           ∙ ap (λ (e : Change). list_any (λ key. touches key (edit e)) ids || touched ids (edits (drop (i + 1) cs))) here

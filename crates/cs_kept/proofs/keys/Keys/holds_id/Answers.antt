@@ -3,7 +3,7 @@ use Rattle.std.specs.BTreeMap.{is_at}
 use Rattle.std.specs.Map.{lookup}
 use Rattle.cs_value.specs.Entries.{compares}
 use Rattle.cs_kept.proofs.Keyed.{one-stands, none-stands}
-use Rattle.cs_kept.proofs.keys.Keys.has_id.Goals as goal
+use Rattle.cs_kept.proofs.keys.Keys.holds_id.Goals as goal
 
 pub returns-then-stands : goal.returns-then-stands
 returns-then-stands c =
