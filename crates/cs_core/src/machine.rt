@@ -1,5 +1,5 @@
 //! The machine: what the lines so far have left, and its step.
-ghost use Rattle.std.specs.Prelude.{◌≡◌, ◌≤◌, IfOk, IfErr, OnOk, OnErr, IsOk, length, [], true, false};
+ghost use Rattle.std.specs.Prelude.{◌≡◌, ◌≤◌, IfOk, IfErr, OnOk, OnErr, IsOk, length, true, false};
 ghost use Rattle.cs_io.specs.Lines.{longest_line};
 ghost use Rattle.cs_value.specs.View.{tree};
 ghost use Rattle.cs_json.specs.Reading.{outcome};
@@ -13,7 +13,7 @@ ghost use Rattle.cs_machine.specs.Machine.{deepest_line};
 ghost use Rattle.cs_gen.specs.Tally.{IsTally};
 ghost use Rattle.cs_core.specs.Core.{state, IsFitting, IsSound, IsUsable};
 ghost use Rattle.cs_index.specs.View.{store_of};
-ghost use Rattle.cs_core.specs.Does.{Does, IsKept, Leaves, LeavesAfter, step_writes, step_state, step_replies};
+ghost use Rattle.cs_core.specs.Does.{Does, Leaves, LeavesAfter, step_writes, step_state, step_replies};
 ghost use Rattle.cs_wire.specs.Rows.{command};
 ghost use Rattle.cs_machine.specs.Machine.{by_command, heard, step};
 ghost use Rattle.cs_machine.specs.Refused.{refuse};

@@ -1,5 +1,5 @@
 //! The first strong reference that dangles after changes.
-ghost use Rattle.std.specs.Prelude.{◌≡◌, ◌↔◌, ◌&&◌, is_some, option_map, Some, IsNone, true};
+ghost use Rattle.std.specs.Prelude.{◌≡◌, ◌↔◌, ◌&&◌, option_map, Some, IsNone, true};
 ghost use Rattle.std.specs.List.{filter};
 ghost use Rattle.std.specs.FinMap.Entries.{find};
 ghost use Rattle.cs_view.specs.Document.{id_of};

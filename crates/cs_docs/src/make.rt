@@ -3,7 +3,7 @@ ghost use Rattle.std.specs.Prelude.{◌≡◌, nat_lt, length, MatchResult};
 ghost use Rattle.cs_view.specs.Changes.{LeadFrom};
 ghost use Rattle.cs_view.specs.View.{edits};
 ghost use Rattle.cs_docs.specs.Limits.{most_documents};
-ghost use Rattle.cs_docs.specs.Verdict.{verdict, fits, AreTaken};
+ghost use Rattle.cs_docs.specs.Verdict.{verdict, AreTaken};
 ghost use Rattle.cs_docs.specs.Store.{docs, after, AreChanges, prepared};
 ghost use Rattle.cs_docs.specs.Faults.{IsFault};
 

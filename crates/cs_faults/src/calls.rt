@@ -1,7 +1,7 @@
 // The faults that one token of an expression may have, but for numbers.
 ghost use Rattle.std.specs.Prelude.{◌≡◌, map, Some};
 ghost use Rattle.cs_syntax.specs.Expression.{arguments_of, keys_of};
-ghost use Rattle.cs_syntax.specs.Faults.{first_of, operator_faults, arity_faults, is_path, call_faults, right_call_faults, order_faults, pipe_faults, bracket_faults, slice_faults, key_faults};
+ghost use Rattle.cs_syntax.specs.Faults.{first_of, operator_faults, arity_faults, call_faults, right_call_faults, order_faults, pipe_faults, bracket_faults, slice_faults, key_faults};
 ghost use Rattle.cs_syntax.specs.Brackets.{key_of};
 ghost use Rattle.cs_syntax.specs.View.{arg as argument_of, expression, key as order_key_of};
 ghost use Rattle.cs_faults.specs.Found.{found, told, arity_told, no_function};

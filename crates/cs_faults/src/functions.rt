@@ -4,7 +4,7 @@ ghost use Rattle.std.specs.List.{list_any, starts_with};
 ghost use Rattle.std.specs.Prelude.{nat_eq};
 ghost use Rattle.std.specs.Str.{bytes_eq};
 ghost use Rattle.cs_syntax.specs.Expression.{arguments_of};
-ghost use Rattle.cs_syntax.specs.Functions.{arity_of, accepts, all_plain, pairs_come_first, is_left_out, is_left_out_here};
+ghost use Rattle.cs_syntax.specs.Functions.{arity_of, accepts, all_plain, pairs_come_first, is_left_out};
 ghost use Rattle.cs_syntax.specs.View.{arg as argument_of};
 ghost use Rattle.cs_faults.specs.Found.{arity_told};
 

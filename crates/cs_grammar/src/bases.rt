@@ -1,5 +1,5 @@
 // What a chain begins with.
-ghost use Rattle.std.specs.Prelude.{◌≡◌, ◌<◌, ◌≤◌, length, IfOk, IfSome, [], ◌++◌, ◌∷◌};
+ghost use Rattle.std.specs.Prelude.{◌<◌, ◌≤◌, length, IfOk};
 ghost use Rattle.cs_syntax.specs.View.{expression};
 ghost use Rattle.cs_syntax.specs.Expression.{parent};
 ghost use Rattle.cs_grammar.specs.View.{left};

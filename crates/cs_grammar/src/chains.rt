@@ -1,6 +1,5 @@
 // Chains: a base and its steps.
-ghost use Rattle.std.specs.Prelude.{◌≡◌, ◌<◌, ◌≤◌, length, IfOk, IfSome, [], ◌++◌, ◌∷◌};
-ghost use Rattle.cs_syntax.specs.Expression.{Expression};
+ghost use Rattle.std.specs.Prelude.{◌<◌, ◌≤◌, length, IfOk, IfSome};
 ghost use Rattle.cs_syntax.specs.View.{steps};
 ghost use Rattle.cs_grammar.specs.Reading.{link};
 ghost use Rattle.cs_grammar.specs.Answers.{Answers, AnswersArrow, AnswersStep, AnswersBracket, AnswersPipe, AnswersName, AnswersKeys, AnswersKey};

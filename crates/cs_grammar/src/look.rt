@@ -7,7 +7,7 @@ ghost use Rattle.cs_syntax.specs.Lex.{param_name};
 ghost use Rattle.cs_grammar.specs.View.{IsNoSign, left, seen as seen_as, sign_in, source, tok};
 ghost use Rattle.cs_grammar.specs.Parsing.{IsLexemeOf, IsReadable};
 ghost use Rattle.cs_grammar.specs.Reading.{same_sign, after, after_sign, after_word, after_keyword, after_attribute, after_caret, op_of};
-ghost use Rattle.cs_grammar.specs.Spells.{is_keyword, sum_op, product_op, comparison_op, prefix_op, range_of};
+ghost use Rattle.cs_grammar.specs.Spells.{is_keyword, comparison_op, prefix_op, range_of};
 
 use crate::level::Level;
 use crate::lexeme::{Form, Lexeme};

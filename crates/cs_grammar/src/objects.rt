@@ -1,5 +1,5 @@
 // The entries of an object or a projection.
-ghost use Rattle.std.specs.Prelude.{◌≡◌, ◌<◌, ◌≤◌, length, IfOk, IfSome, [], ◌++◌, ◌∷◌};
+ghost use Rattle.std.specs.Prelude.{◌<◌, ◌≤◌, length, IfOk};
 ghost use Rattle.cs_syntax.specs.View.{expression};
 ghost use Rattle.cs_grammar.specs.Answers.{AnswersEntries, AnswersEntry, AnswersSpread, AnswersEntryFrom};
 

@@ -1,5 +1,5 @@
 //! The documents near a bound, which settle an answer that is made of the first few of an order.
-ghost use Rattle.std.specs.Prelude.{◌≡◌, ◌≤◌, false, true, filter, map, IfOk, IfSome, OnOk, Some};
+ghost use Rattle.std.specs.Prelude.{◌≡◌, false, true, filter, map, IfOk, IfSome, OnOk, Some};
 ghost use Rattle.cs_value.specs.View.{tree, fields};
 ghost use Rattle.cs_syntax.specs.Queries.{query as expression_of};
 ghost use Rattle.cs_view.specs.Dataset.{ascending, kept_if, placed, without};

@@ -1,16 +1,16 @@
 //! The shares that the hits of a mapped query have in its answer, by ascending id.
-ghost use Rattle.std.specs.Prelude.{◌≡◌, ◌++◌, ◌∷◌, ◌&&◌, false, true, map, IfOk, OnOk};
+ghost use Rattle.std.specs.Prelude.{◌≡◌, ◌++◌, ◌∷◌, false, true, map, IfOk, OnOk};
 ghost use Rattle.cs_value.specs.View.{tree, fields};
 ghost use Rattle.cs_value.specs.Words.{list_of};
 ghost use Rattle.cs_syntax.specs.Queries.{query as expression_of};
-ghost use Rattle.cs_view.specs.Changes.{After, are_changes, Before, changes_where, LeadTo};
+ghost use Rattle.cs_view.specs.Changes.{After, are_changes, Before, LeadTo};
 ghost use Rattle.cs_view.specs.Dataset.{ascending, kept_if, placed};
 ghost use Rattle.cs_view.specs.Touched.{touched};
 ghost use Rattle.cs_view.specs.View.{doc as document, edit, edits};
 ghost use Rattle.cs_meaning.specs.Hits.{hits, is_hit};
 ghost use Rattle.cs_window.specs.Mapped.{is_mapped};
 ghost use Rattle.cs_interest.specs.Interest.{interest_code};
-ghost use Rattle.cs_hits.specs.Shares.{AreShares, SharesFollow, IsShare, share_docs, share_values, shares_looked};
+ghost use Rattle.cs_hits.specs.Shares.{AreShares, SharesFollow, share_docs, share_values, shares_looked};
 
 use crate::held::{put, remove};
 use crate::share::Share;

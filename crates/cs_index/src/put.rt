@@ -1,5 +1,5 @@
 //! Entries put among others, and taken out.
-ghost use Rattle.std.specs.Prelude.{◌≡◌, false, option_map, OnOk};
+ghost use Rattle.std.specs.Prelude.{false, OnOk};
 ghost use Rattle.cs_view.specs.View.{doc as document, edit, edits};
 ghost use Rattle.cs_codes.specs.Codes.{codes};
 ghost use Rattle.cs_index.specs.Entries.{entry, same_entry, is_in, is_put, enters, Gain, Lose, EnterAll};

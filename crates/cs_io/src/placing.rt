@@ -1,5 +1,5 @@
 //! A thing put into the first place that is free.
-ghost use Rattle.std.specs.Prelude.{◌≡◌, ℕ, [], ◌∷◌, ◌++◌, Option, length, IfSome, IfNone, false};
+ghost use Rattle.std.specs.Prelude.{◌≡◌, [], ◌∷◌, ◌++◌, Option, length, IfSome, IfNone, false};
 ghost use Rattle.cs_io.specs.Held.{IsPlaced};
 ghost use Rattle.cs_io.specs.Names.{is_open};
 

@@ -1,5 +1,5 @@
 //! Where a program writes.
-ghost use Rattle.std.specs.Prelude.{◌≡◌, ℕ, ◌<◌, ◌≤◌, List, length, IfOk, OnOk, Option};
+ghost use Rattle.std.specs.Prelude.{ℕ, ◌<◌, ◌≤◌, List, length, IfOk, OnOk, Option};
 ghost use Rattle.std.specs.Io.KnownBytes.{WriteAppends, Appends};
 ghost use Rattle.cs_io.specs.Bytes.{AppendsPartOf};
 ghost use Rattle.cs_io.specs.Causes.{HasCause};

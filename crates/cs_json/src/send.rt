@@ -1,5 +1,5 @@
 //! Values, and what is put together from them, as the events that serde writes.
-ghost use Rattle.std.specs.Prelude.{◌≡◌, OnOk, map};
+ghost use Rattle.std.specs.Prelude.{OnOk, map};
 ghost use Rattle.serde_json.specs.Data.{array, number, object as object_data};
 ghost use Rattle.serde_json.specs.Find.{of_integer};
 ghost use Rattle.serde_json.specs.Events.{SendsValue};

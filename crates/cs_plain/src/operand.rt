@@ -1,5 +1,5 @@
 //! The values of operands: what is at hand lent, and what is found a number, a truth or null.
-ghost use Rattle.std.specs.Prelude.{◌≡◌, ◌<◌, ◌^◌, length, map, filter_map, nat_eq, option_map, unwrap_or};
+ghost use Rattle.std.specs.Prelude.{◌≡◌, ◌<◌, ◌^◌, length, filter_map, nat_eq, option_map, unwrap_or};
 ghost use Rattle.std.specs.List.{list_any, starts_with};
 ghost use Rattle.std.specs.Str.{chars};
 ghost use Rattle.cs_value.specs.Tree.{null};

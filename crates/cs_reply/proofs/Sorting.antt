@@ -1,5 +1,5 @@
 -- The fields of an event in their order are its fields.
-use Rattle.std.proofs.Common.{◌≡◌, refl, ℕ, List, [], ◌∷◌, Option, None, Some, codes}
+use Rattle.std.proofs.Common.{◌≡◌, refl, ℕ, List, ◌∷◌, Option, None, Some, codes}
 use Rattle.cs_value.specs.Tree.{Tree, pairs}
 use Rattle.cs_reply.specs.Fields.{pairs_with, number}
 use Rattle.cs_reply.specs.Reply.{Event, Transition, event_fields}

@@ -1,5 +1,5 @@
 //! What a listener hears of a change.
-ghost use Rattle.std.specs.Prelude.{◌≡◌, ◌++◌, OnOk, IfOk, ◌∷◌, [], codes, map, option_map};
+ghost use Rattle.std.specs.Prelude.{◌≡◌, ◌++◌, OnOk, IfOk, ◌∷◌, [], map, option_map};
 ghost use Rattle.cs_value.specs.Tree.{text};
 ghost use Rattle.cs_value.specs.View.{tree};
 ghost use Rattle.cs_json.specs.Nodes.{node_tree, member_pair};

@@ -1,8 +1,7 @@
 //! The refusals of a line.
-ghost use Rattle.std.specs.Prelude.{◌≡◌, OnOk, ◌∷◌, [], codes};
+ghost use Rattle.std.specs.Prelude.{OnOk, ◌∷◌, [], codes};
 ghost use Rattle.cs_value.specs.Tree.{text};
-ghost use Rattle.cs_reply.specs.Fields.{Fields, object_of, number};
-ghost use Rattle.cs_reply.specs.Refusal.{word_of};
+ghost use Rattle.cs_reply.specs.Fields.{object_of, number};
 ghost use Rattle.cs_reply.specs.Reply.{reply_tree, refused};
 ghost use Rattle.cs_reply.specs.View.{refusal, Appended};
 

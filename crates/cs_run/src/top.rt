@@ -1,6 +1,6 @@
 //! The top call: the words, and then the data file and the lines of the script, or a generated
 //! script.
-ghost use Rattle.std.specs.Prelude.{◌≡◌, ◌≢◌, ◌≤◌, ℕ, OnOk, IfOk, IfErr, length, true, false, Option, option_map};
+ghost use Rattle.std.specs.Prelude.{◌≡◌, ◌≢◌, ◌≤◌, ℕ, OnOk, IfErr, length, true, false, Option, option_map};
 ghost use Rattle.std.specs.Io.KnownBytes.{Appends};
 ghost use Rattle.cs_docs.specs.Store.{docs as docs_of};
 ghost use Rattle.cs_io.specs.Causes.{Rose};
@@ -14,7 +14,7 @@ ghost use Rattle.cs_core.specs.Visits.{CostsAtMost, is_simple_line, line_cost};
 ghost use Rattle.cs_run.specs.Expected.{Causes, stop_status};
 ghost use Rattle.cs_run.specs.Headline.{ToldRun, Asks, RefusedWrites, GeneratedWrites, IsComplete, added, names_of, task_of};
 ghost use Rattle.cs_load.specs.Loading.{LoadHasCause, cause_of, stop_of};
-ghost use Rattle.cs_run.specs.Script.{Stated, States, LineStops, ToldWrites, ToldStarts, AsksNamed, DataEnds};
+ghost use Rattle.cs_run.specs.Script.{Stated, LineStops, ToldWrites, ToldStarts, AsksNamed, DataEnds};
 ghost use Rattle.cs_machine.specs.Expected.{play, generate};
 ghost use Rattle.cs_machine.specs.State.{begun};
 ghost use Rattle.cs_args.specs.Words.{takes_words, most_generated};

@@ -2,7 +2,7 @@
 ghost use Rattle.std.specs.Prelude.{◌≡◌, ◌==◌, ◌<◌, ℕ, Some, None, true, false, cond, IsSome, IfSome, OnOk, OnErr};
 ghost use Rattle.std.specs.BTreeMap.{IsOrdered, get};
 ghost use Rattle.slab.specs.Slab.{HasRoomFor};
-ghost use Rattle.cs_view.specs.Dataset.{id_cmp, same_id, stands, with_doc, without};
+ghost use Rattle.cs_view.specs.Dataset.{id_cmp, stands, with_doc, without};
 ghost use Rattle.cs_view.specs.Document.{id_of};
 ghost use Rattle.cs_view.specs.View.{doc as document};
 ghost use Rattle.cs_shelf.specs.Places.{IsSound, IsEntered, AreLow, StandIn, most_places, tree_at, trees_at};

@@ -1,12 +1,12 @@
 //! What a transaction comes to over a store's dataset.
-ghost use Rattle.std.specs.Prelude.{◌≡◌, ◌≤◌, ◌<◌, ◌^◌, ◌+◌, ℕ, List, true, Ok, OnOk, IfOk, IfErr, map, length};
+ghost use Rattle.std.specs.Prelude.{◌≡◌, ◌≤◌, ◌<◌, ◌^◌, ◌+◌, List, true, Ok, OnOk, IfOk, IfErr, length};
 ghost use Rattle.cs_value.specs.Tree.{Tree};
 ghost use Rattle.cs_view.specs.Changes.{After, AreChangesBetween};
 ghost use Rattle.cs_docs.specs.Faults.{IsFault};
 ghost use Rattle.cs_docs.specs.Store.{prepared};
 ghost use Rattle.cs_docs.specs.Verdict.{Verdict, AreTaken};
 ghost use Rattle.cs_index.specs.View.{indexed};
-ghost use Rattle.cs_body.specs.View.{action, txn as transaction};
+ghost use Rattle.cs_body.specs.View.{txn as transaction};
 ghost use Rattle.cs_txn.specs.Commit.{commit, folded, held};
 ghost use Rattle.cs_txn.specs.View.{IsRefusal};
 ghost use Rattle.cs_txn.specs.Visits.{are_simple, costs};

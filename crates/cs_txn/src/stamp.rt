@@ -1,5 +1,5 @@
 //! The document that a value becomes when a mutation installs it.
-ghost use Rattle.std.specs.Prelude.{◌≡◌, true, OnOk, IfOk, codes};
+ghost use Rattle.std.specs.Prelude.{◌≡◌, true, OnOk, IfOk};
 ghost use Rattle.cs_value.specs.Pairs.{put};
 ghost use Rattle.cs_value.specs.Tree.{text, object};
 ghost use Rattle.cs_value.specs.View.{tree, fields};
