@@ -2,5 +2,4 @@ pub mod Arithmetic
 pub mod Equal
 pub mod Operators
 pub mod Order
-pub mod Signs
 pub mod Truth

@@ -6,7 +6,6 @@ mod compare;
 mod laws;
 mod op;
 mod operators;
-mod sign;
 
 pub use compare::{equal, partial, total};
 pub use laws::{
@@ -15,7 +14,6 @@ pub use laws::{
 };
 pub use op::{Op, Pre};
 pub use operators::{between, binary, binary_onto, prefix, within};
-pub use sign::operator;
 
 #[cfg(test)]
 mod tests;
