@@ -1,4 +1,4 @@
-//! The value of each function.
+//! Values that tell the cases of the definitions apart, as the language has them.
 use super::*;
 use cs_value::{Fields, Txt, Val};
 use std::alloc::Global;
@@ -57,98 +57,59 @@ fn value(alloc: Global, word: &str) -> Result<Val, Fail> {
     })
 }
 
-// A value in JSON, for reading; `t`, `f` and `-` stand for true, false and null at the top.
-fn show(row: &mut String, val: &Val) -> Result<(), Fail> {
-    match val {
-        Val::Null => Ok(row.push_str("-")?),
-        Val::Bool(true) => Ok(row.push_str("t")?),
-        Val::Bool(false) => Ok(row.push_str("f")?),
-        Val::List(items) => show_list(row, items),
-        _ => show_inside(row, val),
+// The values in front of ` => `, and the one behind it.
+fn row(alloc: Global, words: &str) -> Result<(Vec<Val>, Val), Fail> {
+    let Some((given, wanted)) = words.split_once(" => ") else {
+        return Err(Fail::new("no row"));
+    };
+    match values(alloc, wanted)?.pop() {
+        Some(wanted) => Ok((values(alloc, given)?, wanted)),
+        None => Err(Fail::new("no value")),
     }
 }
 
-fn show_list(row: &mut String, items: &Vec<Val>) -> Result<(), Fail> {
-    let mut mark = "[";
-    for item in items {
-        row.push_str(mark)?;
-        show_inside(row, item)?;
-        mark = ",";
-    }
-    row.push_str(if items.is_empty() { "[]" } else { "]" })?;
-    Ok(())
-}
-
-fn show_inside(row: &mut String, val: &Val) -> Result<(), Fail> {
-    match val {
-        Val::Num(n) => Ok(write!(row, "{n}")?),
-        Val::Text(text) => Ok(write!(row, "\"{}\"", text.as_str())?),
-        _ => Ok(row.push_str(word(val))?),
-    }
-}
-
-// What stands for a value that is no number and no text inside another one.
-fn word(val: &Val) -> &'static str {
-    match val {
-        Val::Null => "null",
-        Val::Bool(true) => "true",
-        Val::Bool(false) => "false",
-        Val::List(_) => "[]",
-        _ => "{}",
-    }
-}
-
-// A value, after a blank.
-fn show_next(row: &mut String, val: &Val) -> Result<(), Fail> {
-    row.push_str(" ")?;
-    show(row, val)
-}
-
-fn agree(rt: &impl Abort, found: &str, wanted: &str) {
-    assert_eq!(rt; found, wanted);
-}
-
-// The values of which each function of one argument is asked below, in this order.
-const SAMPLES: &str =
-    "- t f 12 -7 -9223372036854775808 ' 'héé [] [] 1 , 1 , 'a , - , - , [] - , [] 'a , 1 , t , [] 9223372036854775807 , 1 , -1 , [] 9223372036854775807 , 1 , [] 1 , - , 2 , [] - , 1 , [] [] , [] , [] 'b , 'a , 'b , f , f , {} {} 1 :a";
-
-const OF_ONE: [(Function, &str); 9] = [
-    (
-        Function::Count,
-        r#"Count - - - - - - - - 0 5 1 3 3 2 3 2 2 5 - -"#,
-    ),
-    (
-        Function::Length,
-        r#"Length - - - - - - 0 3 0 5 1 3 3 2 3 2 2 5 - -"#,
-    ),
-    (
-        Function::Defined,
-        r#"Defined f t t t t t t t t t t t t t t t t t t t"#,
-    ),
-    (
-        Function::Text,
-        r#"Text - "true" "false" "12" "-7" "-9223372036854775808" "" "héé" - - - - - - - - - - - -"#,
-    ),
+// What functions make of lists and of numbers in them.
+const OF_LISTS: [(Function, &str); 20] = [
+    (Function::Count, "[] - , 'a , => 2"),
+    (Function::Count, "'ab => -"),
+    (Function::Defined, "f => t"),
+    (Function::Defined, "- => f"),
     (
         Function::Unique,
-        r#"Unique - - - - - - - - [] [1,"a",null] [null] ["a",1,true] [9223372036854775807,1,-1] [9223372036854775807,1] [1,null,2] [null,1] [[],[]] ["b","a",false] - -"#,
+        "[] 1 , 'a , 1 , - , - , => [] 1 , 'a , - ,",
     ),
-    (
-        Function::Compact,
-        r#"Compact - - - - - - - - [] [1,1,"a"] [] ["a",1,true] [9223372036854775807,1,-1] [9223372036854775807,1] [1,2] [1] [[],[]] ["b","a","b",false,false] - -"#,
-    ),
+    (Function::Unique, "[] 1 , '1 , t , => [] 1 , '1 , t ,"),
+    (Function::Unique, "[] [] , [] , => [] [] , [] ,"),
+    (Function::Compact, "[] - , 1 , f , - , => [] 1 , f ,"),
+    (Function::Compact, "{} => -"),
+    (Function::Sum, "[] => 0"),
+    (Function::Sum, "[] 1 , - , 2 , => 3"),
+    (Function::Sum, "[] 1 , 'a , => -"),
     (
         Function::Sum,
-        r#"Sum - - - - - - - - 0 - 0 - 9223372036854775807 - 3 1 - - - -"#,
+        "[] 9223372036854775807 , 1 , -1 , => 9223372036854775807",
     ),
+    (Function::Sum, "[] 9223372036854775807 , 1 , => -"),
+    (Function::Sum, "1 => -"),
+    (Function::Min, "[] => -"),
+    (Function::Min, "[] - , => -"),
+    (Function::Min, "[] 2 , - , -1 , => -1"),
+    (Function::Max, "[] 2 , - , -1 , => 2"),
+    (Function::Max, "[] 2 , t , => -"),
+];
+
+// What functions make of one value as a text, and how long it is.
+const OF_TEXTS: [(Function, &str); 7] = [
+    (Function::Length, "'héé => 3"),
+    (Function::Length, "[] - , => 1"),
+    (Function::Length, "{} => -"),
+    (Function::Text, "t => 'true"),
     (
-        Function::Min,
-        r#"Min - - - - - - - - - - - - -1 1 1 1 - - - -"#,
+        Function::Text,
+        "-9223372036854775808 => '-9223372036854775808",
     ),
-    (
-        Function::Max,
-        r#"Max - - - - - - - - - - - - 9223372036854775807 9223372036854775807 2 1 - - - -"#,
-    ),
+    (Function::Text, "- => -"),
+    (Function::Text, "[] => -"),
 ];
 
 // Each function is written out, so that it is known to have one argument.
@@ -167,93 +128,40 @@ fn of_one(alloc: Global, function: Function, val: &Val) -> Result<Val, Fail> {
     })
 }
 
-fn show_of_one(alloc: Global, row: &mut String, function: Function, val: &Val) -> Result<(), Fail> {
-    show_next(row, &of_one(alloc, function, val)?)
-}
-
-fn show_each(
-    alloc: Global,
-    row: &mut String,
-    function: Function,
-    vals: &Vec<Val>,
-) -> Result<(), Fail> {
-    for val in vals {
-        show_of_one(alloc, row, function, val)?;
-    }
+fn works_out(rt: &impl Abort, alloc: Global, function: Function, words: &str) -> Result<(), Fail> {
+    let (vals, wanted) = row(alloc, words)?;
+    let [val] = vals.as_slice() else {
+        return Err(Fail::new("no one value"));
+    };
+    let found = of_one(alloc, function, val)?;
+    assert!(rt; found.same(&wanted), "{function:?} {words}");
     Ok(())
-}
-
-fn row_of_one(alloc: Global, function: Function, vals: &Vec<Val>) -> Result<String, Fail> {
-    let mut row = format!(in alloc; "{function:?}")?;
-    show_each(alloc, &mut row, function, vals)?;
-    Ok(row)
 }
 
 #[test]
 fn functions_of_one_value(rt: HostRuntime) -> Result<(), Fail> {
-    let vals = values(rt.alloc(), SAMPLES)?;
-    for (function, wanted) in &OF_ONE {
-        agree(
-            &rt,
-            row_of_one(rt.alloc(), *function, &vals)?.as_str(),
-            wanted,
-        );
+    for (function, words) in &OF_LISTS {
+        works_out(&rt, rt.alloc(), *function, words)?;
+    }
+    for (function, words) in &OF_TEXTS {
+        works_out(&rt, rt.alloc(), *function, words)?;
     }
     Ok(())
 }
 
-// The values that each function of two arguments has first and, in the same order, second.
-const PAIRED: &str = "- 5 ' '- ', 'a,b, 'ab 'aab 'é [] [] 'a , 1 , t , [] 'a , - , {}";
-
-const JOINED: &str = r#"Join
- - - - - - - - - - - - - -
- - - - - - - - - - - - - -
- - - - - - - - - - - - - -
- - - - - - - - - - - - - -
- - - - - - - - - - - - - -
- - - - - - - - - - - - - -
- - - - - - - - - - - - - -
- - - - - - - - - - - - - -
- - - - - - - - - - - - - -
- - - "" "" "" "" "" "" "" - - - -
- - - "a1true" "a-1-true" "a,1,true" "aa,b,1a,b,true" "aab1abtrue" "aaab1aabtrue" "aé1étrue" - - - -
- - - - - - - - - - - - - -
- - - - - - - - - - - - - -"#;
-
-const SPLIT: &str = r#"Split
- - - - - - - - - - - - - -
- - - - - - - - - - - - - -
- - - [] [] [] [] [] [] [] - - - -
- - - ["-"] ["",""] ["-"] ["-"] ["-"] ["-"] ["-"] - - - -
- - - [","] [","] ["",""] [","] [","] [","] [","] - - - -
- - - ["a",",","b",","] ["a,b,"] ["a","b",""] ["",""] ["a,b,"] ["a,b,"] ["a,b,"] - - - -
- - - ["a","b"] ["ab"] ["ab"] ["ab"] ["",""] ["ab"] ["ab"] - - - -
- - - ["a","a","b"] ["aab"] ["aab"] ["aab"] ["a",""] ["",""] ["aab"] - - - -
- - - ["é"] ["é"] ["é"] ["é"] ["é"] ["é"] ["",""] - - - -
- - - - - - - - - - - - - -
- - - - - - - - - - - - - -
- - - - - - - - - - - - - -
- - - - - - - - - - - - - -"#;
-
-const STARTED: &str = r#"StartsWith
- - - - - - - - - - - - - -
- - - - - - - - - - - - - -
- - - t f f f f f f - - - -
- - - t t f f f f f - - - -
- - - t f t f f f f - - - -
- - - t f f t f f f - - - -
- - - t f f f t f f - - - -
- - - t f f f f t f - - - -
- - - t f f f f f t - - - -
- - - - - - - - - - - - - -
- - - - - - - - - - - - - -
- - - - - - - - - - - - - -
- - - - - - - - - - - - - -"#;
-
-const OF_TWO: [(Function, &str); 3] = [
-    (Function::Join, JOINED),
-    (Function::Split, SPLIT),
-    (Function::StartsWith, STARTED),
+const OF_TWO: [(Function, &str); 12] = [
+    (Function::Join, "[] 'a , 1 , t , '- => 'a-1-true"),
+    (Function::Join, "[] ', => '"),
+    (Function::Join, "[] 'a , - , '- => -"),
+    (Function::Join, "[] 'a , 1 => -"),
+    (Function::Split, "'a,b, ', => [] 'a , 'b , ' ,"),
+    (Function::Split, "'aaa 'aa => [] ' , 'a ,"),
+    (Function::Split, "' '- => []"),
+    (Function::Split, "'aé ' => [] 'a , 'é ,"),
+    (Function::Split, "1 ', => -"),
+    (Function::StartsWith, "'aab ' => t"),
+    (Function::StartsWith, "'ab 'aab => f"),
+    (Function::StartsWith, "[] 'a => -"),
 ];
 
 // Each function is written out, so that it is known to have two arguments.
@@ -266,157 +174,57 @@ fn of_two(alloc: Global, function: Function, first: &Val, second: &Val) -> Resul
     })
 }
 
-fn show_of_two(
-    alloc: Global,
-    row: &mut String,
-    function: Function,
-    first: &Val,
-    second: &Val,
-) -> Result<(), Fail> {
-    show_next(row, &of_two(alloc, function, first, second)?)
-}
-
-fn show_row(
-    alloc: Global,
-    rows: &mut String,
-    function: Function,
-    first: &Val,
-    vals: &Vec<Val>,
-) -> Result<(), Fail> {
-    for second in vals {
-        show_of_two(alloc, rows, function, first, second)?;
-    }
-    Ok(())
-}
-
-// A row for each first argument of a function.
-fn show_rows(
-    alloc: Global,
-    rows: &mut String,
-    function: Function,
-    vals: &Vec<Val>,
-) -> Result<(), Fail> {
-    for first in vals {
-        rows.push_str("\n")?;
-        show_row(alloc, rows, function, first, vals)?;
-    }
-    Ok(())
-}
-
-fn table(alloc: Global, function: Function, vals: &Vec<Val>) -> Result<String, Fail> {
-    let mut rows = format!(in alloc; "{function:?}")?;
-    show_rows(alloc, &mut rows, function, vals)?;
-    Ok(rows)
-}
-
 #[test]
 fn functions_of_two_values(rt: HostRuntime) -> Result<(), Fail> {
-    let vals = values(rt.alloc(), PAIRED)?;
-    for (function, wanted) in &OF_TWO {
-        agree(&rt, table(rt.alloc(), *function, &vals)?.as_str(), wanted);
+    for (function, words) in &OF_TWO {
+        let (vals, wanted) = row(rt.alloc(), words)?;
+        let [first, second] = vals.as_slice() else {
+            return Err(Fail::new("no two values"));
+        };
+        let found = of_two(rt.alloc(), *function, first, second)?;
+        assert!(rt; found.same(&wanted), "{function:?} {words}");
     }
     Ok(())
 }
 
-// The values of which each is asked whether it refers to `a`.
-const REFERRING: &str =
-    "- 'a {} 'a :_ref {} 'b :_ref {} 1 :_ref {} {} 'a :_ref :x [] {} [] 1 , {} 'a :_ref , :x , {} {} 'a :_ref :_ref {} 'b :_ref {} 'a :_ref :x {} - :_ref {} 'a :_ref :x";
-
-fn show_referring(row: &mut String, vals: &Vec<Val>, target: &Txt) -> Result<(), Fail> {
-    for val in vals {
-        show_next(row, &Val::Bool(refers(val, target)))?;
-    }
-    Ok(())
-}
-
-fn referring(alloc: Global) -> Result<String, Fail> {
-    let target = Txt::copy_of(alloc, "a")?;
-    let mut row = String::new(alloc);
-    show_referring(&mut row, &values(alloc, REFERRING)?, &target)?;
-    Ok(row)
-}
-
-#[test]
-fn refers_to_a_target(rt: HostRuntime) -> Result<(), Fail> {
-    agree(&rt, referring(rt.alloc())?.as_str(), " f f t f f t t t f t");
-    Ok(())
-}
-
-const NAMES: [(&str, Option<Function>); 22] = [
-    ("array::compact", Some(Function::Compact)),
-    ("array::join", Some(Function::Join)),
-    ("array::unique", Some(Function::Unique)),
-    ("count", Some(Function::Count)),
-    ("defined", Some(Function::Defined)),
-    ("global::count", Some(Function::Count)),
-    ("global::defined", Some(Function::Defined)),
-    ("global::length", Some(Function::Length)),
-    ("global::string", Some(Function::Text)),
-    ("length", Some(Function::Length)),
-    ("math::max", Some(Function::Max)),
-    ("math::min", Some(Function::Min)),
-    ("math::sum", Some(Function::Sum)),
-    ("string", Some(Function::Text)),
-    ("string::split", Some(Function::Split)),
-    ("string::startsWith", Some(Function::StartsWith)),
-    ("", None),
-    ("coalesce", None),
-    ("Count", None),
-    ("global::math::sum", None),
-    ("math::avg", None),
-    ("order", None),
+// Whether each value refers to `a`.
+const REFERRING: [&str; 8] = [
+    "'a => f",
+    "{} 'a :_ref => t",
+    "{} 'b :_ref => f",
+    "{} {} 'a :_ref :x => t",
+    "[] {} [] 1 , {} 'a :_ref , :x , => t",
+    "{} {} 'a :_ref :_ref => t",
+    "{} 'b :_ref {} 'a :_ref :x => f",
+    "{} - :_ref {} 'a :_ref :x => t",
 ];
 
 #[test]
-fn function_of_each_name(rt: HostRuntime) {
-    for (name, wanted) in &NAMES {
-        assert!(rt; named(name) == *wanted, "at {name}");
+fn references(rt: HostRuntime) -> Result<(), Fail> {
+    let target = Txt::copy_of(rt.alloc(), "a")?;
+    for words in REFERRING {
+        let (vals, wanted) = row(rt.alloc(), words)?;
+        let [val] = vals.as_slice() else {
+            return Err(Fail::new("no one value"));
+        };
+        assert!(rt; Val::Bool(refers(val, &target)).same(&wanted), "{words}");
     }
+    Ok(())
 }
 
-const PATHS: [(&str, &str, bool); 42] = [
-    ("a", "a", true),
-    ("a", "b", false),
+const PATHS: [(&str, &str, bool); 12] = [
     ("a", "a.b", false),
-    ("", "", true),
-    ("", "a", false),
-    ("*", "a", true),
     ("*", "", false),
     ("*", "a.b", false),
     ("**", "", true),
-    ("**", "a.b.c", true),
     ("a.*", "a.b", true),
-    ("a.*", "a", false),
-    ("a.*", "a.", false),
-    ("a.*", "a.b.c", false),
-    ("*.b", "a.b", true),
-    ("*.*", "a.b", true),
-    ("*.*", "a.b.c", false),
     ("a.**", "a", false),
     ("a.**", "a.", true),
-    ("a.**", "a.b", true),
     ("a.**", "a.b.c", true),
-    ("**.c", "a.b.c", true),
     ("**.c", "c", false),
-    ("**.c", ".c", true),
     ("a.**.c", "a.c", false),
-    ("a.**.c", "a..c", true),
-    ("a.**.c", "a.b.b.c", true),
-    ("**.b.**", "a.b.c", true),
-    ("**.b.**", "b.c", false),
     ("**.b.c.**.d", "x.b.b.c.y.d", true),
-    ("**.b.c.**.d", "x.b.b.c.d", false),
-    ("**.**", "a", false),
-    ("**.**", "a.b", true),
-    ("**.a.b", "a.a.b", true),
-    ("**.a.b", "a.b.a.b", true),
     ("a*", "ab", false),
-    ("a*", "a*", true),
-    ("a..b", "a..b", true),
-    ("a..b", "a.b", false),
-    ("é.*", "é.ü", true),
-    ("***", "***", true),
-    ("***", "a", false),
 ];
 
 #[test]
