@@ -2,6 +2,7 @@
 // work on both of its forms.
 ghost use Rattle.std.specs.Prelude.{◌≤◌};
 
+use crate::map::name::Name;
 use crate::{Fields, Txt, Val};
 use std::alloc::Global;
 use std::mem::size_of;
@@ -12,6 +13,7 @@ use std::test::Fail;
 fn a_value_is_small(rt: HostRuntime) -> Result<(), Fail> {
     assert!(rt; size_of::<Val>() <= 40);
     assert!(rt; size_of::<Txt>() <= 32);
+    assert!(rt; size_of::<(Name, Val)>() <= 56);
     Ok(())
 }
 
