@@ -42,63 +42,23 @@ fn reads_queries_and_tells_the_first_cause(rt: HostRuntime) -> Result<(), Fail> 
 
 // Queries, each with what becomes of it: tokens, the grammar, the depth of brackets, faults, and
 // queries that the store is asked.
-const TABLE: &str = r#"_a9 is ok
-9a is syntax
-é is bad-token 0
-a-b is ok
-0 is ok
-01 is syntax
+const TABLE: &str = r#"01 is syntax
 120 is ok
 1. is syntax
 1.5 is unsupported fraction
 1.e5 is ok
-1e5 is unsupported exponent
-1E+5 is unsupported exponent
 1e-5 is unsupported exponent
 1e+ is syntax
 1..2 is syntax
-"a" is ok
-'a' is ok
-"a is bad-token 0
-'a" is bad-token 0
-"a'b" is ok
-"\"" is ok
-'\'' is ok
-"\\\/\b\f\n\r\t" is ok
 "\q" is bad-token 0
-"\u00e9" is ok
-"\u00e" is bad-token 0
-"\u{1}" is ok
-"\u{10ffff}" is ok
-"\u{110000}" is bad-token 0
-"\u{0010ff}" is ok
-"\u{00010ff}" is bad-token 0
-"\u{}" is bad-token 0
-"\u{d800}" is bad-token 0
-"\ud83d\ude00" is ok
-"\ud83d" is bad-token 0
-"\ude00" is bad-token 0
-"\ud83d\u0041" is bad-token 0
-"\ud83d\u{de00}" is bad-token 0
-$a is ok
-$ a is bad-token 0
-$1 is bad-token 0
-$ is bad-token 0
 a == b is ok
 a = b is bad-token 2
 a && b is ok
-a & b is bad-token 2
-a # b is bad-token 2
-1 // c is ok
 // c is syntax
 1 / is syntax
 1in[1] is ok
-nullin is ok
 a => b is syntax
 a : b is syntax
-a :: b is syntax
-a; is bad-token 1
-1 is ok
  is syntax
 a || b && c == d + e * -f is ok
 a - b - c is ok
@@ -106,8 +66,6 @@ a ** b ** c is unsupported **
 a == b == c is syntax
 (a == b) == c is ok
 a in b in c is syntax
-a in b is ok
-a in 1..2 is ok
 a in 1...2 is ok
 a in 1.. is syntax
 a in b == c is syntax
@@ -115,10 +73,7 @@ in in in is ok
 match match match is unsupported match
 a in in is ok
 a in is syntax
-a match b is unsupported match
 a match b match c is syntax
--1 is ok
---1 is ok
 -+1 is ok
 -!a is ok
 !-1 is syntax
@@ -128,21 +83,15 @@ a match b match c is syntax
 -2 ** 2 is unsupported **
 null is ok
 true(1) is unknown-function true
-null(1) is unknown-function null
 in(1) is unknown-function in
-a.true is ok
 a.in is ok
 .a is syntax
 a. is syntax
-a.1 is syntax
-a-> is ok
 a->b is ok
 a->in is syntax
 a->in [1] is ok
 a->in b is ok
 a->true is ok
-@ is ok
-* is ok
 * * * is ok
 * * is syntax
 ^ is ok
@@ -151,55 +100,39 @@ a->true is ok
 ^.a.^ is syntax
 ^..a is syntax
 ^^ is syntax
-(1) is ok
 () is syntax
 (1 is syntax
 1) is syntax
-[] is ok
-[1] is ok
 [1,] is ok
 [1,,] is syntax
 [,] is syntax
 [1 2] is syntax
 [...a] is ok
 [...] is syntax
-{} is ok
-{"a": 1} is ok
 {"a" : 1,} is ok
-{a, b} is ok
 {a,,} is syntax
 {,} is syntax
-{...} is ok
 {..., a} is ok
 {...a} is ok
-{... } is ok
 {a => b} is ok
 {a => b => c} is syntax
 {a: 1} is syntax
 {"a"} is no-key
 {...a => b} is syntax
-count([]) is ok
 count([],) is syntax
 count( is syntax
-select() is ok
 select(a => b, c) is ok
 select(a => b => c) is syntax
-math::sum([1]) is ok
 math :: sum([1]) is ok
 math:: is syntax
 math::sum is syntax
 math::sum::x(1) is syntax
-a[] is ok
-a[1] is ok
-a["b"] is ok
-a[b] is ok
 a[1..2] is ok
 a[1...2] is ok
 a[..2] is syntax
 a[1..] is syntax
 a[a in 1..2] is ok
 a[a == 1..2] is syntax
-a{b} is ok
 a{b,} is ok
 a | {b} is ok
 a | b is syntax
@@ -211,11 +144,7 @@ a || {b} is ok
 * | order(a,) is syntax
 * | order(a asc desc) is syntax
 *|order(a)[0] is ok
-a asc is syntax
-a b is syntax
 a..b is syntax
-1.a is ok
-"a".b is ok
 a{b}{c}[0]->d[] is ok
 a ( b ) is unknown-function a
 ((((((((((((((((((((((((((((((((((((((((((((((((1)))))))))))))))))))))))))))))))))))))))))))))))) is ok
@@ -229,32 +158,22 @@ a ( b ) is unknown-function a
 )))))(((((((((((((((((((((((((((((((((((((((((((((((((((((( is deep-query
 (((((((((((((((((((((((((((((((((((((((((((((((((# is bad-token 49
 ((((((((((((((((((((((((((((((((((((((((((((((((1))))))))))))))))))))))))))))))))))))))))))))))))[0] is ok
-1e2 is unsupported exponent
-1.5 is unsupported fraction
-1.5e2 is unsupported exponent
 9223372036854775807 is ok
 9223372036854775808 is unsupported wide-number
 -9223372036854775808 is unsupported wide-number
-100000000000000000000 is unsupported wide-number
 a / 2 is unsupported /
 a ** 2 is unsupported **
-a match 'b' is unsupported match
 *[1+1] is unsupported constant
 *[(1)] is unsupported constant
 *[+1] is unsupported constant
 *[--1] is unsupported constant
 *[-1] is ok
-*[1] is ok
-*['a'] is ok
 *[('a')] is unsupported constant
-*['a' + 'b'] is unsupported constant
 *[1 / 2] is unsupported constant
-*[1 ** 2] is unsupported **
 *[!1] is ok
 *[[1]] is ok
 *[1 == 1] is ok
 *[$p] is ok
-*[1.5] is unsupported fraction
 *[1.5+1] is unsupported constant
 *[0..n] is unsupported slice-bounds
 *[n..0] is unsupported slice-bounds
@@ -264,21 +183,8 @@ a match 'b' is unsupported match
 *[1+1..2] is unsupported slice-bounds
 round(1) is unsupported round
 global::round(1) is unsupported global::round
-lower(a) is unsupported lower
-upper(a) is unsupported upper
-dateTime(a) is unsupported dateTime
-identity() is unsupported identity
-now() is unsupported now
-before() is unsupported before
-after() is unsupported after
-score() is unsupported score
-boost() is unsupported boost
 math::avg([1]) is unsupported math::avg
 pt::text(a) is unsupported pt::text
-geo::x() is unsupported geo::x
-sanity::x() is unsupported sanity::x
-delta::x() is unsupported delta::x
-diff::x() is unsupported diff::x
 * | score(n) is unsupported score
 * | math::avg(n) is unsupported math::avg
 path("a") is unsupported path
@@ -302,35 +208,17 @@ order(n) is unknown-function order
 count() is arity count
 count(1, 2) is arity count
 count(a => b) is arity count
-length(1) is ok
-defined(1) is ok
-defined() is arity defined
-coalesce() is ok
-coalesce(1, 2, 3) is ok
 coalesce(a => b) is arity coalesce
-select() is ok
 select(1) is ok
 select(a => 1) is ok
 select(a => 1, 2) is ok
 select(1, 2) is arity select
 select(1, a => 2) is arity select
 references() is arity references
-references(1, 2) is ok
 references(a => b) is arity references
-string() is arity string
-array::unique() is arity array::unique
-array::compact(1, 2) is arity array::compact
 array::join(1) is arity array::join
-array::join(1, 2) is ok
-string::split(1) is arity string::split
-string::split(1, 2) is ok
 string::startsWith(1, 2, 3) is arity string::startsWith
-math::sum() is arity math::sum
-math::min([1]) is ok
-math::max(1, 2) is arity math::max
 * | order() is arity order
-* | order(n) is ok
-{a} is ok
 {a->} is ok
 {a[]} is ok
 {a{b}} is ok
@@ -345,9 +233,6 @@ math::max(1, 2) is arity math::max
 {(a)} is no-key
 {a + 1} is no-key
 {1} is no-key
-{"a"} is no-key
-{$a} is no-key
-{@} is no-key
 {-1.5} is no-key
 {1.5} is unsupported fraction
 {foo()} is unknown-function foo
@@ -357,7 +242,6 @@ math::max(1, 2) is arity math::max
 {a.b, foo()} is no-key
 {foo(), a.b} is unknown-function foo
 {a / 2} is no-key
-*{a.b} is no-key
 [1.5, a / 2] is unsupported fraction
 [a / 2, 1.5] is unsupported /
 a / 1.5 is unsupported /
@@ -370,21 +254,5 @@ a in [1.5] is unsupported fraction
 {a => foo(), ...bar()} is unknown-function foo
 * | order(a.b, foo()) is unknown-function foo
 *[_type == 'author']{name, 'posts': *[_type == 'post' && author._ref == ^._id].title} is ok
-*[references('au-ann')]._id is ok
-*.tags[] is ok
-*.tags[0] is ok
-[true && null, false && null, null || true, null == null, [1] == [1], 1 < 'a'] is ok
-[9223372036854775807 + 1, 7 % 0, -7 % 2] is ok
-[2, 'b', true, null, {'x': 1}, 1, 'a', false] | order(@) is ok
-[2, 'b', true, null, {'x': 1}, 1, 'a', false] | order(@ desc) is ok
-$p is ok
-*[a / 2 > 1] is unsupported /
-foo(1) is unknown-function foo
-count() is arity count
-*{a.b} is no-key
 1 # is bad-token 2
- is syntax
-{'a': [0,1,2,3][1..2], 'b': [0,1,2,3][1...-1], 'c': [0,1,2,3][-2..9], 'd': [0,1,2,3][-1], 'e': [0,1,2,3][9], 'f': 'x'[0..1]} is ok
-[length('héé'), string(12), array::join(['a', 1, true], '-'), string::split('a,b,', ','), math::sum([1, null, 2]), math::min([]), array::unique([1, 1, 'a', null, null]), array::compact([null, 1]), coalesce(null, 3), select(false => 1, 2), defined(null)] is ok
-*[0]{..., 'n': n + 1, n > 5 => {'big': true}, n == 1 => {'one': true}} is ok
 "#;

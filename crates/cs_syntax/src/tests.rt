@@ -116,42 +116,19 @@ fn reads_the_longest_tokens(rt: HostRuntime) -> Result<(), Fail> {
 }
 
 // Texts, each with its first place without a token.
-static BAD_PLACES: [(&str, &str); 35] = [
-    ("#", "bad 0"),
-    ("a #", "bad 2"),
-    ("é", "bad 0"),
+static BAD_PLACES: [(&str, &str); 12] = [
     ("aé", "bad 1"),
-    ("\" ", "bad 0"),
-    ("\"a", "bad 0"),
     ("'a\"", "bad 0"),
-    ("\"\\\"", "bad 0"),
-    ("\"\\a\"", "bad 0"),
-    ("\"\\u004\"", "bad 0"),
     ("\"\\uD83D\"", "bad 0"),
-    ("\"\\uDE00\"", "bad 0"),
-    ("\"\\uD83D\\u0041\"", "bad 0"),
     ("\"\\uD83D\\u{DE00}\"", "bad 0"),
     ("\"\\u{}\"", "bad 0"),
     ("\"\\u{0000041}\"", "bad 0"),
     ("\"\\u{110000}\"", "bad 0"),
     ("\"\\u{D800}\"", "bad 0"),
-    ("\"\\u{12\"", "bad 0"),
-    ("a \"\\x\"", "bad 2"),
-    ("=", "bad 0"),
-    ("a = b", "bad 2"),
-    ("&", "bad 0"),
-    ("1 & 2", "bad 2"),
-    ("$", "bad 0"),
     ("$ a", "bad 0"),
-    ("$1", "bad 0"),
-    ("a ; b", "bad 2"),
     ("// a\n#", "bad 5"),
     (" \x0b", "bad 1"),
-    ("~", "bad 0"),
-    ("`", "bad 0"),
-    ("?", "bad 0"),
     ("\"a\" \"b", "bad 4"),
-    ("1.5é", "bad 3"),
 ];
 
 #[test]

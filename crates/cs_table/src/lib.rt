@@ -43,6 +43,3 @@ impl<'t, R: Row> Table<'t, R> {
         }
     }
 }
-
-#[cfg(test)]
-mod tests;

@@ -1,5 +1,4 @@
-// What no clause says: how large a value is, that a text comes back, and the calls of an object at
-// work on both of its forms.
+// What no clause says: how large a value is, and that an object has room on both of its forms.
 ghost use Rattle.std.specs.Prelude.{◌≤◌};
 
 use crate::map::name::Name;
@@ -14,30 +13,6 @@ fn a_value_is_small(rt: HostRuntime) -> Result<(), Fail> {
     assert!(rt; size_of::<Val>() <= 40);
     assert!(rt; size_of::<Txt>() <= 32);
     assert!(rt; size_of::<(Name, Val)>() <= 56);
-    Ok(())
-}
-
-// Texts on both sides of the length up to which they lie in the value.
-#[test]
-fn a_text_comes_back_as_it_was(rt: HostRuntime) -> Result<(), Fail> {
-    comes_back(&rt, rt.alloc(), "")?;
-    comes_back(&rt, rt.alloc(), "abcdefghijklmnopqrstuvwxyz012")?;
-    comes_back(&rt, rt.alloc(), "abcdefghijklmnopqrstuvwxyz0123")?;
-    comes_back(&rt, rt.alloc(), "abcdefghijklmnopqrstuvwxyz01234")?;
-    comes_back(&rt, rt.alloc(), "ab\u{e9}ghijklmnopqrstuvwxyz0123\u{1f600}")
-}
-
-fn comes_back(rt: &impl Abort, alloc: Global, text: &str) -> Result<(), Fail> {
-    let copy = Txt::copy_of(alloc, text)?;
-    let moved = Txt::from_string(String::from_str(alloc, text)?);
-    let longer = Txt::from_string(format!(in alloc; "{text}x")?);
-    assert_eq!(rt; copy.as_str(), text);
-    assert!(rt; copy == moved);
-    assert!(rt; copy < longer);
-    assert!(rt; longer > moved);
-    assert!(rt; copy != longer);
-    let back = moved.into_string(alloc)?;
-    assert_eq!(rt; back.as_str(), text);
     Ok(())
 }
 
