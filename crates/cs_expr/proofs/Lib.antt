@@ -1,7 +1,6 @@
 pub mod Answered
 pub mod Calling
 pub mod Climbing
-pub mod Deciding
 pub mod Firsts
 pub mod Joins
 pub mod Nodes

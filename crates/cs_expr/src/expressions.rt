@@ -174,7 +174,7 @@ fn run<'s, S: Source<C>, C>(
 
 // One operator, whose right side is left out where the left one decides.
 #[cycle(eval)]
-#[tactic(auto, using(crate::proofs::Deciding::decided_value))]
+#[tactic(auto, using(cs_direct::proofs::Deciding::decided_value))]
 fn operate<'s, S: Source<C>, C>(
     alloc: Global,
     sign: BinSign,

@@ -30,10 +30,7 @@ use Rattle.cs_listen.specs.Events.{Listener, sees, turned, event_of, heard, even
 use Rattle.cs_listen.specs.Listeners.{listener}
 use Rattle.cs_listen.specs.Told.{told, all_told}
 use Rattle.cs_listen.specs.declared.listening.Listening.{Listening}
-
-or-second : (a b : Bool) → b ≡ true → (a || b) ≡ true
-or-second true b h = refl
-or-second false b h = h
+use Rattle.cs_listen.proofs.Keeping.{or-second}
 
 or-first : (a b : Bool) → a ≡ true → (a || b) ≡ true
 or-first a b h = ap (λ c. c || b) h
