@@ -1,5 +1,5 @@
 mod Compounds
-mod Deciding
+pub mod Deciding
 mod Follows
 mod Named
 mod Nodes
