@@ -1,8 +1,8 @@
 //! Operators between operands.
 ghost use Rattle.std.specs.Prelude.{◌≡◌, ℤ, FitsSigned, SomeIff, IfSome};
 ghost use Rattle.std.specs.Int.{w64};
-ghost use Rattle.cs_ops.specs.Arithmetic.{number, remainder, of_numbers};
-ghost use Rattle.cs_ops.specs.Operators.{compared, between, prefix};
+ghost use Rattle.cs_ops.specs.Arithmetic.{number, remainder};
+ghost use Rattle.cs_ops.specs.Operators.{between, prefix};
 ghost use Rattle.cs_ops.specs.Truth.{said, both, either, opposite};
 ghost use Rattle.cs_meaning.specs.Operators.{operated, signed, decides, operator_of, front_operator, is_true};
 ghost use Rattle.cs_direct.specs.Operand.{operand};

@@ -1,6 +1,5 @@
 // What a chain begins with.
 ghost use Rattle.std.specs.Prelude.{◌<◌, ◌≤◌, length, IfOk};
-ghost use Rattle.cs_syntax.specs.View.{expression};
 ghost use Rattle.cs_syntax.specs.Expression.{parent};
 ghost use Rattle.cs_grammar.specs.View.{left};
 ghost use Rattle.cs_grammar.specs.Reading.{base, carets_from, Reads, got};

@@ -3,7 +3,7 @@ ghost use Rattle.std.specs.Prelude.{◌≡◌, ◌++◌, ◌∷◌, false, true,
 ghost use Rattle.cs_value.specs.View.{tree, fields};
 ghost use Rattle.cs_value.specs.Words.{list_of};
 ghost use Rattle.cs_syntax.specs.Queries.{query as expression_of};
-ghost use Rattle.cs_view.specs.Changes.{After, are_changes, Before, LeadTo};
+ghost use Rattle.cs_view.specs.Changes.{are_changes, Before, LeadTo};
 ghost use Rattle.cs_view.specs.Dataset.{ascending, kept_if, placed};
 ghost use Rattle.cs_view.specs.Touched.{touched};
 ghost use Rattle.cs_view.specs.View.{doc as document, edit, edits};

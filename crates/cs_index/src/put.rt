@@ -2,8 +2,7 @@
 ghost use Rattle.std.specs.Prelude.{false, OnOk};
 ghost use Rattle.cs_view.specs.View.{doc as document, edit, edits};
 ghost use Rattle.cs_codes.specs.Codes.{codes};
-ghost use Rattle.cs_index.specs.Entries.{entry, same_entry, is_in, is_put, enters, Gain, Lose, EnterAll};
-ghost use Rattle.cs_index.specs.declared.entry.Entry.{Entry};
+ghost use Rattle.cs_index.specs.Entries.{same_entry, is_in, is_put, enters, Gain, Lose, EnterAll};
 
 use crate::entry::Entry;
 use cs_codes::codes_of;

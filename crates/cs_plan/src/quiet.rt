@@ -1,5 +1,5 @@
 //! Whether neither `*` as a value nor `->` stands anywhere.
-ghost use Rattle.std.specs.Prelude.{◌≡◌, ◌&&◌, map};
+ghost use Rattle.std.specs.Prelude.{◌≡◌, map};
 ghost use Rattle.cs_syntax.specs.Expression.{arguments_of, elements_of, entries_of, keys_of, operands_of, steps_of};
 ghost use Rattle.cs_syntax.specs.View.{arg as argument_of, elem as element_of, entry as entry_of, expression, key as order_key_of, operands, step as step_of};
 ghost use Rattle.cs_plan.specs.Simple.{is_quiet, quiet_operands, quiet_argument, quiet_arguments, quiet_element, quiet_elements, quiet_entry, quiet_entries, quiet_step, quiet_steps, quiet_keys};

@@ -3,7 +3,6 @@ ghost use Rattle.std.specs.Prelude.{◌≡◌, ◌++◌, OnOk, IfOk, ◌∷◌, 
 ghost use Rattle.cs_value.specs.Tree.{text};
 ghost use Rattle.cs_value.specs.View.{tree};
 ghost use Rattle.cs_json.specs.Nodes.{node_tree, member_pair};
-ghost use Rattle.cs_reply.specs.Fields.{number};
 ghost use Rattle.cs_reply.specs.Reply.{transition_word, where_there, reply_tree, event as an_event};
 ghost use Rattle.cs_reply.specs.Sorted.{sides, in_order};
 ghost use Rattle.cs_reply.specs.View.{transition, event, Appended};

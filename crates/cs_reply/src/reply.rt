@@ -1,8 +1,6 @@
 //! The replies to a line.
 ghost use Rattle.std.specs.Prelude.{◌≡◌, OnOk, IfOk, map};
-ghost use Rattle.cs_value.specs.Tree.{text, list};
 ghost use Rattle.cs_json.specs.Nodes.{node_tree};
-ghost use Rattle.cs_reply.specs.Fields.{number};
 ghost use Rattle.cs_reply.specs.Reply.{operation_word, reply_tree, committed, found, live, welcome, stopped, set, outcome as outcome_tree};
 ghost use Rattle.cs_reply.specs.View.{operation, outcome, reply, Appended};
 

@@ -1,5 +1,5 @@
 //! Documents.
-ghost use Rattle.std.specs.Prelude.{◌≡◌, true, false, IfOk, option_map, MatchResult};
+ghost use Rattle.std.specs.Prelude.{◌≡◌, true, IfOk, option_map, MatchResult};
 ghost use Rattle.cs_value.specs.View.{tree};
 ghost use Rattle.cs_value.specs.Words.{text_at, is_object};
 ghost use Rattle.cs_view.specs.Document.{is_document, is_body, has_id, has_type, has_text, id_of, rev_of};

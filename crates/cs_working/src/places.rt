@@ -1,6 +1,6 @@
 //! Places of a working dataset: below [`MOST_PLACES`] those of the store, and from there on those
 //! of what is put.
-ghost use Rattle.std.specs.Prelude.{◌≡◌, ◌+◌, Some, IsSome, option_map};
+ghost use Rattle.std.specs.Prelude.{◌≡◌, Some, IsSome, option_map};
 ghost use Rattle.cs_view.specs.Dataset.{At};
 ghost use Rattle.cs_view.specs.View.{doc as document};
 ghost use Rattle.cs_shelf.specs.View.{documents};

@@ -1,5 +1,5 @@
 //! The dataset that a transaction works on.
-ghost use Rattle.std.specs.Prelude.{◌≡◌, option_map, OnOk, OnErr, is_some};
+ghost use Rattle.std.specs.Prelude.{◌≡◌, option_map, OnOk, OnErr};
 ghost use Rattle.cs_view.specs.Dataset.{At, stands, with_doc, without};
 ghost use Rattle.cs_view.specs.View.{doc as document};
 ghost use Rattle.cs_shelf.specs.View.{documents};
