@@ -56,7 +56,7 @@ fn next(
         ≡ next_waiting (selects count (part_of key.entry) (tree val.now)) false waiting.now
         (path_of steps.now)) }
 {
-    let mut below = Vec::with_capacity(alloc, steps.len().saturating_add(1))?;
+    let mut below = Vec::with_capacity(alloc, waiting.len() + 1)?;
     let mut here = false;
     for (waits, step) in waiting.iter().zip(steps) {
         below.push(here || (*waits && step.deep))?;
