@@ -3,6 +3,7 @@ use Rattle.std.specs.Prelude.{◌≡◌, ◌⊎◌, ℕ, ◌∷◌, ◌++◌, []
 use Rattle.cs_jsonmatch.specs.Path.{Item, Path}
 use Rattle.cs_jsonmatch.specs.declared.class.Class.{Class}
 use Rattle.cs_jsonmatch.specs.declared.class.Class.TheVariants.{Letter, Digit, Dot, Opening, Minus, Quote, Colon, Other}
+use Rattle.cs_jsonmatch.specs.declared.cursor.Cursor.{Cursor}
 use Rattle.cs_jsonmatch.specs.declared.cursor.Stop.{Stop}
 use Rattle.cs_jsonmatch.specs.declared.cursor.Stop.TheVariants as stop
 use Rattle.cs_jsonmatch.specs.Grammar.{class, IsName, AreDigits, number_from}
@@ -47,6 +48,13 @@ IsStop stop.NoMemory r rest = ⊤
 -- stopped.
 abbrev pub IsRead : {A : Type 0} → Result A Stop → (A → Reading) → Reading → List ℕ → Type 0
 IsRead result on r rest = MatchResult result (λ a. r ≡ on a) (λ e. IsStop e r rest)
+
+-- A function moved the cursor from `old` to `new`: in the state s the reading of what was left goes
+-- on with what is left now, in the state that the answer gives; or it stops where the function
+-- stopped.
+abbrev pub Moved : {A : Type 0} → Result A Stop → State → (A → State) → Cursor → Cursor → Type 0
+Moved result s behind old new =
+    IsRead result (λ a. reading new.rest.now (behind a)) (reading old.rest.now s) new.rest.now
 
 -- the state before an integer, by where it stands in its item
 abbrev pub before_int : Path → Bool → List Item → Slot → State

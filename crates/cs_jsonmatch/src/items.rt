@@ -6,7 +6,7 @@ ghost use Rattle.cs_jsonmatch.specs.Path.{Item as PathItem, Path, meets};
 ghost use Rattle.cs_jsonmatch.specs.View.{item_of, items_of};
 ghost use Rattle.cs_jsonmatch.specs.declared.class.Class.TheVariants.{Letter, Space};
 ghost use Rattle.cs_jsonmatch.specs.Machine.{front, before, to, left_done, half, angle, literal, letters, next_letter, after, done, more};
-ghost use Rattle.cs_jsonmatch.specs.Reading.{reading, next_class, after_int, IsRead};
+ghost use Rattle.cs_jsonmatch.specs.Reading.{reading, next_class, after_int, IsRead, Moved};
 
 use crate::class::Class;
 use crate::cursor::{Cursor, Stop};
@@ -19,8 +19,7 @@ impl<'t> Cursor<'t> {
     fn names(&mut self, alloc: Global) -> Result<Vec<Txt>, Stop>
         requires { next_class self.old.rest.now ≡ Letter }
         ensures names { (p : Path) (d : Bool) (is : List PathItem) →
-            IsRead result (λ ns. reading self.new.rest.now (left_done p d is ns.items))
-            (reading self.old.rest.now (before p d is)) self.new.rest.now }
+            Moved result (before p d is) (λ ns. left_done p d is ns.items) self.old self.new }
         ensures shorter { length self.new.rest.now ≤ length self.old.rest.now }
     {
         let mut names = Vec::new(alloc);
@@ -37,8 +36,7 @@ impl<'t> Cursor<'t> {
     // The second sign of an operator that has two.
     fn equal_sign(&mut self, comparison: Comparison) -> Result<Comparison, Stop>
         ensures operator { (p : Path) (d : Bool) (is : List PathItem) (ns : List (List ℕ)) →
-            IsRead result (λ c. reading self.new.rest.now (literal p d is ns c))
-            (reading self.old.rest.now (half p d is ns comparison)) self.new.rest.now }
+            Moved result (half p d is ns comparison) (λ c. literal p d is ns c) self.old self.new }
         ensures shorter { length self.new.rest.now ≤ length self.old.rest.now }
     {
         if self.skip(Class::EqualSign) {
@@ -64,8 +62,7 @@ impl<'t> Cursor<'t> {
 
     fn comparison(&mut self) -> Result<Comparison, Stop>
         ensures operator { (p : Path) (d : Bool) (is : List PathItem) (ns : List (List ℕ)) →
-            IsRead result (λ c. reading self.new.rest.now (literal p d is ns c))
-            (reading self.old.rest.now (left_done p d is ns)) self.new.rest.now }
+            Moved result (left_done p d is ns) (λ c. literal p d is ns c) self.old self.new }
         ensures shorter { length self.new.rest.now ≤ length self.old.rest.now }
     {
         self.skip_spaces();
@@ -115,8 +112,8 @@ impl<'t> Cursor<'t> {
         requires { wanted < 128 }
         ensures letter { (p : Path) (d : Bool) (is : List PathItem) (ns : List (List ℕ))
             (c : Comparison) (t : Tree) (left : List ℕ) →
-            IsRead result (λ _. reading self.new.rest.now (next_letter p d is ns c t left))
-            (reading self.old.rest.now (letters p d is ns c t (wanted ∷ left))) self.new.rest.now }
+            Moved result (letters p d is ns c t (wanted ∷ left))
+            (λ _. next_letter p d is ns c t left) self.old self.new }
         ensures shorter { length self.new.rest.now ≤ length self.old.rest.now }
     {
         if self.skip_letter(wanted) {
@@ -131,9 +128,8 @@ impl<'t> Cursor<'t> {
         requires { (first < 128) × (second < 128) × (third < 128) }
         ensures letters { (p : Path) (d : Bool) (is : List PathItem) (ns : List (List ℕ))
             (c : Comparison) (t : Tree) (left : List ℕ) →
-            IsRead result (λ _. reading self.new.rest.now (next_letter p d is ns c t left))
-            (reading self.old.rest.now (letters p d is ns c t (first ∷ second ∷ third ∷ left)))
-            self.new.rest.now }
+            Moved result (letters p d is ns c t (first ∷ second ∷ third ∷ left))
+            (λ _. next_letter p d is ns c t left) self.old self.new }
         ensures shorter { length self.new.rest.now ≤ length self.old.rest.now }
     {
         self.letter(first)?;
@@ -145,9 +141,8 @@ impl<'t> Cursor<'t> {
     fn word(&mut self) -> Result<Val, Stop>
         requires { next_class self.old.rest.now ≡ Letter }
         ensures word { (p : Path) (d : Bool) (is : List PathItem) (ns : List (List ℕ))
-            (c : Comparison) → IsRead result
-            (λ v. reading self.new.rest.now (after p d (is ++ meets ns c (tree v) ∷ [])))
-            (reading self.old.rest.now (literal p d is ns c)) self.new.rest.now }
+            (c : Comparison) → Moved result (literal p d is ns c)
+            (λ v. after p d (is ++ meets ns c (tree v) ∷ [])) self.old self.new }
         ensures shorter { length self.new.rest.now ≤ length self.old.rest.now }
     {
         if self.skip_letter('t') {
@@ -168,9 +163,8 @@ impl<'t> Cursor<'t> {
 
     fn constant(&mut self, alloc: Global) -> Result<Val, Stop>
         ensures constant { (p : Path) (d : Bool) (is : List PathItem) (ns : List (List ℕ))
-            (c : Comparison) → IsRead result
-            (λ v. reading self.new.rest.now (after p d (is ++ meets ns c (tree v) ∷ [])))
-            (reading self.old.rest.now (literal p d is ns c)) self.new.rest.now }
+            (c : Comparison) → Moved result (literal p d is ns c)
+            (λ v. after p d (is ++ meets ns c (tree v) ∷ [])) self.old self.new }
         ensures shorter { length self.new.rest.now ≤ length self.old.rest.now }
     {
         self.skip_spaces();
@@ -187,8 +181,8 @@ impl<'t> Cursor<'t> {
     // The comparison of what stands under the names.
     fn test(&mut self, alloc: Global, names: Vec<Txt>) -> Result<Item, Stop>
         ensures item { (p : Path) (d : Bool) (is : List PathItem) →
-            IsRead result (λ i. reading self.new.rest.now (after p d (is ++ item_of i ∷ [])))
-            (reading self.old.rest.now (left_done p d is names.items)) self.new.rest.now }
+            Moved result (left_done p d is names.items) (λ i. after p d (is ++ item_of i ∷ []))
+            self.old self.new }
         ensures shorter { length self.new.rest.now ≤ length self.old.rest.now }
     {
         let comparison = self.comparison()?;
@@ -204,8 +198,8 @@ impl<'t> Cursor<'t> {
     // The range whose first end and colon have been taken.
     fn range(&mut self, from: Option<i64>) -> Result<Item, Stop>
         ensures item { (p : Path) (d : Bool) (is : List PathItem) →
-            IsRead result (λ i. reading self.new.rest.now (after p d (is ++ item_of i ∷ [])))
-            (reading self.old.rest.now (to p d is from)) self.new.rest.now }
+            Moved result (to p d is from) (λ i. after p d (is ++ item_of i ∷ []))
+            self.old self.new }
         ensures shorter { length self.new.rest.now ≤ length self.old.rest.now }
     {
         Ok(Item::Range(from, self.int()?))
@@ -227,8 +221,7 @@ impl<'t> Cursor<'t> {
 
     fn item(&mut self, alloc: Global) -> Result<Item, Stop>
         ensures item { (p : Path) (d : Bool) (is : List PathItem) →
-            IsRead result (λ i. reading self.new.rest.now (after p d (is ++ item_of i ∷ [])))
-            (reading self.old.rest.now (before p d is)) self.new.rest.now }
+            Moved result (before p d is) (λ i. after p d (is ++ item_of i ∷ [])) self.old self.new }
         ensures shorter { length self.new.rest.now ≤ length self.old.rest.now }
     {
         self.skip_spaces();
@@ -262,8 +255,8 @@ impl<'t> Cursor<'t> {
     fn more_items(&mut self, alloc: Global, first: Item) -> Result<Vec<Item>, Stop>
         requires { next_class self.old.rest.now ≢ Space }
         ensures items { (p : Path) (d : Bool) →
-            IsRead result (λ is. reading self.new.rest.now (done (more p d (map item_of is.items))))
-            (reading self.old.rest.now (after p d (item_of first ∷ []))) self.new.rest.now }
+            Moved result (after p d (item_of first ∷ []))
+            (λ is. done (more p d (map item_of is.items))) self.old self.new }
         ensures shorter { length self.new.rest.now ≤ length self.old.rest.now }
     {
         let mut items = Vec::new(alloc);
@@ -281,8 +274,7 @@ impl<'t> Cursor<'t> {
     // The items of a bracket and its end, where its beginning has been taken.
     pub fn items(&mut self, alloc: Global) -> Result<Items, Stop>
         ensures items { (p : Path) (d : Bool) →
-            IsRead result (λ is. reading self.new.rest.now (done (more p d (items_of is))))
-            (reading self.old.rest.now (before p d [])) self.new.rest.now }
+            Moved result (before p d []) (λ is. done (more p d (items_of is))) self.old self.new }
         ensures shorter { length self.new.rest.now ≤ length self.old.rest.now }
     {
         let first = self.item(alloc)?;

@@ -4,7 +4,7 @@ ghost use Rattle.cs_jsonmatch.specs.Path.{Item, Path};
 ghost use Rattle.cs_jsonmatch.specs.declared.class.Class.TheVariants.{Letter, Digit, Quote};
 ghost use Rattle.cs_jsonmatch.specs.Grammar.{class};
 ghost use Rattle.cs_jsonmatch.specs.Machine.{Slot, State, text_item, quoted, after};
-ghost use Rattle.cs_jsonmatch.specs.Reading.{reading, next_class, Took, Missed, IsStop, IsRead, IsNameRead, AreDigitsRead, IsIntRead, before_int, TakesQuote};
+ghost use Rattle.cs_jsonmatch.specs.Reading.{reading, next_class, Took, Missed, IsStop, IsRead, Moved, IsNameRead, AreDigitsRead, IsIntRead, before_int, TakesQuote};
 
 use crate::class::Class;
 use crate::cursor::{Cursor, Stop};
@@ -106,8 +106,8 @@ impl<'t> Cursor<'t> {
     fn unquoted(&mut self, alloc: Global, quote: char) -> Result<Txt, Stop>
         requires { class quote ≡ Quote }
         ensures text { (p : Path) (d : Bool) (is : List Item) (g : Slot) →
-            IsRead result (λ s. reading self.new.rest.now (after p d (is ++ text_item g s ∷ [])))
-            (reading self.old.rest.now (quoted p d is g quote [])) self.new.rest.now }
+            Moved result (quoted p d is g quote []) (λ s. after p d (is ++ text_item g s ∷ []))
+            self.old self.new }
         ensures shorter { length self.new.rest.now ≤ length self.old.rest.now }
     {
         let mut text = String::new(alloc);
@@ -124,9 +124,8 @@ impl<'t> Cursor<'t> {
     pub fn text(&mut self, alloc: Global) -> Result<Txt, Stop>
         requires { next_class self.old.rest.now ≡ Quote }
         ensures text { (s0 : State) (p : Path) (d : Bool) (is : List Item) (g : Slot) →
-            TakesQuote s0 p d is g → IsRead result
-            (λ s. reading self.new.rest.now (after p d (is ++ text_item g s ∷ [])))
-            (reading self.old.rest.now s0) self.new.rest.now }
+            TakesQuote s0 p d is g →
+            Moved result s0 (λ s. after p d (is ++ text_item g s ∷ [])) self.old self.new }
         ensures shorter { length self.new.rest.now ≤ length self.old.rest.now }
     {
         let Some(quote) = self.take(Class::Quote) else {

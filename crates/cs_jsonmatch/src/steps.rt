@@ -4,7 +4,7 @@ ghost use Rattle.cs_jsonmatch.specs.Path.{Path};
 ghost use Rattle.cs_jsonmatch.specs.View.{step_of, path_of};
 ghost use Rattle.cs_jsonmatch.specs.declared.class.Class.TheVariants.{Letter, Opening};
 ghost use Rattle.cs_jsonmatch.specs.Machine.{State, start, one_dot, two_dots, done};
-ghost use Rattle.cs_jsonmatch.specs.Reading.{reading, next_class, IsRead, TakesName, TakesBracket};
+ghost use Rattle.cs_jsonmatch.specs.Reading.{reading, next_class, IsRead, Moved, TakesName, TakesBracket};
 
 use crate::class::Class;
 use crate::cursor::{Cursor, Stop};
@@ -16,8 +16,7 @@ impl<'t> Cursor<'t> {
     fn named(&mut self, alloc: Global, deep: bool) -> Result<Step, Stop>
         requires { next_class self.old.rest.now ≡ Letter }
         ensures step { (s0 : State) (p : Path) → TakesName s0 p deep →
-            IsRead result (λ s. reading self.new.rest.now (done (p ++ step_of s ∷ [])))
-            (reading self.old.rest.now s0) self.new.rest.now }
+            Moved result s0 (λ s. done (p ++ step_of s ∷ [])) self.old self.new }
         ensures shorter { length self.new.rest.now ≤ length self.old.rest.now }
     {
         let items = Items::One(Item::Named(self.name(alloc)?));
@@ -28,8 +27,7 @@ impl<'t> Cursor<'t> {
     fn bracketed(&mut self, alloc: Global, deep: bool) -> Result<Step, Stop>
         requires { next_class self.old.rest.now ≡ Opening }
         ensures step { (s0 : State) (p : Path) → TakesBracket s0 p deep →
-            IsRead result (λ s. reading self.new.rest.now (done (p ++ step_of s ∷ [])))
-            (reading self.old.rest.now s0) self.new.rest.now }
+            Moved result s0 (λ s. done (p ++ step_of s ∷ [])) self.old self.new }
         ensures shorter { length self.new.rest.now < length self.old.rest.now }
     {
         self.advance(Class::Opening);
@@ -39,9 +37,8 @@ impl<'t> Cursor<'t> {
 
     // The step behind `..`.
     fn deep_step(&mut self, alloc: Global) -> Result<Step, Stop>
-        ensures step { (p : Path) → IsRead result
-            (λ s. reading self.new.rest.now (done (p ++ step_of s ∷ [])))
-            (reading self.old.rest.now (two_dots p)) self.new.rest.now }
+        ensures step { (p : Path) →
+            Moved result (two_dots p) (λ s. done (p ++ step_of s ∷ [])) self.old self.new }
         ensures shorter { length self.new.rest.now ≤ length self.old.rest.now }
     {
         match self.peek() {
@@ -53,8 +50,7 @@ impl<'t> Cursor<'t> {
 
     // The first step of a path.
     fn first_step(&mut self, alloc: Global) -> Result<Step, Stop>
-        ensures step { IsRead result (λ s. reading self.new.rest.now (done (step_of s ∷ [])))
-            (reading self.old.rest.now start) self.new.rest.now }
+        ensures step { Moved result start (λ s. done (step_of s ∷ [])) self.old self.new }
         ensures shorter { length self.new.rest.now ≤ length self.old.rest.now }
     {
         match self.peek() {
@@ -73,9 +69,8 @@ impl<'t> Cursor<'t> {
 
     // The step behind a dot.
     fn dotted(&mut self, alloc: Global) -> Result<Step, Stop>
-        ensures step { (p : Path) → IsRead result
-            (λ s. reading self.new.rest.now (done (p ++ step_of s ∷ [])))
-            (reading self.old.rest.now (one_dot p)) self.new.rest.now }
+        ensures step { (p : Path) →
+            Moved result (one_dot p) (λ s. done (p ++ step_of s ∷ [])) self.old self.new }
         ensures shorter { length self.new.rest.now ≤ length self.old.rest.now }
     {
         match self.peek() {
@@ -91,9 +86,8 @@ impl<'t> Cursor<'t> {
     // A further step of a path.
     fn next_step(&mut self, alloc: Global) -> Result<Step, Stop>
         requires { 0 < length self.old.rest.now }
-        ensures step { (p : Path) → IsRead result
-            (λ s. reading self.new.rest.now (done (p ++ step_of s ∷ [])))
-            (reading self.old.rest.now (done p)) self.new.rest.now }
+        ensures step { (p : Path) →
+            Moved result (done p) (λ s. done (p ++ step_of s ∷ [])) self.old self.new }
         ensures shorter { IfOk result (λ _. length self.new.rest.now < length self.old.rest.now) }
     {
         match self.peek() {
