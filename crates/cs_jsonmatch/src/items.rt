@@ -1,5 +1,5 @@
 //! The items inside a bracket.
-ghost use Rattle.std.specs.Prelude.{ℕ, ℤ, ◌≡◌, ◌≢◌, ◌<◌, ◌≤◌, ◌++◌, ◌∷◌, [], List, Bool, map, length, encode_utf8, MatchBool};
+ghost use Rattle.std.specs.Prelude.{ℕ, ◌≡◌, ◌≢◌, ◌<◌, ◌≤◌, ◌++◌, ◌∷◌, [], List, Bool, map, length, encode_utf8, MatchBool};
 ghost use Rattle.cs_value.specs.Tree.{Tree};
 ghost use Rattle.cs_value.specs.View.{tree};
 ghost use Rattle.cs_jsonmatch.specs.Path.{Item as PathItem, Path, meets};

@@ -1,5 +1,5 @@
 //! Names, numbers and texts in a path.
-ghost use Rattle.std.specs.Prelude.{ℕ, ℤ, pos, neg_ℤ, ◌≡◌, ◌≢◌, ◌⊎◌, ◌<◌, ◌≤◌, ◌^◌, ◌++◌, ◌∷◌, [], List, Bool, cond, length, encode_utf8, MatchOption, MatchResult, IfOk};
+ghost use Rattle.std.specs.Prelude.{ℕ, pos, neg_ℤ, ◌≡◌, ◌≢◌, ◌⊎◌, ◌<◌, ◌≤◌, ◌^◌, ◌++◌, ◌∷◌, [], List, Bool, cond, length, encode_utf8, MatchOption, MatchResult, IfOk};
 ghost use Rattle.cs_jsonmatch.specs.Path.{Item, Path};
 ghost use Rattle.cs_jsonmatch.specs.declared.class.Class.TheVariants.{Letter, Digit, Quote};
 ghost use Rattle.cs_jsonmatch.specs.Grammar.{class};

@@ -3,7 +3,7 @@ ghost use Rattle.std.specs.Prelude.{◌≡◌, option_map, ℕ, map};
 ghost use Rattle.std.specs.List.{list_any};
 ghost use Rattle.cs_value.specs.Tree.{Tree};
 ghost use Rattle.cs_value.specs.View.{tree};
-ghost use Rattle.cs_jsonmatch.specs.Places.{is_position, clamped, from_end, to_end, stands, met, selects};
+ghost use Rattle.cs_jsonmatch.specs.Places.{is_position, clamped, stands, met, selects};
 ghost use Rattle.cs_value.specs.Words.{followed};
 ghost use Rattle.cs_jsonmatch.specs.View.{item_of, items_of, part_of};
 ghost use Rattle.cs_jsonmatch.specs.declared.places.Part.TheVariants.{Pos, Name};

@@ -1,5 +1,5 @@
 //! The steps of a path.
-ghost use Rattle.std.specs.Prelude.{ℕ, ◌≡◌, ◌≤◌, ◌<◌, ◌++◌, ◌∷◌, [], List, length, IfOk};
+ghost use Rattle.std.specs.Prelude.{◌≡◌, ◌≤◌, ◌<◌, ◌++◌, ◌∷◌, [], length, IfOk};
 ghost use Rattle.cs_jsonmatch.specs.Path.{Path};
 ghost use Rattle.cs_jsonmatch.specs.View.{step_of, path_of};
 ghost use Rattle.cs_jsonmatch.specs.declared.class.Class.TheVariants.{Letter, Opening};

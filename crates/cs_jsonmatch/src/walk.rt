@@ -1,5 +1,5 @@
 //! One walk over a value, to the places that a path selects.
-ghost use Rattle.std.specs.Prelude.{◌≡◌, ◌++◌, ◌∷◌, [], length, map, take, false, unwrap_or, slice_get, IfOk, OnOk, cond};
+ghost use Rattle.std.specs.Prelude.{◌≡◌, ◌++◌, ◌∷◌, [], length, take, false, unwrap_or, slice_get, IfOk, OnOk, cond};
 ghost use Rattle.std.specs.List.{list_any};
 ghost use Rattle.cs_value.specs.Tree.{list, object as object_of, trees};
 ghost use Rattle.cs_value.specs.View.{tree, list_tree, fields};
