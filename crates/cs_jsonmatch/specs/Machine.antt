@@ -1,11 +1,11 @@
 -- Reading a path byte by byte, as a machine of states. For private clauses.
-use Rattle.std.specs.Prelude.{ℤ, ℕ, suc, List, [], ◌∷◌, ◌++◌, length, Bool, true, false, cond, Option, Some, None, option_and_then, nat_eq, nat_lt}
+use Rattle.std.specs.Prelude.{ℤ, ℕ, suc, List, [], ◌∷◌, ◌++◌, length, codes, Bool, true, false, cond, Option, Some, None, option_and_then, nat_eq, nat_lt}
 use Rattle.cs_jsonmatch.specs.Path.{Item, position, range, every, named, meets, step, Path}
 use Rattle.cs_jsonmatch.specs.declared.path.Comparison.{Comparison}
 use Rattle.cs_jsonmatch.specs.declared.path.Comparison.TheVariants.{Equal, NotEqual, Less, AtMost, Greater, AtLeast}
 use Rattle.cs_jsonmatch.specs.declared.class.Class.{Class}
 use Rattle.cs_jsonmatch.specs.declared.class.Class.TheVariants.{Letter, Digit, Dot, Opening, Closing, Comma, Space, Minus, Star, Quote, Backslash, Colon, AtSign, EqualSign, Bang, Below, Above}
-use Rattle.cs_jsonmatch.specs.Grammar.{class, whole}
+use Rattle.cs_jsonmatch.specs.Grammar.{is_sign, class, whole}
 use Rattle.cs_value.specs.Tree.{Tree, null, boolean, integer, text}
 
 -- where an integer or a text stands in its item: at the front, as the second end of a range, or as
@@ -91,9 +91,9 @@ by_operator p d is ns _ = None
 
 abbrev pub by_letter : Path → Bool → List Item → List (List ℕ) → Comparison → ℕ → Option State
 by_letter p d is ns c b =
-    cond (nat_eq b 116) (Some (letters p d is ns c (boolean true) (114 ∷ 117 ∷ 101 ∷ [])))
-    (cond (nat_eq b 102) (Some (letters p d is ns c (boolean false) (97 ∷ 108 ∷ 115 ∷ 101 ∷ [])))
-    (cond (nat_eq b 110) (Some (letters p d is ns c null (117 ∷ 108 ∷ 108 ∷ []))) None))
+    cond (is_sign (codes "t") b) (Some (letters p d is ns c (boolean true) (codes "rue")))
+    (cond (is_sign (codes "f") b) (Some (letters p d is ns c (boolean false) (codes "alse")))
+    (cond (is_sign (codes "n") b) (Some (letters p d is ns c null (codes "ull"))) None))
 
 abbrev pub by_literal : Path → Bool → List Item → List (List ℕ) → Comparison → ℕ → Class
     → Option State
