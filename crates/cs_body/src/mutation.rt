@@ -1,5 +1,5 @@
 //! The mutations of a body.
-ghost use Rattle.std.specs.Prelude.{◌≡◌, map, option_and_then, IfOk};
+ghost use Rattle.std.specs.Prelude.{map, option_and_then, IfOk};
 ghost use Rattle.cs_value.specs.Tree.{attributes};
 ghost use Rattle.cs_value.specs.Words.{as_object};
 ghost use Rattle.cs_value.specs.View.{tree, fields, list_tree};

@@ -1,7 +1,7 @@
 //! Transactions as they are read.
 ghost use Rattle.std.specs.Prelude.{◌≡◌, map, Some, MatchResult, IfOk};
 ghost use Rattle.cs_value.specs.View.{tree, fields};
-ghost use Rattle.cs_body.specs.Body.{transaction, body_of, of_pairs, by_id, text_or_none};
+ghost use Rattle.cs_body.specs.Body.{transaction, body_of, of_pairs, by_id};
 ghost use Rattle.cs_body.specs.View.{action, txn, IsTxnFault, AllAddNumbers};
 
 use crate::ids::{is_tx_id, tx_of_line};

@@ -1,6 +1,6 @@
 -- Which places of a value a path selects: this project's profile of the paths of Sanity's patches
 -- ("JSONMatch").
-use Rattle.std.specs.Prelude.{ℕ, suc, ◌-◌, min, ℤ, pos, negsuc, List, [], ◌∷◌, ◌++◌, map, filter, Bool, true, false, not, ◌&&◌, ◌||◌, Option, Some, None, option_and_then, bytes_eq, nat_le, nat_lt, nat_eq, ◌+◌}
+use Rattle.std.specs.Prelude.{ℕ, suc, ◌-◌, min, ℤ, pos, negsuc, List, [], ◌∷◌, ◌++◌, map, filter, Bool, true, false, not, ◌&&◌, ◌||◌, Option, Some, None, bytes_eq, nat_le, nat_lt, nat_eq, ◌+◌}
 use Rattle.std.specs.List.{list_any}
 use Rattle.std.specs.declared.cmp.Ordering.{Ordering}
 use Rattle.std.specs.Ordering.{is_lt, is_le, is_gt, is_ge}

@@ -1,5 +1,5 @@
 //! A patch whose paths were read, and a patch applied to a document.
-ghost use Rattle.std.specs.Prelude.{◌≡◌, None, Some, option_map, IfOk, IfErr, OnOk, MatchResult};
+ghost use Rattle.std.specs.Prelude.{◌≡◌, None, Some, IfOk, IfErr, OnOk, MatchResult};
 ghost use Rattle.cs_value.specs.View.{tree};
 ghost use Rattle.cs_view.specs.Document.{rev_of};
 ghost use Rattle.cs_view.specs.View.{doc as doc_of};

@@ -1,7 +1,7 @@
 //! Why an operation is refused at a target.
 ghost use Rattle.std.specs.Prelude.{◌≡◌, ℕ, List, Option, Some, None, option_map, bytes_eq, cond, map};
 ghost use Rattle.std.specs.List.{list_any};
-ghost use Rattle.cs_patch.specs.Operations.{fixed, fixed_at, immutable};
+ghost use Rattle.cs_patch.specs.Operations.{fixed, fixed_at};
 ghost use Rattle.cs_patch.specs.Seen.{seen};
 ghost use Rattle.cs_patch.specs.Asked.{name_of, refusal_of, number_of, list_at, check_of, first_seen};
 

@@ -1,5 +1,5 @@
 //! Why a path was not carried out, before it is told.
-ghost use Rattle.std.specs.Prelude.{◌≡◌, ℕ, List, IfOk};
+ghost use Rattle.std.specs.Prelude.{◌≡◌, IfOk};
 ghost use Rattle.cs_patch.specs.Operations.{Outcome, refused};
 ghost use Rattle.cs_patch.specs.Asked.{name_of, refusal_of};
 ghost use Rattle.cs_patch.specs.Faults.{IsPatchFault};

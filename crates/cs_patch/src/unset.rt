@@ -1,5 +1,5 @@
 //! `unset`, by one path. Its targets are the places of the path, from which no names lead on.
-ghost use Rattle.std.specs.Prelude.{◌≡◌, [], ℕ, List, map};
+ghost use Rattle.std.specs.Prelude.{[], ℕ, List, map};
 ghost use Rattle.cs_value.specs.View.{tree};
 ghost use Rattle.cs_jsonmatch.specs.View.{locations};
 ghost use Rattle.cs_patch.specs.Targets.{targets_from};
