@@ -182,7 +182,7 @@ spread_this_reads acc o (by_comma r) n = reads_spread_this_comma refl refl n
 spread_this_reads acc o (by_brace r) n = reads_spread_this_close refl refl n
 
 -- a text alone, where `:` follows
-text_reads : (k : List ℕ) (r : List Tok) →
+pub text_reads : (k : List ℕ) (r : List Tok) →
     Reads expr (text_tok k ∷ sign_tok sign.Colon ∷ r)
     (got (text_literal k) (sign_tok sign.Colon ∷ r))
 text_reads k r =

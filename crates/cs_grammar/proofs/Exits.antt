@@ -3,15 +3,14 @@ use Rattle.std.proofs.Common.{◌≡◌, ◌≢◌, ◌+◌, suc, arith, ℕ, Li
 use Rattle.std.specs.Prelude.{IsErrAnd, IsSome, IsTrue, false}
 use Rattle.cs_syntax.specs.declared.sign.Sign.{Sign}
 use Rattle.cs_syntax.specs.declared.sign.Sign.TheVariants as sign
-use Rattle.cs_syntax.specs.declared.tree.Entry.{Entry as CodeEntry}
-use Rattle.cs_syntax.specs.Expression.{Tok, sign_tok, Expression, Entry}
+use Rattle.cs_syntax.specs.Expression.{Tok, sign_tok, Expression}
 use Rattle.cs_syntax.specs.View.{expression}
 use Rattle.cs_grammar.specs.declared.fault.GrammarFault.{GrammarFault}
 use Rattle.cs_grammar.specs.declared.fault.GrammarFault.TheVariants.{Syntax, NoMemory}
 use Rattle.cs_grammar.specs.View.{left}
-use Rattle.cs_grammar.specs.Reading.{Goal, base, carets_from, after_caret, entries_from, keyed_from, Outcome, fail, got, Oracle, after, Gives, Reads}
+use Rattle.cs_grammar.specs.Reading.{Goal, base, carets_from, after_caret, Outcome, fail, got, Oracle, Gives, Reads}
 use Rattle.cs_grammar.proofs.Steps.{begins_base, reads_caret, reads_no_base}
-use Rattle.cs_grammar.specs.Answers.{Refuses, Replies, Parsed, Answers, AnswersEntry, AnswersEntryFrom}
+use Rattle.cs_grammar.specs.Answers.{Refuses, Replies, Parsed, Answers}
 
 refuses_as : {M N : Type 0} (e : GrammarFault) → (N → M) → Refuses e N → Refuses e M
 refuses_as Syntax f h = f h
@@ -40,14 +39,6 @@ pub gives_as : (φ : Oracle →
     (Reads g ts fail) r
 gives_as φ g ts ls (Ok x) f k = f _ k
 gives_as φ g ts ls (Err e) f k = refuses_as e (f fail) k
-
-pub entry_as : (e : Expression) (ls : List Tok) (i j : ℕ) (r : Result (CodeEntry
-    × ℕ) GrammarFault) →
-    ((xs : List Entry) (o : Outcome) → after sign.CloseBrace (left ls i) ≡ None →
-    Reads (keyed_from xs e) (left ls j) o → Reads (entries_from xs) (left ls i) o) →
-    AnswersEntryFrom e ls j r → AnswersEntry ls i r
-entry_as e ls i j (Ok x) f k = λ xs o a n. f xs o a (k xs o n)
-entry_as e ls i j (Err y) f k = refuses_as y (λ n xs a. f xs fail a (n xs)) k
 
 -- an expression that was made, at what it stands for
 pub got_as : {g : Goal} {ts r : List Tok} {t u : Expression} → t ≡ u → Reads g ts (got u r) →

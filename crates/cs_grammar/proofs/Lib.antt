@@ -6,7 +6,6 @@ pub mod First
 pub mod Ends
 pub mod Complete
 pub mod TextAlone
-pub mod TextKeys
 pub mod Taken
 pub mod SoundLevels
 pub mod SoundLists
@@ -16,6 +15,7 @@ pub mod Sound
 pub mod Agreement
 pub mod Push
 pub mod Exits
+pub mod Keys
 pub mod Names
 pub mod Ended
 pub mod Looks

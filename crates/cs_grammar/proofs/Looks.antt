@@ -1,10 +1,13 @@
 -- What is looked up among the tokens of a text.
 use Rattle.std.proofs.Common.{◌≡◌, ℕ, zero, suc, ◌+◌, ◌<◌, List, [], ◌∷◌, length, map, get_or, Option, Some, None, refl, sym, ap, subst, ◌∙◌, arith}
+use Rattle.std.specs.Option.{option_map}
 use Rattle.cs_syntax.specs.declared.sign.Sign.{Sign}
+use Rattle.cs_syntax.specs.declared.sign.Sign.TheVariants as sign
 use Rattle.cs_syntax.specs.Expression.{Tok, number_tok, text_tok, param_tok, word_tok, sign_tok}
 use Rattle.cs_grammar.specs.declared.lexeme.Form.{Form}
 use Rattle.cs_grammar.specs.declared.lexeme.Form.TheVariants as form
 use Rattle.cs_grammar.specs.declared.lexeme.Lexeme.{Lexeme}
+use Rattle.cs_grammar.specs.Answers.{after_key}
 use Rattle.cs_grammar.specs.Reading.{after, after_sign}
 use Rattle.cs_grammar.specs.View.{IsNoSign, formed, left, sign_in, source, tok}
 
@@ -60,3 +63,17 @@ no_sign_after_sign φ (text_tok t ∷ r) h = refl
 no_sign_after_sign φ (param_tok p ∷ r) h = refl
 no_sign_after_sign φ (word_tok w ∷ r) h = refl
 no_sign_after_sign φ (sign_tok x ∷ r) h = absurd h
+
+-- where no colon follows, no text is a key
+no_key_before : (t : Tok) (r : List Tok) → None ≡ after sign.Colon r → after_key (t ∷ r) ≡ None
+no_key_before (number_tok n) r h = refl
+no_key_before (text_tok k) r h = ap (option_map {U = List ℕ × List Tok} (λ s. (k, s))) (sym h)
+no_key_before (param_tok p) r h = refl
+no_key_before (word_tok w) r h = refl
+no_key_before (sign_tok s) r h = refl
+
+pub no_key_at : (text : List ℕ) (ls : List Lexeme) (i : ℕ) (l : Lexeme) → i < length ls
+    → l ≡ get_or ls i l → None ≡ after sign.Colon (left (map (tok text) ls) (i + 1))
+    → after_key (left (map (tok text) ls) i) ≡ None
+no_key_at text ls i l h e k =
+    ap after_key (left_at text ls i l h e) ∙ no_key_before (tok text l) _ k

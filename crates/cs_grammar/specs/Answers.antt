@@ -10,12 +10,12 @@ use Rattle.cs_syntax.specs.declared.tree.Entry.{Entry as CodeEntry}
 use Rattle.cs_syntax.specs.declared.tree.Expr.{Expr}
 use Rattle.cs_syntax.specs.declared.tree.OrderKey.{OrderKey as CodeOrderKey}
 use Rattle.cs_syntax.specs.declared.tree.Step.{Step as CodeStep}
-use Rattle.cs_syntax.specs.Expression.{Tok, word_tok, sign_tok, Expression, call, array, object_literal, pipe, deref, Step, Entry, Element, Argument, OrderKey, arguments_of, elements_of, entries_of, keys_of, chain_of}
+use Rattle.cs_syntax.specs.Expression.{Tok, number_tok, text_tok, param_tok, word_tok, sign_tok, Expression, call, array, object_literal, pipe, deref, Step, Entry, Element, Argument, OrderKey, arguments_of, elements_of, entries_of, keys_of, chain_of}
 use Rattle.cs_syntax.specs.View.{expression, step, entry, elem, arg, key, entries, elements, arguments, keys}
 use Rattle.cs_grammar.specs.declared.fault.GrammarFault.{GrammarFault}
 use Rattle.cs_grammar.specs.declared.fault.GrammarFault.TheVariants.{Syntax, NoMemory}
 use Rattle.cs_grammar.specs.View.{left}
-use Rattle.cs_grammar.specs.Reading.{Goal, base, steps_from, arrow_from, bracket_from, pipe_from, keys_from, next_key, args_from, next_arg, elements_from, next_element, entries_from, keyed_from, next_entry, Outcome, fail, got, after, after_word, name_of_words, read_call, Gives, Reads}
+use Rattle.cs_grammar.specs.Reading.{Goal, base, steps_from, arrow_from, bracket_from, pipe_from, keys_from, next_key, args_from, next_arg, elements_from, next_element, entries_from, next_entry, Outcome, fail, got, after, after_word, name_of_words, read_call, Gives, Reads}
 
 -- Syntax where nothing is read; want of memory at any time
 abbrev pub Refuses : GrammarFault → Type 0 → Type 0
@@ -112,15 +112,6 @@ AnswersSpread ls i r = Replies
     ((ts : List Tok) (xs : List Entry) → after sign.DotDotDot ts ≡ Some (left ls i) →
     Reads (entries_from xs) ts fail) r
 
--- behind an expression where an entry stands, whatever is read behind the entry
-abbrev pub AnswersEntryFrom : Expression → List Tok → ℕ → Result (CodeEntry × ℕ) GrammarFault →
-    Type 0
-AnswersEntryFrom e ls i r = Replies
-    (λ (x : CodeEntry × ℕ). (xs : List Entry) (o : Outcome) →
-    Reads (next_entry (xs ++ (entry x.0 ∷ []))) (left ls x.1) o →
-    Reads (keyed_from xs e) (left ls i) o)
-    ((xs : List Entry) → Reads (keyed_from xs e) (left ls i) fail) r
-
 -- behind `->`: the steps with it, and with the attribute that stands there
 abbrev pub AnswersArrow : List Step → List Tok → ℕ → List Step → ℕ → Type 0
 AnswersArrow before ls i steps j = (e : Expression) (o : Outcome) →
@@ -167,6 +158,15 @@ abbrev pub AnswersName : List Tok → ℕ → Result (List ℕ × ℕ) GrammarFa
 AnswersName ls i r =
     Replies (λ (x : List ℕ × ℕ). after_name (left ls i)
     ≡ Some (x.0, left ls x.1)) (after_name (left ls i) ≡ None) r
+
+-- the text that is a key before a colon, and the tokens behind the colon
+abbrev pub after_key : List Tok → Option (List ℕ × List Tok)
+after_key [] = None
+after_key (number_tok n ∷ r) = None
+after_key (text_tok t ∷ r) = option_map (λ s. (t, s)) (after sign.Colon r)
+after_key (param_tok p ∷ r) = None
+after_key (word_tok w ∷ r) = None
+after_key (sign_tok s ∷ r) = None
 
 -- the keys of a piped call, whatever is read behind the bracket that closes
 abbrev pub AnswersKeys : List Tok → ℕ → Result (Vec CodeOrderKey Global × ℕ) GrammarFault → Type 0

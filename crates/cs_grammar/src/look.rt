@@ -3,8 +3,10 @@
 ghost use Rattle.std.specs.Prelude.{◌≡◌, ◌+◌, ◌≤◌, ◌<◌, All, ◌^◌, length, map, IfSome, [], ◌∷◌, MatchOption, Some, IsTrue, IsSome, ◌↔◌};
 ghost use Rattle.std.specs.Option.{option_map};
 ghost use Rattle.cs_syntax.specs.Expression.{sign_tok};
+ghost use Rattle.cs_syntax.specs.Escapes.{decoded};
 ghost use Rattle.cs_syntax.specs.Lex.{param_name};
-ghost use Rattle.cs_grammar.specs.View.{IsNoSign, left, seen as seen_as, sign_in, source, tok};
+ghost use Rattle.cs_grammar.specs.Answers.{after_key};
+ghost use Rattle.cs_grammar.specs.View.{IsNoSign, left, seen as seen_as, sign_in, source, text_of, tok};
 ghost use Rattle.cs_grammar.specs.Parsing.{IsLexemeOf, IsReadable};
 ghost use Rattle.cs_grammar.specs.Reading.{same_sign, after, after_sign, after_word, after_keyword, after_attribute, after_caret, op_of};
 ghost use Rattle.cs_grammar.specs.Spells.{is_keyword, comparison_op, prefix_op, range_of};
@@ -236,6 +238,22 @@ impl<'t> Tokens<'t> {
     {
         match self.token(at)? {
             (Seen::Word(word), rest) => Some((word, rest)),
+            _ => None,
+        }
+    }
+
+    // The source of the text that is a key, since a colon stands behind it.
+    #[tactic(auto, using(crate::proofs::Sets::key), unfolding(crate::specs::View::left))]
+    pub fn key(&self, at: usize) -> Option<(&'t str, usize)>
+        ensures same { option_map (λ x. (text_of x.0.now, left self.now x.1)) result
+            ≡ after_key (left self.now at) }
+        ensures next { IfSome result (λ x. (x.1 ≡ at + 2) × (x.1 ≤ length self.now)) }
+        ensures readable { IfSome result (λ x. IsSome (decoded x.0.now)) }
+    {
+        let lexeme = self.lexemes.get(at)?;
+        let after_colon = self.behind(at + 1, Sign::Colon)?;
+        match look_at(self.text, lexeme) {
+            Seen::Text(source) => Some((source, after_colon)),
             _ => None,
         }
     }

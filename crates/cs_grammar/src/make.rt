@@ -1,10 +1,10 @@
 // Trees made of their parts.
-ghost use Rattle.std.specs.Prelude.{◌≡◌, IfOk, IsSome, Some, IsTrue, ℕ, List, ◌∷◌, [], ◌↔◌};
+ghost use Rattle.std.specs.Prelude.{◌≡◌, IfOk, IsSome, ◌∷◌, []};
 ghost use Rattle.cs_syntax.specs.Expression.{number_literal, text_literal, param, this, everything, parent, round, call, array, object_literal, within, between, run_of, chain_of, prefix_of, attr, deref, each, slice, bracket, project, pipe, keyed, bare, when, spread, element, spread_element, argument, when_argument, order_key, arguments_of, elements_of, entries_of, keys_of};
 ghost use Rattle.cs_syntax.specs.Escapes.{decoded};
 ghost use Rattle.cs_syntax.specs.View.{expression, step, entry, elem, arg, key, operands, steps, entries, elements, arguments, keys};
 ghost use Rattle.cs_grammar.specs.Spells.{constant_of};
-ghost use Rattle.cs_grammar.specs.Reading.{text_key, plain_word, name_of_words};
+ghost use Rattle.cs_grammar.specs.Reading.{plain_word, name_of_words};
 ghost use Rattle.cs_grammar.specs.View.{text_of};
 
 use cs_syntax::{Arg, BinSign, Elem, Entry, Expr, OrderKey, PreSign, Step, unescape};
@@ -317,23 +317,10 @@ pub fn spread_this() -> Entry
     Entry::Spread(Expr::This)
 }
 
-// Whether the expression is a text alone, and so the key of an entry before a colon.
-#[tactic(auto, using(crate::proofs::TextKeys::text_has_key))]
-pub fn is_text(e: &Box<Expr>) -> bool
-    ensures { IsTrue result ↔ IsSome (text_key (expression e.now.value)) }
-{
-    e.is_text()
-}
-
-// An entry with a key, where the expression before the colon is a text alone.
+// An entry with a key.
 #[tactic(auto, unfolding(cs_syntax::specs::View::entry, cs_syntax::specs::View::expression))]
-pub fn keyed(key: Box<Expr>, e: Box<Expr>) -> Entry
-    requires { IsSome (text_key (expression key.value)) }
-    ensures { (k : List ℕ) → text_key (expression key.value) ≡ Some k →
-        entry result ≡ keyed k (expression e.value) }
+pub fn keyed(key: Txt, e: Box<Expr>) -> Entry
+    ensures { entry result ≡ keyed key (expression e.value) }
 {
-    match Box::into_inner(key) {
-        Expr::Text(text) => Entry::Keyed(text, Box::into_inner(e)),
-        other => Entry::Bare(other),
-    }
+    Entry::Keyed(key, Box::into_inner(e))
 }

@@ -1,13 +1,12 @@
 // The entries of an object or a projection.
 ghost use Rattle.std.specs.Prelude.{◌<◌, ◌≤◌, length, IfOk};
-ghost use Rattle.cs_syntax.specs.View.{expression};
-ghost use Rattle.cs_grammar.specs.Answers.{AnswersEntries, AnswersEntry, AnswersSpread, AnswersEntryFrom};
+ghost use Rattle.cs_grammar.specs.Answers.{AnswersEntries, AnswersEntry, AnswersSpread};
 
 use crate::fault::GrammarFault;
 use crate::look::Tokens;
 use crate::make;
 use crate::operators::expression;
-use cs_syntax::{Entry, Expr, Sign};
+use cs_syntax::{Entry, Sign, unescape};
 use std::alloc::Global;
 
 // The entries, up to and with the brace that closes.
@@ -46,8 +45,17 @@ fn entry(alloc: Global, ts: &Tokens<'_>, at: usize) -> Result<(Entry, usize), Gr
     if let Some(after_dots) = ts.behind(at, Sign::DotDotDot) {
         return spread(alloc, ts, after_dots);
     }
-    let (first, rest) = expression(alloc, ts, at)?;
-    entry_from(alloc, first, ts, rest)
+    if let Some((source, after_colon)) = ts.key(at) {
+        let key = unescape(alloc, source)?;
+        let (value, rest) = expression(alloc, ts, after_colon)?;
+        return Ok((make::keyed(key, value), rest));
+    }
+    let (first, after_first) = expression(alloc, ts, at)?;
+    let Some(after_arrow) = ts.behind(after_first, Sign::FatArrow) else {
+        return Ok((make::bare(first), after_first));
+    };
+    let (then, rest) = expression(alloc, ts, after_arrow)?;
+    Ok((make::when(first, then), rest))
 }
 
 // Behind `...`.
@@ -62,30 +70,4 @@ fn spread(alloc: Global, ts: &Tokens<'_>, at: usize) -> Result<(Entry, usize), G
     }
     let (inner, rest) = expression(alloc, ts, at)?;
     Ok((make::spread(inner), rest))
-}
-
-// Behind an expression with which an entry begins.
-#[cycle(descent)]
-fn entry_from(
-    alloc: Global,
-    first: Box<Expr>,
-    ts: &Tokens<'_>,
-    at: usize,
-) -> Result<(Entry, usize), GrammarFault>
-    requires { at ≤ length ts.now }
-    ensures read { AnswersEntryFrom (expression first.value) ts.now at result }
-    ensures shorter { IfOk result (λ x. (at ≤ x.1) × (x.1 ≤ length ts.now)) }
-{
-    if let Some(after_arrow) = ts.behind(at, Sign::FatArrow) {
-        let (then, rest) = expression(alloc, ts, after_arrow)?;
-        return Ok((make::when(first, then), rest));
-    }
-    let Some(after_colon) = ts.behind(at, Sign::Colon) else {
-        return Ok((make::bare(first), at));
-    };
-    if !make::is_text(&first) {
-        return Ok((make::bare(first), at));
-    }
-    let (value, rest) = expression(alloc, ts, after_colon)?;
-    Ok((make::keyed(first, value), rest))
 }

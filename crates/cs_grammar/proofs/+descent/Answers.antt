@@ -1,12 +1,13 @@
-use Rattle.std.proofs.Common.{[], ap, arith, length, refl, subst, sym, ◌++◌, ◌<◌, ◌∙◌, ◌∷◌, ◌≤◌}
+use Rattle.std.proofs.Common.{[], List, Option, ℕ, ap, arith, length, refl, subst, sym, unwrap_or, ◌++◌, ◌<◌, ◌∙◌, ◌∷◌, ◌≤◌}
 use Rattle.cs_grammar.proofs.Given.{by_call, by_const, by_none, by_some, by_step}
 use Rattle.cs_grammar.proofs.Steps.{reads_array, reads_cmp, reads_cmp_end, reads_cmp_fail, reads_cmp_op, reads_cmp_op_fail, reads_conjunction, reads_conjunction_fail, reads_everything, reads_expr, reads_expr_fail, reads_expr_from, reads_expr_from_and_fail, reads_expr_from_cmp_fail, reads_in, reads_in_fail, reads_link, reads_link_fail, reads_match, reads_match_fail, reads_minus, reads_name_alone, reads_name_open, reads_neg, reads_neg_fail, reads_nothing, reads_number, reads_object, reads_param, reads_parent, reads_pow, reads_pow_end, reads_pow_fail, reads_pre, reads_pre_fail, reads_prefix, reads_product, reads_product_fail, reads_range, reads_range_fail, reads_round, reads_round_fail, reads_round_open, reads_run, reads_run_end, reads_run_operand_fail, reads_stars, reads_stars_fail, reads_sum, reads_sum_fail, reads_text, reads_this, reads_word}
-use Rattle.cs_grammar.proofs.StepsInside.{reads_arg, reads_arg_comma, reads_arg_fail, reads_args_close, reads_args_open, reads_argument, reads_array_close, reads_array_open, reads_arrow, reads_attr, reads_attr_fail, reads_bare, reads_bracket, reads_bracket_fail, reads_bracket_open, reads_each, reads_element, reads_element_comma, reads_element_fail, reads_elements_close, reads_entries_close, reads_entry, reads_entry_comma, reads_entry_fail, reads_key, reads_key_asc, reads_key_comma, reads_key_desc, reads_key_fail, reads_keyed, reads_keyed_fail, reads_keys_close, reads_keys_open, reads_no_key, reads_object_close, reads_object_open, reads_pipe, reads_piped_projection, reads_piped_projection_fail, reads_projection, reads_projection_fail, reads_slice, reads_slice_fail, reads_slice_open, reads_spread, reads_spread_element, reads_spread_element_fail, reads_spread_fail, reads_spread_this_close, reads_spread_this_comma, reads_square, reads_square_fail, reads_steps_end, reads_when, reads_when_argument, reads_when_argument_fail, reads_when_fail}
+use Rattle.cs_grammar.proofs.StepsInside.{reads_arg, reads_arg_comma, reads_arg_fail, reads_args_close, reads_args_open, reads_argument, reads_array_close, reads_array_open, reads_arrow, reads_attr, reads_attr_fail, reads_bracket, reads_bracket_fail, reads_bracket_open, reads_each, reads_element, reads_element_comma, reads_element_fail, reads_elements_close, reads_entries_close, reads_entry, reads_entry_comma, reads_entry_fail, reads_key, reads_key_asc, reads_key_comma, reads_key_desc, reads_key_fail, reads_keys_close, reads_keys_open, reads_object_close, reads_object_open, reads_pipe, reads_piped_projection, reads_piped_projection_fail, reads_projection, reads_projection_fail, reads_slice, reads_slice_fail, reads_slice_open, reads_spread, reads_spread_element, reads_spread_element_fail, reads_spread_fail, reads_spread_this_close, reads_spread_this_comma, reads_square, reads_square_fail, reads_steps_end, reads_when, reads_when_argument, reads_when_argument_fail, reads_when_fail}
 use Rattle.cs_grammar.proofs.Push.{arguments_none, arguments_pushed, elements_none, elements_pushed, entries_none, entries_pushed, keys_none, keys_pushed, operands_none, operands_pushed, steps_none, steps_pushed}
-use Rattle.cs_grammar.proofs.Exits.{answers_as, entry_as, gives_as, gives_got, got_as, none_found, passed, reads_other_sign, some_found, with_last}
+use Rattle.cs_grammar.proofs.Keys.{reads_key_entry, reads_key_entry_fail, reads_keyless}
+use Rattle.cs_grammar.proofs.Exits.{answers_as, gives_as, gives_got, got_as, none_found, passed, reads_other_sign, some_found, with_last}
 use Rattle.cs_grammar.proofs.Names.{reads_named_open, reads_named_pipe, reads_no_name}
 use Rattle.cs_grammar.specs.Reading.{Reads, after, args_from, elements_from, entries_from, keys_from, neg_from, next_arg, next_element, next_entry, next_key, pow_from, pre_from, run_from, steps_from}
-use Rattle.cs_syntax.specs.Expression.{arguments_of, array, call, elements_of, entries_of, keys_of, object_literal, pipe, sign_tok}
+use Rattle.cs_syntax.specs.Expression.{arguments_of, array, call, elements_of, entries_of, keyed, keys_of, object_literal, pipe, sign_tok}
 use Rattle.cs_syntax.specs.View.{arguments, elements, entries, expression, keys, operands, steps}
 use Rattle.cs_grammar.specs.View.{left, seen}
 use Rattle.cs_grammar.specs.Answers.{AnswersCall, IsStepOrEnd}
@@ -574,51 +575,42 @@ objects::entries-returns-in_default-behind-2-clause-read t c =
     (reads_object_open (sym c.in_default-behind.ensures.same)
     (sym c.in_default-behind-2.ensures.same)))
 
+pub objects::entry-returns-in_err-value-clause-read : goal.objects::entry-returns-in_err-value-clause-read
+objects::entry-returns-in_err-value-clause-read t c =
+    passed _ _ c.in_err-value.field-0.0 c.from_residual-in_err-value.ensures.1
+    (λ n. λ xs a. reads_key_entry_fail (sym c.in-Some-key.ensures.same) n)
+    c.in_err-value.ensures.read
+
+pub objects::entry-returns-in-Some-key-clause-read : goal.objects::entry-returns-in-Some-key-clause-read
+objects::entry-returns-in-Some-key-clause-read t c =
+    let is = ap (λ (o : Option (List ℕ)). unwrap_or o []) c.in_ok-key.ensures in
+    λ xs o a h. reads_key_entry (sym c.in-Some-key.ensures.same) c.in_ok-value.ensures.read
+    (with_last next_entry xs (c.keyed.ensures
+    ∙ ap (λ k. keyed k (expression c.in_ok-value.value.value)) (sym is)) h)
+
 pub objects::entry-returns-in_err-first-clause-read : goal.objects::entry-returns-in_err-first-clause-read
 objects::entry-returns-in_err-first-clause-read t c =
-    passed _ _ c.in_err-first.field-0.0 c.from_residual.ensures.1
+    passed _ _ c.in_err-first.field-0.0 c.from_residual-in_err-first.ensures.1
     (λ n. λ xs a. reads_entry_fail a (sym c.in_default.ensures.same) n)
     c.in_err-first.ensures.read
 
+pub objects::entry-returns-in_default-behind-clause-read : goal.objects::entry-returns-in_default-behind-clause-read
+objects::entry-returns-in_default-behind-clause-read t c =
+    λ xs o a h. reads_entry a (sym c.in_default.ensures.same) c.in_ok-first.ensures.read
+    (reads_keyless (sym c.in_default-key.ensures.same) c.in_ok-first.ensures.read
+    (sym c.in_default-behind.ensures.same) (with_last next_entry xs c.bare.ensures h))
+
+pub objects::entry-returns-in_err-then-clause-read : goal.objects::entry-returns-in_err-then-clause-read
+objects::entry-returns-in_err-then-clause-read t c =
+    passed _ _ c.in_err-then.field-0.0 c.from_residual-in_err-then.ensures.1
+    (λ n. λ xs a. reads_entry a (sym c.in_default.ensures.same) c.in_ok-first.ensures.read
+    (reads_when_fail (sym c.in-Some-behind.ensures.same) n)) c.in_err-then.ensures.read
+
 pub objects::entry-returns-clause-read : goal.objects::entry-returns-clause-read
 objects::entry-returns-clause-read t c =
-    entry_as _ _ _ _ c.entry_from.result
-    (λ xs o a k. reads_entry a (sym c.in_default.ensures.same) c.in_ok-first.ensures.read k)
-    c.entry_from.ensures.read
-
-pub objects::entry_from-returns-in_err-then-clause-read : goal.objects::entry_from-returns-in_err-then-clause-read
-objects::entry_from-returns-in_err-then-clause-read t c =
-    passed _ _ c.in_err-then.field-0.0 c.from_residual.ensures.1
-    (λ n. λ xs. reads_when_fail (sym c.in-Some.ensures.same) n) c.in_err-then.ensures.read
-
-pub objects::entry_from-returns-in-Some-clause-read : goal.objects::entry_from-returns-in-Some-clause-read
-objects::entry_from-returns-in-Some-clause-read t c =
-    λ xs o h. reads_when (sym c.in-Some.ensures.same) c.in_ok-then.ensures.read
-    (with_last next_entry xs c.when.ensures h)
-
-pub objects::entry_from-returns-in_default-behind-clause-read : goal.objects::entry_from-returns-in_default-behind-clause-read
-objects::entry_from-returns-in_default-behind-clause-read t c =
-    λ xs o h. reads_bare (sym c.in_default.ensures.same) (sym c.in_default-behind.ensures.same)
-    (with_last next_entry xs c.bare.ensures h)
-
-pub objects::entry_from-returns-then-not-is_text-clause-read : goal.objects::entry_from-returns-then-not-is_text-clause-read
-objects::entry_from-returns-then-not-is_text-clause-read t c =
-    λ xs o h. reads_no_key (sym c.in_default.ensures.same)
-    (none_found _ c.if-not-is_text.ensures.1)
-    (with_last next_entry xs c.bare-then-not-is_text.ensures h)
-
-pub objects::entry_from-returns-in_err-value-clause-read : goal.objects::entry_from-returns-in_err-value-clause-read
-objects::entry_from-returns-in_err-value-clause-read t c =
-    let k = some_found _ (c.if-not-is_text.ensures.0 refl) in
-    passed _ _ c.in_err-value.field-0.0 c.from_residual-in_err-value.ensures.1
-    (λ n. λ xs. reads_keyed_fail k.1 (sym c.in-Some-behind.ensures.same) n)
-    c.in_err-value.ensures.read
-
-pub objects::entry_from-returns-clause-read : goal.objects::entry_from-returns-clause-read
-objects::entry_from-returns-clause-read t c =
-    let k = some_found _ (c.if-not-is_text.ensures.0 refl) in
-    λ xs o h. reads_keyed k.1 (sym c.in-Some-behind.ensures.same) c.in_ok-value.ensures.read
-    (with_last next_entry xs (c.keyed.ensures k.0 k.1) h)
+    λ xs o a h. reads_entry a (sym c.in_default.ensures.same) c.in_ok-first.ensures.read
+    (reads_when (sym c.in-Some-behind.ensures.same) c.in_ok-then.ensures.read
+    (with_last next_entry xs c.when.ensures h))
 
 pub objects::spread-returns-then-stands-clause-read : goal.objects::spread-returns-then-stands-clause-read
 objects::spread-returns-then-stands-clause-read t c =

@@ -54,9 +54,6 @@ decreases-objects::entries l = 16 * (length l.ts.now - l.at) + 10
 abbrev pub decreases-objects::entry : goal.decreases-objects::entry
 decreases-objects::entry l = 16 * (length l.ts.now - l.at) + 9
 
-abbrev pub decreases-objects::entry_from : goal.decreases-objects::entry_from
-decreases-objects::entry_from l = 16 * (length l.ts.now - l.at)
-
 abbrev pub decreases-objects::spread : goal.decreases-objects::spread
 decreases-objects::spread l = 16 * (length l.ts.now - l.at) + 9
 
