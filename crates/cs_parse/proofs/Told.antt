@@ -1,21 +1,23 @@
 -- What is told of a text that has tokens within the depth.
 use Rattle.std.proofs.Common.{◌≡◌, sym, subst, ℕ, List, None, Some, Result, Ok, Err, IfSome}
-use Rattle.std.specs.Prelude.{IsErrAnd}
+use Rattle.std.specs.Prelude.{IfErr, IsErrAnd}
 use Rattle.std.proofs.lemmas.Option.{IfSome_then}
 use Rattle.cs_syntax.specs.declared.token.Token.{Token}
+use Rattle.cs_syntax.specs.declared.token.TokenFault.{TokenFault}
+use Rattle.cs_syntax.specs.declared.token.TokenFault.TheVariants as token
 use Rattle.cs_syntax.specs.declared.query.Query.{Query}
 use Rattle.cs_syntax.specs.Expression.{Tok, Expression}
 use Rattle.cs_syntax.specs.Faults.{Fault, fault}
-use Rattle.cs_syntax.specs.Lex.{IsTokens, meanings}
+use Rattle.cs_syntax.specs.Lex.{IsNext, IsTokens, Reads, meanings}
 use Rattle.cs_syntax.specs.Queries.{query as expression_of}
 use Rattle.cs_grammar.specs.declared.fault.GrammarFault.{GrammarFault}
 use Rattle.cs_grammar.specs.declared.fault.GrammarFault.TheVariants as grammar
 use Rattle.cs_grammar.specs.Parsing.{Parses}
 use Rattle.cs_grammar.specs.Spells.{Spells}
 use Rattle.cs_parse.specs.declared.fault.ParseFault.{ParseFault}
-use Rattle.cs_parse.specs.Causes.{of_grammar}
+use Rattle.cs_parse.specs.Causes.{of_grammar, of_tokens}
 use Rattle.cs_parse.specs.Depth.{IsTooDeep}
-use Rattle.cs_parse.specs.Verdict.{faulty, query, too_deep, IsRead, reading, reading_of}
+use Rattle.cs_parse.specs.Verdict.{faulty, query, IsRead, reading, reading_of}
 
 module _ (text : List ℕ) (ts : List Token) (ms : List Tok) (tokens : IsTokens text 0 ts)
     (meant : ms ≡ meanings text ts) (shallow : ¬ (IsTooDeep ms)) where
@@ -73,7 +75,24 @@ module _ (text : List ℕ) (ts : List Token) (ms : List Tok) (tokens : IsTokens 
     ),
   )
 
--- where the brackets are too deep
-pub too_deep_read : (text : List ℕ) (ts : List Token) (ms : List Tok) → IsTokens text 0 ts
-    → ms ≡ meanings text ts → IsTooDeep ms → IsRead text too_deep
-too_deep_read text ts ms tokens meant deep = (ts, tokens, subst IsTooDeep meant deep)
+-- where no token begins behind those that were found
+module _ (text : List ℕ) (end : ℕ) (ts : List Token) (reads : Reads text 0 ts end) where
+  bad_place : (f : TokenFault) → IsNext text end (Err f) →
+      IfSome (reading_of (of_tokens f)) (IsRead text)
+  bad_place (token.BadToken at) bad =
+      record {
+        tokens = ts;
+        end = end;
+        reads = reads;
+        place = bad.0;
+        more = bad.1;
+        no_token = bad.2;
+      }
+  bad_place token.NoMemory bad = absurd bad
+
+  pub bad_read : {X : Type 0} (f : TokenFault) → IsNext text end (Err f) →
+      (r : Result X ParseFault) → IsErrAnd r (λ y. y ≡ of_tokens f) →
+      IfErr r (λ p. IfSome (reading_of p) (IsRead text))
+  bad_read f bad (Ok x) is = absurd is
+  bad_read f bad (Err p) is =
+      subst (λ z. IfSome (reading_of z) (IsRead text)) (sym is) (bad_place f bad)

@@ -1,4 +1,5 @@
 pub mod Causes
+pub mod Counted
 pub mod Depth
 pub mod Spelling
 pub mod Tokens

@@ -1,6 +1,8 @@
 // How deep the brackets of a text nest.
-ghost use Rattle.std.specs.Prelude.{◌≡◌, ◌↔◌, ℕ, List, IsTrue, map};
+ghost use Rattle.std.specs.Prelude.{◌≡◌, ◌↔◌, ◌^◌, ◌++◌, ◌∷◌, [], ℕ, List, IsTrue};
 ghost use Rattle.cs_grammar.specs.View.{tok};
+ghost use Rattle.cs_syntax.specs.Expression.{Tok};
+ghost use Rattle.cs_parse.specs.Counted.{FewerThan, IsDepthOf};
 ghost use Rattle.cs_parse.specs.Depth.{IsTooDeep, is_sign_that, opens, closes};
 
 use cs_grammar::{Form, Lexeme};
@@ -27,20 +29,44 @@ fn is_closing(token: &Lexeme) -> bool
     )
 }
 
-/// Whether at some token of a text more than 48 of the brackets before it and at it are open.
-/// Brackets of all three kinds count together, and one that closes none counts against those that
-/// open later. The signs say it alone, so the text is not looked at.
-pub fn is_too_deep(tokens: &[Lexeme]) -> bool
-    ensures { (text : List ℕ) → IsTrue result ↔ IsTooDeep (map (tok text) tokens.now) }
-{
-    let mut opened = 0;
-    let mut closed = 0;
-    for token in tokens {
-        opened += usize::from(is_opening(token));
-        closed += usize::from(is_closing(token));
-        if opened > closed + DEEPEST {
-            return true;
+/// The brackets of the tokens that were counted. Those of all three kinds count together, and one
+/// that closes none counts against those that open later.
+#[derive(Drop)]
+pub struct Depth {
+    opened: usize,
+    closed: usize,
+    exceeded: bool,
+}
+
+impl Depth {
+    /// No token is counted yet.
+    pub fn new() -> Depth
+        ensures { IsDepthOf [] result }
+    {
+        Depth {
+            opened: 0,
+            closed: 0,
+            exceeded: false,
         }
     }
-    false
+
+    /// One token more. The sign says it alone, so the text is not looked at.
+    pub fn count(&mut self, token: &Lexeme)
+        requires { FewerThan (2 ^ 32) self.old }
+        ensures { (text : List ℕ) (ts : List Tok) → IsDepthOf ts self.old →
+            IsDepthOf (ts ++ (tok text token.now ∷ [])) self.new }
+    {
+        self.opened += usize::from(is_opening(token));
+        self.closed += usize::from(is_closing(token));
+        if self.opened > self.closed + DEEPEST {
+            self.exceeded = true;
+        }
+    }
+
+    /// Whether at some token more than 48 of the brackets before it and at it are open.
+    pub fn is_exceeded(&self) -> bool
+        ensures { (ts : List Tok) → IsDepthOf ts self.now → IsTrue result ↔ IsTooDeep ts }
+    {
+        self.exceeded
+    }
 }

@@ -4,7 +4,8 @@ ghost use Rattle.cs_parse.specs.declared.fault.ParseFault.TheVariants.{NoMemory}
 
 use cs_grammar::GrammarFault;
 use cs_syntax::TokenFault;
-use cs_value::{NoMemory, Txt};
+use cs_value::Txt;
+use std::alloc::AllocFailed;
 
 /// Why a text is no query. A text has one of these causes at most, besides want of memory.
 #[derive(Drop)]
@@ -66,10 +67,10 @@ impl From<GrammarFault> for ParseFault {
     }
 }
 
-impl From<NoMemory> for ParseFault {
+impl<T: Drop> From<AllocFailed<T>> for ParseFault {
     ghost from_gives = { λ _ e. e ≡ NoMemory };
 
-    fn from(_refused: NoMemory) -> ParseFault {
+    fn from(_refused: AllocFailed<T>) -> ParseFault {
         ParseFault::NoMemory
     }
 }

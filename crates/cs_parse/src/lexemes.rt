@@ -1,12 +1,15 @@
 // The tokens of a text as the grammar reads them.
-ghost use Rattle.std.specs.Prelude.{◌≡◌, ◌≤◌, All, IfOk, Some, length, map, vec_len};
+ghost use Rattle.std.specs.Prelude.{◌≡◌, ◌<◌, ◌^◌, All, IfErr, IfOk, IfSome, Some, length, vec_len};
 ghost use Rattle.cs_grammar.specs.Parsing.{IsLexemeOf, IsSource};
 ghost use Rattle.cs_grammar.specs.View.{formed, tok};
-ghost use Rattle.cs_syntax.specs.Lex.{IsTokenOf, meaning, meanings, source};
+ghost use Rattle.cs_syntax.specs.Lex.{IsTokenOf, meaning, source};
+ghost use Rattle.cs_parse.specs.Counted.{AreLexemesOf};
+ghost use Rattle.cs_parse.specs.Verdict.{IsRead, reading_of};
 
+use crate::depth::Depth;
+use crate::fault::ParseFault;
 use cs_grammar::{Form, Lexeme};
-use cs_syntax::{Kind, Sign, Token};
-use cs_value::NoMemory;
+use cs_syntax::{Kind, Sign, Token, next_token};
 use std::alloc::Global;
 
 // What the token is, its sign read.
@@ -43,17 +46,27 @@ fn lexeme(text: &str, token: &Token) -> Lexeme
     }
 }
 
-/// The tokens of the text as the grammar reads them.
-pub fn lexemes(alloc: Global, text: &str, tokens: &[Token]) -> Result<Vec<Lexeme>, NoMemory>
-    requires { All (IsTokenOf text.now) tokens.now }
-    ensures meanings { IfOk result (λ ls. map (tok text.now) ls.items
-        ≡ meanings text.now tokens.now) }
+/// The tokens of the text as the grammar reads them, with their brackets counted as they are found.
+/// `BadToken` where a place begins no token, and `TooDeep` where more than 48 brackets are open at
+/// once.
+pub fn lexemes(alloc: Global, text: &str) -> Result<Vec<Lexeme>, ParseFault>
+    requires { length text.now < 2 ^ 32 }
+    ensures lexemes { IfOk result (λ ls. AreLexemesOf text.now ls.items) }
+    ensures fault { IfErr result (λ f. IfSome (reading_of f) (IsRead text.now)) }
     ensures of_text { IfOk result (λ ls. All (IsLexemeOf text.now) ls.items) }
-    ensures count { IfOk result (λ ls. vec_len ls ≤ length tokens.now) }
+    ensures count { IfOk result (λ ls. vec_len ls < 2 ^ 32) }
 {
-    let mut lexemes = Vec::with_capacity(alloc, tokens.len())?;
-    for token in tokens {
-        lexemes.push(lexeme(text, token))?;
+    let mut lexemes = Vec::new(alloc);
+    let mut depth = Depth::new();
+    let mut end = 0;
+    while let Some(token) = next_token(text, end)? {
+        let lexeme = lexeme(text, &token);
+        depth.count(&lexeme);
+        lexemes.push(lexeme)?;
+        end = token.to as usize;
+    }
+    if depth.is_exceeded() {
+        return Err(ParseFault::TooDeep);
     }
     Ok(lexemes)
 }

@@ -3,13 +3,12 @@ ghost use Rattle.std.specs.Prelude.{◌≡◌, ◌<◌, ◌^◌, IfSome, length}
 ghost use Rattle.cs_faults.specs.Found.{told};
 ghost use Rattle.cs_parse.specs.Verdict.{IsRead, faulty, reading, reading_of, verdict};
 
-use crate::depth::is_too_deep;
 use crate::fault::ParseFault;
 use crate::laws::reading_is_verdict;
 use crate::lexemes::lexemes;
 use cs_faults::{Fault, first_fault};
 use cs_grammar::read;
-use cs_syntax::{Query, tokens};
+use cs_syntax::Query;
 use cs_value::Txt;
 use std::alloc::Global;
 
@@ -39,12 +38,7 @@ fn read_text(alloc: Global, text: &str) -> Result<Query, ParseFault>
     requires { length text.now < 2 ^ 32 }
     ensures { IfSome (reading result) (IsRead text.now) }
 {
-    let tokens = tokens(alloc, text)?;
-    let lexemes = lexemes(alloc, text, tokens.as_slice())?;
-    drop(tokens);
-    if is_too_deep(lexemes.as_slice()) {
-        return Err(ParseFault::TooDeep);
-    }
+    let lexemes = lexemes(alloc, text)?;
     let expr = read(alloc, text, lexemes.as_slice())?;
     if let Some(fault) = first_fault(&expr) {
         return Err(owned(alloc, fault));

@@ -135,7 +135,7 @@ reads-push s at [] e t r f l = (f ∙ ap (past_blank s) (sym r), l, refl)
 reads-push s at (u ∷ ts) e t r f l = (r.0, r.1, reads-push s u.to ts e t r.2 f l)
 
 -- a token that is read is one of the text
-token-of : (s : List ℕ) (at : ℕ) (t : Token) → IsUtf8 s → t.from ≡ past_blank s at →
+pub token-of : (s : List ℕ) (at : ℕ) (t : Token) → IsUtf8 s → t.from ≡ past_blank s at →
     IsLongest (drop t.from s) t.kind (t.to - t.from) → IsTokenOf s t
 token-of s at t utf8 e l =
     let p = placed s at t e l in

@@ -1,7 +1,7 @@
 -- The tokens of a text: GROQ-1.revision1 "Syntax", as this project's profile has it. A text is
 -- the list of its bytes. Between tokens stand blanks and comments, and each token is the
 -- longest at its place.
-use Rattle.std.specs.Prelude.{◌≡◌, ℕ, suc, ◌+◌, ◌-◌, ◌<◌, ◌≤◌, Bool, true, false, not, ◌&&◌, ◌||◌, ◌==◌, if◌then◌else◌, List, [], ◌∷◌, length, take, drop, filter_map, Option, Some, None, option_map, IsSome, slice_index, IsCharBoundary, ⊤}
+use Rattle.std.specs.Prelude.{◌≡◌, ℕ, suc, ◌+◌, ◌-◌, ◌<◌, ◌≤◌, Bool, true, false, not, ◌&&◌, ◌||◌, ◌==◌, if◌then◌else◌, List, [], ◌∷◌, length, take, drop, filter_map, Option, Some, None, option_map, IsSome, Result, Ok, Err, slice_index, IsCharBoundary, ⊤}
 use Rattle.std.specs.List.{list_all}
 use Rattle.std.specs.Char.{is_ascii_digit, is_ascii_alphabetic}
 use Rattle.cs_syntax.specs.declared.sign.Sign.{Sign}
@@ -137,6 +137,16 @@ pub record IsBadAt (s : List ℕ) (at bad : ℕ) : Type 0 where
   pub place : past_blank s end ≡ bad
   pub more : bad < length s
   pub no_token : NoToken (drop bad s)
+
+-- what stands next from `at` on, past blanks: a token, the end of the text, or the place where no
+-- token begins
+abbrev pub IsNext : List ℕ → ℕ → Result (Option Token) TokenFault → Type 0
+IsNext s at (Ok (Some t)) =
+    (t.from ≡ past_blank s at) × IsLongest (drop t.from s) t.kind (t.to - t.from)
+IsNext s at (Ok None) = past_blank s at ≡ length s
+IsNext s at (Err (BadToken bad)) =
+    (past_blank s at ≡ bad) × (bad < length s) × NoToken (drop bad s)
+IsNext s at (Err NoMemory) = ⊥
 
 -- the slice of the text that is the token
 abbrev pub source : List ℕ → Token → List ℕ

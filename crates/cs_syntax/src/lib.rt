@@ -19,7 +19,7 @@ pub use decode::unescape;
 pub use laws::{a_text_is_read_in_one_way, a_token_means_its_source};
 pub use query::Query;
 pub use sign::Sign;
-pub use token::{Kind, Token, TokenFault, tokens};
+pub use token::{Kind, Token, TokenFault, next_token, tokens};
 pub use tree::{Arg, BinSign, Elem, Entry, Expr, OrderKey, PreSign, Step};
 pub use written::{has_exponent, has_fraction, whole_number, without_global, written_number};
 

@@ -1,8 +1,8 @@
 // The tokens of a text.
-ghost use Rattle.std.specs.Prelude.{◌≡◌, ◌^◌, ◌<◌, All, IfErr, IfOk, Some, length, option_and_then, vec_len};
+ghost use Rattle.std.specs.Prelude.{◌≡◌, ◌^◌, ◌<◌, ◌≤◌, All, IfErr, IfOk, IfSome, Some, length, option_and_then, vec_len};
 ghost use Rattle.cs_syntax.specs.declared.token.Kind.TheVariants as kind;
 ghost use Rattle.cs_syntax.specs.Expression.{param_tok};
-ghost use Rattle.cs_syntax.specs.Lex.{Ascend, IsFaultOf, IsTokenOf, IsTokens, meaning, sign_in, source};
+ghost use Rattle.cs_syntax.specs.Lex.{Ascend, IsFaultOf, IsNext, IsTokenOf, IsTokens, meaning, sign_in, source};
 
 use crate::blank::past_blank;
 use crate::longest::{kind_of, token_end};
@@ -91,6 +91,32 @@ impl Token {
     }
 }
 
+/// The next token of the text from `at` on: the longest that begins at the first place that is not
+/// between tokens. `None` where the text ends there, and `BadToken` where no token begins there.
+pub fn next_token(text: &str, at: usize) -> Result<Option<Token>, TokenFault>
+    requires size { length text.now < 2 ^ 32 }
+    requires inside { at ≤ length text.now }
+    ensures next { IsNext text.now at result }
+    ensures token { IfOk result (λ next. IfSome next (IsTokenOf text.now)) }
+    ensures place { IfOk result (λ next. IfSome next (λ t.
+        (at < t.to) × (t.to ≤ length text.now))) }
+{
+    let bytes = text.as_bytes();
+    let from = past_blank(bytes, at);
+    if from == bytes.len() {
+        return Ok(None);
+    }
+    let kind = kind_of(bytes[from]);
+    let Some(to) = token_end(bytes, from, kind) else {
+        return Err(TokenFault::BadToken { at: from as u32 });
+    };
+    Ok(Some(Token {
+        kind,
+        from: from as u32,
+        to: to as u32,
+    }))
+}
+
 /// The tokens of the text, from left to right: each is the longest that begins at its place.
 /// `BadToken` exactly where a place, behind the tokens and what stands between tokens, begins no
 /// token and is not the end of the text; `NoMemory` where the allocator has no room for them.
@@ -102,22 +128,11 @@ pub fn tokens(alloc: Global, text: &str) -> Result<Vec<Token>, TokenFault>
     ensures ascend { IfOk result (λ ts. Ascend ts.items) }
     ensures count { IfOk result (λ ts. vec_len ts < 2 ^ 32) }
 {
-    let bytes = text.as_bytes();
     let mut found = Vec::new(alloc);
     let mut end = 0;
-    let mut from = past_blank(bytes, end);
-    while from < bytes.len() {
-        let kind = kind_of(bytes[from]);
-        let Some(to) = token_end(bytes, from, kind) else {
-            return Err(TokenFault::BadToken { at: from as u32 });
-        };
-        found.push(Token {
-            kind,
-            from: from as u32,
-            to: to as u32,
-        })?;
-        end = to;
-        from = past_blank(bytes, end);
+    while let Some(token) = next_token(text, end)? {
+        end = token.to as usize;
+        found.push(token)?;
     }
     Ok(found)
 }

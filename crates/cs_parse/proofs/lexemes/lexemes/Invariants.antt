@@ -1,14 +1,17 @@
-use Rattle.std.proofs.Common.{◌≡◌, ◌≤◌, ◌++◌, All, map, length}
-use Rattle.std.specs.Prelude.{drop}
+use Rattle.std.proofs.Common.{◌≤◌, ◌-◌, All, map, length}
 use Rattle.cs_grammar.specs.Parsing.{IsLexemeOf}
 use Rattle.cs_grammar.specs.View.{tok}
-use Rattle.cs_syntax.specs.Lex.{meanings}
+use Rattle.cs_parse.specs.Counted.{AreLexemesUpTo, IsDepthOf}
 use Rattle.cs_parse.proofs.lexemes.lexemes.Given as goal
 
-abbrev pub invariant-loop-token : goal.invariant-loop-token
-invariant-loop-token l = record {
-  meanings : map (tok l.text) l.lexemes.items ++ meanings l.text (drop l.token-index l.tokens)
-      ≡ meanings l.text l.tokens;
+abbrev pub invariant-loop-lexemes : goal.invariant-loop-lexemes
+invariant-loop-lexemes l = record {
+  so_far : AreLexemesUpTo l.text l.end l.lexemes.items;
   of_text : All (IsLexemeOf l.text) l.lexemes.items;
-  count : length l.lexemes.items ≤ l.token-index;
+  depth : IsDepthOf (map (tok l.text) l.lexemes.items) l.depth;
+  to : l.end ≤ length l.text;
+  count : length l.lexemes.items ≤ l.end;
 }
+
+abbrev pub decreases-loop-lexemes : goal.decreases-loop-lexemes
+decreases-loop-lexemes l = length l.text - l.end
