@@ -1,5 +1,6 @@
 -- For private clauses: how far each kind of token reaches from a place of a text. Past the end
 -- of the text the byte is 0, which is in no token but a text.
+use Prim.Native.Char.{code}
 use Rattle.std.specs.Prelude.{ℕ, zero, suc, ◌+◌, ◌*◌, Bool, not, ◌&&◌, ◌||◌, ◌==◌, nat_lt, if◌then◌else◌, List, [], ◌∷◌, drop, Option, Some, None, option_map, option_and_then, find, slice_index}
 use Rattle.std.specs.List.{prefix_len, list_any}
 use Rattle.std.specs.Char.{is_ascii_digit, digit_value, is_digit}
@@ -19,13 +20,13 @@ past_word s at = at + prefix_len is_word_byte (drop at s)
 
 -- a byte of a text that is neither its quote nor a `\`
 abbrev pub is_plain : ℕ → ℕ → Bool
-is_plain q b = not (b == q) && not (b == 92)
+is_plain q b = not (b == q) && not (b == code "\\")
 
 abbrev pub past_plain : List ℕ → ℕ → ℕ → ℕ
 past_plain s q at = at + prefix_len (is_plain q) (drop at s)
 
 abbrev pub past_sign : List ℕ → ℕ → ℕ
-past_sign s at = if slice_index s at == 43 || slice_index s at == 45 then at + 1 else at
+past_sign s at = if slice_index s at == code "+" || slice_index s at == code "-" then at + 1 else at
 
 -- the end of digits from `from` on, or `at` where none stand there
 abbrev pub end_or : List ℕ → ℕ → ℕ → ℕ
@@ -33,20 +34,20 @@ end_or s at from = if nat_lt from (past_digits s from) then past_digits s from e
 
 -- the end of an exponent, or `at` where none stands there
 abbrev pub exponent_end : List ℕ → ℕ → ℕ
-exponent_end s at = if slice_index s at == 101 || slice_index s at == 69
+exponent_end s at = if slice_index s at == code "e" || slice_index s at == code "E"
     then end_or s at (past_sign s (at + 1)) else at
 
 -- the end of a fraction and an exponent, of one of them, or `at`
 abbrev pub fraction_end : List ℕ → ℕ → ℕ
 fraction_end s at =
-    if slice_index s at == 46
+    if slice_index s at == code "."
     then (if nat_lt (at + 1) (past_digits s (at + 1))
     then exponent_end s (past_digits s (at + 1)) else at)
     else exponent_end s at
 
 -- the end of the number whose first digit is at `at`
 abbrev pub number_end : List ℕ → ℕ → ℕ
-number_end s at = fraction_end s (if slice_index s at == 48 then at + 1 else past_digits s at)
+number_end s at = fraction_end s (if slice_index s at == code "0" then at + 1 else past_digits s at)
 
 -- the end of the text whose quote q is open at the front: how many bytes up to and with the quote
 abbrev pub quoted : ℕ → ℕ → List ℕ → Option ℕ
@@ -75,7 +76,8 @@ four_at s at =
     else None
 
 abbrev pub unit_at : List ℕ → ℕ → Option ℕ
-unit_at s at = if slice_index s at == 92 && slice_index s (at + 1) == 117 then four_at s (at + 2)
+unit_at s at =
+    if slice_index s at == code "\\" && slice_index s (at + 1) == code "u" then four_at s (at + 2)
     else None
 
 -- `\uXXXX` of the number u that ends at `at`, with the low surrogate behind it where it wants one
@@ -92,17 +94,17 @@ braced_at s at = placed at (braced 0 0 (drop (at + 2) s))
 
 -- the escape whose `u` stands at `at`
 abbrev pub unicode_at : List ℕ → ℕ → Option (ℕ × ℕ)
-unicode_at s at = if slice_index s (at + 1) == 123 then braced_at s at
+unicode_at s at = if slice_index s (at + 1) == code "{" then braced_at s at
     else option_and_then (by_unit_at s (at + 5)) (four_at s (at + 1))
 
 -- the escape whose `\` stands before `at`
 abbrev pub escape_at : List ℕ → ℕ → Option (ℕ × ℕ)
-escape_at s at = if slice_index s at == 117 then unicode_at s at
+escape_at s at = if slice_index s at == code "u" then unicode_at s at
     else option_map (λ c. (c, at + 1)) (letter (slice_index s at))
 
 -- the place behind the byte or the escape at `at`
 abbrev pub piece_end : List ℕ → ℕ → Option ℕ
-piece_end s at = if slice_index s at == 92 then option_map (λ e. e.1) (escape_at s (at + 1))
+piece_end s at = if slice_index s at == code "\\" then option_map (λ e. e.1) (escape_at s (at + 1))
     else Some (at + 1)
 
 -- above each number of d hexadecimal digits
@@ -112,17 +114,21 @@ above (suc d) = 16 * above d
 
 -- the signs of one and of two bytes
 abbrev pub ones : List (ℕ × Sign)
-ones = (33, sign.Not) ∷ (37, sign.Percent) ∷ (40, sign.OpenParen) ∷ (41, sign.CloseParen)
-    ∷ (42, sign.Star) ∷ (43, sign.Plus) ∷ (44, sign.Comma) ∷ (45, sign.Minus) ∷ (46, sign.Dot)
-    ∷ (47, sign.Slash) ∷ (58, sign.Colon) ∷ (60, sign.Lt) ∷ (62, sign.Gt) ∷ (64, sign.At)
-    ∷ (91, sign.OpenBracket) ∷ (93, sign.CloseBracket) ∷ (94, sign.Caret) ∷ (123, sign.OpenBrace)
-    ∷ (124, sign.Pipe) ∷ (125, sign.CloseBrace) ∷ []
+ones = (code "!", sign.Not) ∷ (code "%", sign.Percent) ∷ (code "(", sign.OpenParen)
+    ∷ (code ")", sign.CloseParen) ∷ (code "*", sign.Star) ∷ (code "+", sign.Plus)
+    ∷ (code ",", sign.Comma) ∷ (code "-", sign.Minus) ∷ (code ".", sign.Dot)
+    ∷ (code "/", sign.Slash) ∷ (code ":", sign.Colon) ∷ (code "<", sign.Lt) ∷ (code ">", sign.Gt)
+    ∷ (code "@", sign.At) ∷ (code "[", sign.OpenBracket) ∷ (code "]", sign.CloseBracket)
+    ∷ (code "^", sign.Caret) ∷ (code "{", sign.OpenBrace) ∷ (code "|", sign.Pipe)
+    ∷ (code "}", sign.CloseBrace) ∷ []
 
 abbrev pub twos : List ((ℕ × ℕ) × Sign)
-twos = ((33, 61), sign.Ne) ∷ ((38, 38), sign.AndAnd) ∷ ((42, 42), sign.StarStar)
-    ∷ ((45, 62), sign.Arrow) ∷ ((46, 46), sign.DotDot) ∷ ((58, 58), sign.ColonColon)
-    ∷ ((60, 61), sign.Le) ∷ ((61, 61), sign.EqEq) ∷ ((61, 62), sign.FatArrow)
-    ∷ ((62, 61), sign.Ge) ∷ ((124, 124), sign.OrOr) ∷ []
+twos = ((code "!", code "="), sign.Ne) ∷ ((code "&", code "&"), sign.AndAnd)
+    ∷ ((code "*", code "*"), sign.StarStar) ∷ ((code "-", code ">"), sign.Arrow)
+    ∷ ((code ".", code "."), sign.DotDot) ∷ ((code ":", code ":"), sign.ColonColon)
+    ∷ ((code "<", code "="), sign.Le) ∷ ((code "=", code "="), sign.EqEq)
+    ∷ ((code "=", code ">"), sign.FatArrow) ∷ ((code ">", code "="), sign.Ge)
+    ∷ ((code "|", code "|"), sign.OrOr) ∷ []
 
 abbrev pub one_of : ℕ → Option Sign
 one_of a = option_map (λ row. row.1) (find (λ row. row.0 == a) ones)
@@ -137,7 +143,7 @@ abbrev pub is_two : ℕ → ℕ → Bool
 is_two a b = list_any (λ row. row.0.0 == a && row.0.1 == b) twos
 
 abbrev pub is_three : ℕ → ℕ → ℕ → Bool
-is_three a b c = 46 == a && 46 == b && 46 == c
+is_three a b c = code "." == a && code "." == b && code "." == c
 
 abbrev pub three_of : ℕ → ℕ → ℕ → Option Sign
 three_of a b c = if is_three a b c then Some sign.DotDotDot else None
@@ -159,7 +165,7 @@ param_end s at = if is_letter (slice_index s (at + 1)) then Some (past_word s (a
 abbrev pub kind_of : ℕ → Kind
 kind_of b =
     if is_letter b then kind.Word else (if is_ascii_digit b then kind.Number
-    else (if is_quote b then kind.Text else (if b == 36 then kind.Param else kind.Sign)))
+    else (if is_quote b then kind.Text else (if b == code "$" then kind.Param else kind.Sign)))
 
 -- the end of the longest token of the kind at `at`, whose first byte is the kind's
 abbrev pub token_end : List ℕ → ℕ → Kind → Option ℕ

@@ -1,6 +1,7 @@
 -- What a text token means: GROQ-1.revision1 "String", as this project's profile has it. A text
 -- stands between two `"` or two `'`, and holds any character but that quote and `\`, and
 -- escapes.
+use Prim.Native.Char.{code}
 use Rattle.std.specs.Prelude.{ℕ, zero, suc, ◌+◌, ◌*◌, Bool, ◌&&◌, ◌||◌, ◌==◌, nat_lt, if◌then◌else◌, List, [], ◌∷◌, ◌++◌, drop, Option, Some, None, option_map, option_and_then, find, encode_utf8}
 use Rattle.std.specs.Char.{digit_value, is_digit}
 use Rattle.std.specs.Char.Utf16.{is_high_surrogate, is_low_surrogate, surrogate_pair_char}
@@ -8,15 +9,14 @@ use lib.Utf8.{scalar}
 
 -- `"` and `'`
 abbrev pub is_quote : ℕ → Bool
-is_quote b = b == 34 || b == 39
+is_quote b = b == code "\"" || b == code "'"
 
 -- the escapes of one letter, with their characters: `"` `'` `\` `/` as themselves, and `b` `f`
 -- `n` `r` `t`
 abbrev pub letters : List (ℕ × ℕ)
-letters = (34, 34) ∷ (39, 39) ∷ (92, 92) ∷ (47, 47) ∷ (98, 8) ∷ (102, 12) ∷ (110, 10) ∷ (
-  114,
-  13,
-) ∷ (116, 9) ∷ []
+letters = (code "\"", code "\"") ∷ (code "'", code "'") ∷ (code "\\", code "\\")
+    ∷ (code "/", code "/") ∷ (code "b", 8) ∷ (code "f", 12) ∷ (code "n", code "\n")
+    ∷ (code "r", code "\r") ∷ (code "t", code "\t") ∷ []
 
 abbrev pub letter : ℕ → Option ℕ
 letter b = option_map (λ row. row.1) (find (λ row. row.0 == b) letters)
@@ -31,7 +31,7 @@ four_digits bs = None
 
 -- the number of a `\uXXXX` at the front
 abbrev pub unit : List ℕ → Option ℕ
-unit (a ∷ b ∷ bs) = if a == 92 && b == 117 then four_digits bs else None
+unit (a ∷ b ∷ bs) = if a == code "\\" && b == code "u" then four_digits bs else None
 unit bs = None
 
 -- A reading of an escape is its character, and how many bytes behind its `\` it has.
@@ -49,25 +49,25 @@ by_unit u more =
 abbrev pub braced : ℕ → ℕ → List ℕ → Option (ℕ × ℕ)
 braced n d [] = None
 braced n d (b ∷ bs) =
-    if b == 125 then (if nat_lt 0 d && scalar n then Some (n, d + 3) else None)
+    if b == code "}" then (if nat_lt 0 d && scalar n then Some (n, d + 3) else None)
     else (if is_digit b 16 && nat_lt d 6 then braced (n * 16 + digit_value b) (d + 1) bs else None)
 
 -- behind `\u`
 abbrev pub unicode : List ℕ → Option (ℕ × ℕ)
 unicode [] = None
 unicode (b ∷ bs) =
-    if b == 123 then braced 0 0 bs
+    if b == code "{" then braced 0 0 bs
     else option_and_then (λ u. by_unit u (drop 4 (b ∷ bs))) (four_digits (b ∷ bs))
 
 -- behind `\`
 abbrev pub escape : List ℕ → Option (ℕ × ℕ)
 escape [] = None
-escape (b ∷ bs) = if b == 117 then unicode bs else option_map (λ c. (c, 1)) (letter b)
+escape (b ∷ bs) = if b == code "u" then unicode bs else option_map (λ c. (c, 1)) (letter b)
 
 -- what the byte b stands for, or the escape that begins with it, and how many of the bytes
 -- behind it belong to it
 abbrev pub piece : ℕ → List ℕ → Option (List ℕ × ℕ)
-piece b bs = if b == 92 then option_map (λ e. (encode_utf8 e.0, e.1)) (escape bs)
+piece b bs = if b == code "\\" then option_map (λ e. (encode_utf8 e.0, e.1)) (escape bs)
     else Some (b ∷ [], 0)
 
 -- where the quote ends the source, nothing follows it

@@ -1,6 +1,7 @@
 -- The tokens of a text: GROQ-1.revision1 "Syntax", as this project's profile has it. A text is
 -- the list of its bytes. Between tokens stand blanks and comments, and each token is the
 -- longest at its place.
+use Prim.Native.Char.{code}
 use Rattle.std.specs.Prelude.{◌≡◌, ℕ, suc, ◌+◌, ◌-◌, ◌<◌, ◌≤◌, Bool, true, false, not, ◌&&◌, ◌||◌, ◌==◌, if◌then◌else◌, List, [], ◌∷◌, length, take, drop, filter_map, Option, Some, None, option_map, IsSome, Result, Ok, Err, slice_index, IsCharBoundary, ⊤}
 use Rattle.std.specs.List.{list_all}
 use Rattle.std.specs.Char.{is_ascii_digit, is_ascii_alphabetic}
@@ -16,7 +17,7 @@ use Rattle.cs_syntax.specs.Signs.{sign_of}
 
 -- a letter or `_`
 abbrev pub is_letter : ℕ → Bool
-is_letter b = is_ascii_alphabetic b || b == 95
+is_letter b = is_ascii_alphabetic b || b == code "_"
 
 abbrev pub is_word_byte : ℕ → Bool
 is_word_byte b = is_letter b || is_ascii_digit b
@@ -43,28 +44,29 @@ is_end (b ∷ bs) = false
 -- what follows a `+` or `-` at the front, or all where none stands there
 abbrev pub unsigned : List ℕ → List ℕ
 unsigned [] = []
-unsigned (b ∷ bs) = if b == 43 || b == 45 then bs else b ∷ bs
+unsigned (b ∷ bs) = if b == code "+" || b == code "-" then bs else b ∷ bs
 
 -- nothing, or `e` or `E`, a sign or none, and digits
 abbrev pub ends_number : List ℕ → Bool
 ends_number [] = true
-ends_number (b ∷ bs) = (b == 101 || b == 69) && some_digits_then is_end (unsigned bs)
+ends_number (b ∷ bs) = (b == code "e" || b == code "E") && some_digits_then is_end (unsigned bs)
 
 -- `.` and digits or neither, and then the end of a number
 abbrev pub follows_whole : List ℕ → Bool
 follows_whole [] = true
-follows_whole (b ∷ bs) = if b == 46 then some_digits_then ends_number bs else ends_number (b ∷ bs)
+follows_whole (b ∷ bs) =
+    if b == code "." then some_digits_then ends_number bs else ends_number (b ∷ bs)
 
 -- `0`, or a digit from 1 to 9 and digits; and what may follow them
 abbrev pub is_number : List ℕ → Bool
 is_number [] = false
-is_number (b ∷ bs) = if b == 48 then follows_whole bs else is_ascii_digit b
+is_number (b ∷ bs) = if b == code "0" then follows_whole bs else is_ascii_digit b
     && digits_then follows_whole bs
 
 -- the name behind a `$`
 abbrev pub param_name : List ℕ → Option (List ℕ)
 param_name [] = None
-param_name (b ∷ bs) = if b == 36 && is_word bs then Some bs else None
+param_name (b ∷ bs) = if b == code "$" && is_word bs then Some bs else None
 
 -- what the source of a token of the kind means: none where it is no token of the kind
 abbrev pub meaning : Kind → List ℕ → Option Tok
@@ -84,11 +86,11 @@ sign_in (word_tok w) = None
 
 -- a space, a tab, a newline or a carriage return
 abbrev pub is_blank : ℕ → Bool
-is_blank b = b == 32 || b == 9 || b == 10 || b == 13
+is_blank b = b == code " " || b == code "\t" || b == code "\n" || b == code "\r"
 
 -- `//` stands at the front
 abbrev pub opens_comment : List ℕ → Bool
-opens_comment s = slice_index s 0 == 47 && slice_index s 1 == 47
+opens_comment s = slice_index s 0 == code "/" && slice_index s 1 == code "/"
 
 -- how many bytes of blanks and comments stand at the front, where a comment is open or not: a
 -- comment is open from its `//` up to a newline
@@ -96,7 +98,8 @@ abbrev pub blank_from : Bool → List ℕ → ℕ
 blank_from open_comment [] = 0
 blank_from open_comment (b ∷ bs) =
     if is_blank b || open_comment || opens_comment (b ∷ bs)
-    then suc (blank_from (not (b == 10) && (open_comment || opens_comment (b ∷ bs))) bs) else 0
+    then suc (blank_from (not (b == code "\n") && (open_comment || opens_comment (b ∷ bs))) bs)
+    else 0
 
 abbrev pub blank : List ℕ → ℕ
 blank = blank_from false
