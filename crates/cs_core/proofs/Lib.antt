@@ -1,10 +1,4 @@
-mod Listening
 mod Living
-mod Noting
 mod Replying
 mod Simple
-mod Storing
-mod Tallies
-mod Told
-mod Transacting
 mod Visiting

@@ -1,5 +1,5 @@
 -- What a line that was answered does.
-use Rattle.std.proofs.Common.{◌≡◌, ◌∙◌, ap, sym, refl, subst, ℕ, List, [], ◌∷◌, ◌++◌, true, false, ◌≤◌, Option, None, Some, IfSome, option_and_then, Result, Ok, Err, OnErr, arith}
+use Rattle.std.proofs.Common.{◌≡◌, ◌∙◌, ap, sym, refl, ℕ, List, [], ◌∷◌, ◌++◌, true, false, ◌≤◌, Option, None, Some, IfSome, option_and_then, arith}
 use Rattle.std.proofs.lemmas.List.{append-nil}
 use Rattle.cs_syntax.specs.Expression.{Expression}
 use Rattle.cs_json.specs.Reading.{outcome}
@@ -21,7 +21,7 @@ use Rattle.cs_machine.specs.Rows.{row}
 use Rattle.cs_gen.specs.Tally.{IsTally}
 use Rattle.cs_gen.specs.declared.tally.Tally.{Tally}
 use Rattle.cs_core.specs.Core.{state, IsUsable}
-use Rattle.cs_core.specs.Does.{Does, IsKept, Leaves, LeavesBy}
+use Rattle.cs_core.specs.Does.{Does}
 use Rattle.cs_core.specs.declared.machine.Core.{Core}
 
 one_line : (n : ℕ) (r : plain.Reply)
@@ -44,24 +44,6 @@ says before after tally core t n r e usable tallied h =
       usable = usable;
     }
 
--- the line was refused
-pub says_refusal : (before after : List ℕ) (tally : Tally) (core : Core) (n : ℕ) (w : Refusal)
-    → IsUsable core
-    → IsTally tally (plain.refused w ∷ [])
-    → Appended before after (plain.reply_tree n (plain.refused w))
-    → Does before after tally core n (refuse (state core) w)
-says_refusal before after tally core n w usable tallied h =
-    says before after tally core (state core) n (plain.refused w) refl usable tallied h
-
--- the same step by another word
-pub does_as : (before after : List ℕ) (tally : Tally) (core : Core) (n : ℕ)
-    (one other : Stepped State)
-    → other ≡ one
-    → Does before after tally core n one
-    → Does before after tally core n other
-does_as before after tally core n one other e h =
-    subst (λ o. Does before after tally core n o) (sym e) h
-
 -- nothing is said, and nothing changes
 pub silent : (before : List ℕ) (tally : Tally) (core : Core) (n : ℕ)
     → IsUsable core
@@ -74,24 +56,6 @@ silent before tally core n usable tallied =
       state_is = refl;
       usable = usable;
     }
-
--- a machine that was left as it was is left so by every step
-pub kept_leaves : (old new : Core) (out : Stepped State) → IsKept old new → Leaves old new out
-kept_leaves old new out h = subst (λ b. LeavesBy b old new out) (sym h.usable.unspent) h
-
--- nothing changed
-pub same_kept : (core : Core) → IsUsable core → IsKept core core
-same_kept core usable = record { state_is = refl; usable = usable }
-
--- what holds is held after a fault
-pub kept_on : {T E P : Type 0} (r : Result T E) → P → OnErr r P
-kept_on (Ok x) p = tt
-kept_on (Err e) p = p
-
--- the same step by another word
-pub leaves_as : (old new : Core) (one other : Stepped State) → other ≡ one
-    → Leaves old new one → Leaves old new other
-leaves_as old new one other e h = subst (λ o. Leaves old new o) (sym e) h
 
 pub step_blank : (s : State) (n : ℕ) (line : List ℕ)
     → is_blank line ≡ true

@@ -1,27 +1,19 @@
 -- How many documents a line visits at most, where its queries are simple: this project's profile.
 use Rattle.std.specs.Prelude.{◌≡◌, ◌≤◌, ℕ, ◌+◌, List, Bool, true, cond, Option, Some, None}
-use Rattle.cs_view.specs.Changes.{changes_between}
 use Rattle.cs_parse.specs.Verdict.{verdict}
 use Rattle.cs_json.specs.Reading.{Outcome, not_json, too_deep, not_whole, value, outcome}
 use Rattle.cs_wire.specs.Blank.{is_blank}
 use Rattle.cs_wire.specs.Commands.{Request, mutate, query, live, listen, stop, at}
 use Rattle.cs_wire.specs.Rows.{command}
-use Rattle.cs_body.specs.Body.{Body, no_command, bad_id, transaction, body_of}
-use Rattle.cs_body.specs.Transaction.{Transaction}
-use Rattle.cs_txn.specs.Visits.{are_simple, costs, is_simple_reading, reading_cost}
-use Rattle.cs_docs.specs.Store.{docs}
-use Rattle.cs_live.specs.Fits.{IsUntouched}
+use Rattle.cs_body.specs.Body.{body_of}
+use Rattle.cs_txn.specs.Visits.{is_simple_reading, reading_cost}
 use Rattle.cs_live.specs.Lives.{are_simple_lives}
 use Rattle.cs_machine.specs.Fold.{Stepped}
 use Rattle.cs_machine.specs.Machine.{deepest_line}
 use Rattle.cs_machine.specs.State.{State}
+use Rattle.cs_state.specs.Visits.{is_simple_body, body_cost}
+use Rattle.cs_state.specs.Visits as held
 use Rattle.cs_core.specs.declared.machine.Core.{Core}
-
--- each query of the transaction is refused or simple
-abbrev pub is_simple_body : Body → Bool
-is_simple_body no_command = true
-is_simple_body bad_id = true
-is_simple_body (transaction txn) = are_simple txn.actions
 
 -- each query of the command is refused or simple
 abbrev pub is_simple_request : ℕ → Request → Bool
@@ -31,15 +23,6 @@ is_simple_request n (live name s params) = is_simple_reading (verdict s)
 is_simple_request n (listen name s params result previous) = true
 is_simple_request n (stop name) = true
 is_simple_request n (at moment) = true
-
--- the costs of the mutations, one after another; nothing is asked where the id is used
-abbrev pub transaction_cost : State → Transaction → ℕ
-transaction_cost s txn = cond (s.is_used txn.id) 0 (costs txn.id s.moment 0 txn.actions s.docs)
-
-abbrev pub body_cost : State → Body → ℕ
-body_cost s no_command = 0
-body_cost s bad_id = 0
-body_cost s (transaction txn) = transaction_cost s txn
 
 -- the sum of the costs of the command's queries, each over the dataset that it is asked of
 abbrev pub request_cost : State → ℕ → Request → ℕ
@@ -81,9 +64,7 @@ line_cost s n line = command_cost s n (line_command line)
 -- The counter rose by at most this cost, if the queries are simple and the changes of the step
 -- touch no record that a live query keeps.
 abbrev pub VisitsFew : Bool → ℕ → Core → Stepped State → ℕ → ℕ → Type 0
-VisitsFew simple cost old out before after =
-    simple ≡ true → IsUntouched old.live (changes_between (docs old.docs) out.state.docs)
-    → after ≤ before + cost
+VisitsFew simple cost old out before after = held.VisitsFew simple cost old.state out before after
 
 -- The counter rose by at most this cost, if the queries of the line and all live queries are
 -- simple: a commit adds nothing for these.

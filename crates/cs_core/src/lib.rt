@@ -7,7 +7,6 @@ mod live;
 mod machine;
 mod moment;
 mod query;
-mod transact;
 
 pub use laws::simple_lines_keep_lives_simple;
 pub use machine::{Core, CoreFault, Replies};

@@ -52,7 +52,7 @@ impl Core {
                 out,
             ),
             Err(fault) => match no_query(&fault) {
-                Some(why) => self.refuse(why, line, out),
+                Some(why) => self.state.refuse(why, line, out),
                 None => Err(NoMemory),
             },
         }
@@ -76,11 +76,11 @@ impl Core {
         ensures kept { OnErr result (IsKept self.old self.new) }
     {
         let Ok(predicate) = Plain::from_query(query) else {
-            return self.refuse(Refusal::NotListenable, line, out);
+            return self.state.refuse(Refusal::NotListenable, line, out);
         };
-        if self.live.has(name.as_str()) {
+        if self.state.live.has(name.as_str()) {
             let name = name.as_str();
-            return self.refuse(Refusal::NameUsed { name }, line, out);
+            return self.state.refuse(Refusal::NameUsed { name }, line, out);
         }
         self.welcome(
             name,
@@ -116,6 +116,7 @@ impl Core {
         let begun = out.len();
         Reply::Welcome(named.as_str()).write(self.alloc, line, out)?;
         match self
+            .state
             .listeners
             .add_predicate(name, predicate, params, include_result, include_previous)
         {
@@ -136,7 +137,7 @@ impl Core {
         out: &mut Vec<u8>,
     ) -> Result<Tally, NoMemory>
         requires usable { IsUsable self.now }
-        requires fault { NotTaken name.now (listeners self.now.listeners) fault }
+        requires fault { NotTaken name.now (listeners self.now.state.listeners) fault }
         requires free { is_named name.now (state self.now).lives ≡ false }
         ensures { (f : Expression) (ps : Pairs) (a b : Bool)
             → IfOk result (λ tally. Does out.old.items out.new.items tally self.now line
@@ -144,10 +145,11 @@ impl Core {
     {
         match fault {
             ListenFault::NotListenable => unreachable!(),
-            ListenFault::NameUsed => self.refuse(Refusal::NameUsed { name }, line, out),
+            ListenFault::NameUsed => self.state.refuse(Refusal::NameUsed { name }, line, out),
             ListenFault::Full => {
                 let limit = MOST_LISTENERS;
-                self.refuse(Refusal::FullSubscriptions { limit }, line, out)
+                self.state
+                    .refuse(Refusal::FullSubscriptions { limit }, line, out)
             }
             ListenFault::NoMemory => Err(NoMemory),
         }
@@ -165,8 +167,8 @@ impl Core {
             (row_stop (state self.old) name.now)) }
         ensures kept { OnErr result (IsKept self.old self.new) }
     {
-        if !self.live.has(name) && !self.listeners.has(name) {
-            return self.refuse(Refusal::NoName { name }, line, out);
+        if !self.state.live.has(name) && !self.state.listeners.has(name) {
+            return self.state.refuse(Refusal::NoName { name }, line, out);
         }
         Reply::Stopped(name).write(self.alloc, line, out)?;
         self.forget(name);
@@ -180,7 +182,7 @@ impl Core {
         ensures usable { IsUsable self.new }
     {
         self.forget_live(name);
-        match self.listeners.remove(name) {
+        match self.state.listeners.remove(name) {
             Ok(()) => {}
             Err(_none) => {}
         }

@@ -9,9 +9,7 @@ ghost use Rattle.cs_meaning.specs.Hits.{cost};
 ghost use Rattle.cs_parse.specs.Verdict.{verdict};
 ghost use Rattle.cs_plan.specs.Simple.{is_simple};
 ghost use Rattle.cs_txn.specs.Visits.{is_simple_reading, reading_cost};
-ghost use Rattle.cs_reply.specs.Reply.{reply_tree};
-ghost use Rattle.cs_reply.specs.View.{Appended};
-ghost use Rattle.cs_machine.specs.Rows.{row_live, subscribing, lively, live_reply};
+ghost use Rattle.cs_machine.specs.Rows.{row_live, subscribing, lively};
 ghost use Rattle.cs_machine.specs.State.{with_lives};
 ghost use Rattle.cs_core.specs.Core.{state, with_one_live, IsUsable};
 ghost use Rattle.cs_core.specs.Does.{Does, IsKept};
@@ -19,30 +17,14 @@ ghost use Rattle.cs_core.specs.Does.{Does, IsKept};
 use crate::machine::{Core, ONE_ANSWER};
 use cs_gen::Tally;
 use cs_index::Indexed;
-use cs_json::Node;
 use cs_live::{LiveFault, LiveLine, MOST_LIVES};
 use cs_parse::parse;
 use cs_refusal::no_query;
-use cs_reply::{Refusal, Reply};
+use cs_reply::Refusal;
+use cs_state::write_answer;
 use cs_syntax::Query;
 use cs_value::{Fields, NoMemory, Steps, Txt};
-use std::alloc::Global;
 use std::sync::ledger::Ledger;
-
-// The answer of a live query.
-pub(crate) fn write_answer(
-    alloc: Global,
-    answer: &LiveLine,
-    line: u32,
-    out: &mut Vec<u8>,
-) -> Result<(), NoMemory>
-    ensures { OnOk result (Appended out.old.items out.new.items (reply_tree line
-        (live_reply (said answer.now)))) }
-{
-    let name = answer.name.as_str();
-    let node = Node::Value(&answer.answer);
-    Reply::Live { name, answer: node }.write(alloc, line, out)
-}
 
 impl Core {
     // A live query, where the text is a query.
@@ -66,7 +48,7 @@ impl Core {
         match parse(self.alloc, text) {
             Ok(query) => self.subscribe(name, query, params, line, steps, out),
             Err(fault) => match no_query(&fault) {
-                Some(why) => self.refuse(why, line, out),
+                Some(why) => self.state.refuse(why, line, out),
                 None => Err(NoMemory),
             },
         }
@@ -91,9 +73,9 @@ impl Core {
         ensures visits { is_simple (expression_of query) ≡ true → steps.new ≤ steps.old
             + cost (expression_of query) (fields params) (state self.old).docs }
     {
-        if self.listeners.has(name.as_str()) {
+        if self.state.listeners.has(name.as_str()) {
             let name = name.as_str();
-            return self.refuse(Refusal::NameUsed { name }, line, out);
+            return self.state.refuse(Refusal::NameUsed { name }, line, out);
         }
         let named = Txt::copy_of(self.alloc, name.as_str())?;
         match self.add_live(name, query, params, steps) {
@@ -106,11 +88,12 @@ impl Core {
             },
             Err(LiveFault::NameUsed) => {
                 let name = named.as_str();
-                self.refuse(Refusal::NameUsed { name }, line, out)
+                self.state.refuse(Refusal::NameUsed { name }, line, out)
             }
             Err(LiveFault::Full) => {
                 let limit = MOST_LIVES;
-                self.refuse(Refusal::FullSubscriptions { limit }, line, out)
+                self.state
+                    .refuse(Refusal::FullSubscriptions { limit }, line, out)
             }
             Err(LiveFault::NoMemory) => Err(NoMemory),
         }
@@ -137,8 +120,8 @@ impl Core {
         ensures visits { is_simple (expression_of query) ≡ true → steps.new ≤ steps.old
             + cost (expression_of query) (fields params) (state self.old).docs }
     {
-        let store = Indexed::of(&self.docs, &self.index);
-        let line = self.live.add(name, query, params, &store, steps)?;
+        let store = Indexed::of(&self.state.docs, &self.state.index);
+        let line = self.state.live.add(name, query, params, &store, steps)?;
         Ok(line)
     }
 
@@ -149,7 +132,7 @@ impl Core {
             (state self.old) }
         ensures usable { IsUsable self.new }
     {
-        match self.live.remove(name) {
+        match self.state.live.remove(name) {
             Ok(()) => {}
             Err(_none) => {}
         }

@@ -7,40 +7,32 @@ ghost use Rattle.cs_value.specs.Tree.{widest};
 ghost use Rattle.cs_wire.specs.View.{request};
 ghost use Rattle.cs_wire.specs.Within.{IsWithin};
 ghost use Rattle.cs_docs.specs.Store.{docs as docs_of};
-ghost use Rattle.cs_reply.specs.View.{refusal};
 ghost use Rattle.cs_wire.specs.Blank.{is_blank};
 ghost use Rattle.cs_machine.specs.Machine.{deepest_line};
 ghost use Rattle.cs_gen.specs.Tally.{IsTally};
-ghost use Rattle.cs_core.specs.Core.{state, IsFitting, IsSound, IsUsable};
-ghost use Rattle.cs_index.specs.View.{store_of};
+ghost use Rattle.cs_core.specs.Core.{state, IsSound, IsUsable};
 ghost use Rattle.cs_core.specs.Does.{Does, Leaves, LeavesAfter, step_writes, step_state, step_replies};
 ghost use Rattle.cs_wire.specs.Rows.{command};
 ghost use Rattle.cs_machine.specs.Machine.{by_command, heard, step};
-ghost use Rattle.cs_machine.specs.Refused.{refuse};
 ghost use Rattle.cs_machine.specs.Rows.{row};
 ghost use Rattle.cs_machine.specs.State.{begun};
 ghost use Rattle.cs_core.specs.Visits.{CostsAtMost, VisitsFew, is_simple_line, is_simple_command, is_simple_request, line_cost, command_cost, request_cost, read_command};
 
 use cs_docs::Docs;
 use cs_gen::Tally;
-use cs_index::{Index, Indexed};
 use cs_io::Line;
 use cs_json::{JsonFault, ValueReader};
-use cs_listen::Listeners;
-use cs_live::{Live, simple_lives_ask_nothing};
-use cs_reply::{Refusal, Reply};
-use cs_value::{NoMemory, Steps, Txt, Val};
+use cs_live::simple_lives_ask_nothing;
+use cs_reply::Refusal;
+use cs_state::State;
+use cs_value::{NoMemory, Steps, Val};
 use cs_wire::{BadCommand, Command, commands_are_within, is_blank};
-use indexmap::IndexSet;
 use std::alloc::Global;
 use std::hash::RandomState;
 use std::sync::ledger::Ledger;
 
 // How many levels of lists and objects a line may nest.
 const DEEPEST_LINE: u32 = 64;
-
-// The moment at which every run begins.
-const FIRST_MOMENT: &str = "1970-01-01T00:00:00Z";
 
 // The tally of one reply, by what it says.
 pub(crate) const ONE_REPLY: Tally = Tally {
@@ -55,13 +47,6 @@ pub(crate) const ONE_ANSWER: Tally = Tally {
     events: 0,
     live: 1,
     refused: 0,
-};
-
-pub(crate) const ONE_REFUSAL: Tally = Tally {
-    replies: 1,
-    events: 0,
-    live: 0,
-    refused: 1,
 };
 
 /// Why a step has no replies.
@@ -97,8 +82,9 @@ impl Replies {
     }
 }
 
-/// The machine: the documents that the lines so far have left, the moment, the ids of accepted
-/// transactions in the order in which they were, the live queries and the listeners.
+/// The machine: its reader of lines, and the state that the lines so far have left: the documents,
+/// the moment, the ids of accepted transactions in the order in which they were, the live queries
+/// and the listeners.
 ///
 /// Its index finds the documents that have a key. No reply depends on the seed of the index.
 ///
@@ -109,13 +95,7 @@ impl Replies {
 pub struct Core {
     pub(crate) alloc: Global,
     reader: ValueReader,
-    pub(crate) docs: Docs,
-    pub(crate) index: Index,
-    pub(crate) moment: Txt,
-    pub(crate) used: IndexSet<String>,
-    pub(crate) live: Live,
-    pub(crate) listeners: Listeners,
-    pub(crate) spent: bool,
+    pub(crate) state: State,
 }
 
 impl Core {
@@ -125,17 +105,10 @@ impl Core {
         ensures begun { IfOk result (λ core. state core ≡ begun (docs_of docs)) }
         ensures usable { IfOk result (λ core. IsUsable core) }
     {
-        let index = Index::build(alloc, seed, &docs)?;
         Ok(Core {
             alloc,
             reader: ValueReader::new(alloc),
-            docs,
-            index,
-            moment: Txt::copy_of(alloc, FIRST_MOMENT)?,
-            used: IndexSet::new(alloc),
-            live: Live::new(alloc, seed),
-            listeners: Listeners::new(alloc, seed),
-            spent: false,
+            state: State::new(alloc, seed, docs)?,
         })
     }
 
@@ -143,15 +116,7 @@ impl Core {
     pub fn docs(&self) -> &Docs
         ensures { docs_of result.now ≡ (state self.now).docs }
     {
-        &self.docs
-    }
-
-    // The documents with their index.
-    pub(crate) fn store(&self) -> Indexed<'_>
-        requires { IsFitting self.now }
-        ensures { store_of result ≡ self.now.docs }
-    {
-        Indexed::of(&self.docs, &self.index)
+        &self.state.docs
     }
 
     /// One step of the machine: the replies to the line, as the plain machine gives them, and its
@@ -179,11 +144,12 @@ impl Core {
             (step_replies (state self.old) line.now.number line.now.bytes.items)) }
         ensures state { OnOk result (state self.new ≡ step_state (state self.old) line.now.number
             line.now.bytes.items) }
-        ensures unspent { OnOk result ((self.old.spent ≡ false) × (self.new.spent ≡ false)) }
+        ensures unspent { OnOk result ((self.old.state.spent ≡ false)
+            × (self.new.state.spent ≡ false)) }
         ensures sound { IsSound self.new }
         ensures leaves { IfErr result (λ fault. LeavesAfter fault self.old self.new
             (step (state self.old) line.now.number line.now.bytes.items)) }
-        ensures blank { self.old.spent ≡ false → is_blank line.now.bytes.items ≡ true
+        ensures blank { self.old.state.spent ≡ false → is_blank line.now.bytes.items ≡ true
             → IsOk result }
         ensures visits { VisitsFew (is_simple_line line.now.number line.now.bytes.items)
             (line_cost (state self.old) line.now.number line.now.bytes.items) self.old
@@ -193,7 +159,7 @@ impl Core {
             steps.old steps.new }
     {
         simple_lives_ask_nothing();
-        if self.spent {
+        if self.state.spent {
             return Err(CoreFault::Spent);
         }
         let mut bytes = Vec::new(self.alloc);
@@ -227,21 +193,6 @@ impl Core {
         self.hear(line.number, line.bytes.as_slice(), steps, out)
     }
 
-    // The line is refused.
-    pub(crate) fn refuse(
-        &self,
-        why: Refusal<'_>,
-        line: u32,
-        out: &mut Vec<u8>,
-    ) -> Result<Tally, NoMemory>
-        requires usable { IsUsable self.now }
-        ensures { IfOk result (λ tally. Does out.old.items out.new.items tally self.now line
-            (refuse (state self.now) (refusal why.entry))) }
-    {
-        Reply::Refused(why).write(self.alloc, line, out)?;
-        Ok(ONE_REFUSAL)
-    }
-
     // A line that is not blank.
     fn hear<L: Ledger>(
         &mut self,
@@ -264,9 +215,9 @@ impl Core {
     {
         match self.reader.read(line, DEEPEST_LINE) {
             Ok(val) => self.command(val, number, steps, out),
-            Err(JsonFault::NotJson) => self.refuse(Refusal::NotJson, number, out),
-            Err(JsonFault::TooDeep) => self.refuse(Refusal::TooDeep, number, out),
-            Err(JsonFault::NotWhole) => self.refuse(Refusal::NotWhole, number, out),
+            Err(JsonFault::NotJson) => self.state.refuse(Refusal::NotJson, number, out),
+            Err(JsonFault::TooDeep) => self.state.refuse(Refusal::TooDeep, number, out),
+            Err(JsonFault::NotWhole) => self.state.refuse(Refusal::NotWhole, number, out),
             Err(JsonFault::NoMemory) => Err(NoMemory),
         }
     }
@@ -292,7 +243,7 @@ impl Core {
         commands_are_within();
         match Command::read(self.alloc, val) {
             Ok(command) => self.run(command, line, steps, out),
-            Err(BadCommand) => self.refuse(Refusal::BadCommand, line, out),
+            Err(BadCommand) => self.state.refuse(Refusal::BadCommand, line, out),
         }
     }
 
@@ -315,7 +266,7 @@ impl Core {
             (row (state self.old) line (request command)) steps.old steps.new }
     {
         match command {
-            Command::Mutate { body } => self.mutate(body, line, steps, out),
+            Command::Mutate { body } => self.state.mutate(body, line, steps, out),
             Command::Query { text, params } => {
                 self.query(text.as_str(), &params, line, steps, out)
             }

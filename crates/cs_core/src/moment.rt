@@ -24,10 +24,10 @@ impl Core {
         ensures kept { OnErr result (IsKept self.old self.new) }
     {
         if !is_moment(moment.as_str()) {
-            return self.refuse(Refusal::BadMoment, line, out);
+            return self.state.refuse(Refusal::BadMoment, line, out);
         }
         Reply::Set(moment.as_str()).write(self.alloc, line, out)?;
-        self.moment = moment;
+        self.state.moment = moment;
         Ok(ONE_REPLY)
     }
 }

@@ -55,7 +55,7 @@ impl Core {
         ensures does { IfOk result (λ tally. Does out.old.items out.new.items tally self.now line
             (row_query (state self.now) text.now (fields params.now))) }
         ensures visits { is_simple_reading (verdict text.now) ≡ true → steps.new ≤ steps.old
-            + reading_cost (docs_of self.now.docs) (fields params.now) (verdict text.now) }
+            + reading_cost (docs_of self.now.state.docs) (fields params.now) (verdict text.now) }
     {
         match parse(self.alloc, text) {
             Ok(query) => {
@@ -63,7 +63,7 @@ impl Core {
                 Ok(ONE_REPLY)
             }
             Err(fault) => match no_query(&fault) {
-                Some(why) => self.refuse(why, line, out),
+                Some(why) => self.state.refuse(why, line, out),
                 None => Err(NoMemory),
             },
         }
@@ -80,13 +80,13 @@ impl Core {
     ) -> Result<(), NoMemory>
         requires fitting { IsFitting self.now }
         ensures appended { OnOk result (Appended out.old.items out.new.items (reply_tree line
-            (found_reply (query_value (docs_of self.now.docs) (fields params.now)
+            (found_reply (query_value (docs_of self.now.state.docs) (fields params.now)
             (expression_of query.now))))) }
         ensures visits { is_simple (expression_of query.now) ≡ true → steps.new ≤ steps.old
-            + cost (expression_of query.now) (fields params.now) (docs_of self.now.docs) }
+            + cost (expression_of query.now) (fields params.now) (docs_of self.now.state.docs) }
     {
         let mut keys = Record::new(self.alloc);
-        let store = self.store();
+        let store = self.state.store();
         let found = eval(self.alloc, query, params, &store, &mut keys, steps)?;
         write_found(self.alloc, found, line, out)
     }

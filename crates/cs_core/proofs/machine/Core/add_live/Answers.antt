@@ -6,7 +6,7 @@ returns-in_err-line-clause-usable g c =
     record {
       unspent = c.requires.usable.unspent;
       fitting = record {
-        lives = c.in_err-line.ensures.fits_still (docs c.args.self.now.docs)
+        lives = c.in_err-line.ensures.fits_still (docs c.args.self.now.state.docs)
             c.requires.usable.fitting.lives;
         index = c.requires.usable.fitting.index;
       };

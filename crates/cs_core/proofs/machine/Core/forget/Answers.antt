@@ -11,7 +11,7 @@ returns-in-Err-clause-state c =
     let name = c.args.name.now in
     let mid = c.forget_live.new.self in
     let old = state c.args.self.now in
-    let heard = listeners mid.listeners in
+    let heard = listeners mid.state.listeners in
     let left = with_lives (without_name name old.lives) old in
     let is = c.forget_live.ensures.state in
     ap (λ ls. with_listeners ls (state mid))

@@ -1,0 +1,9 @@
+//! The state of the store's machine, and what a transaction does to it.
+#![tactic(auto)]
+
+mod answer;
+mod state;
+mod transact;
+
+pub use answer::write_answer;
+pub use state::State;
