@@ -25,13 +25,16 @@ onward-null Over enter step rest s h = h
 onward-null After enter step rest s h = ap (entered enter rest) s ∙ entered-null enter rest h
 onward-null Ends enter step rest s h = refl
 
-sliced-null : (i j : Option ℤ) (closed : Bool) → sliced i j closed null ≡ null
-sliced-null (Some i) (Some j) closed = refl
-sliced-null (Some i) None closed = refl
+sliced-null : (i j : Option (Option ℤ)) (closed : Bool) → sliced i j closed null ≡ null
+sliced-null (Some (Some i)) (Some (Some j)) closed = refl
+sliced-null (Some (Some i)) (Some None) closed = refl
+sliced-null (Some (Some i)) None closed = refl
+sliced-null (Some None) j closed = refl
 sliced-null None j closed = refl
 
 bracket-null : (b : Bracketed) (passes : Tree → Bool) → in_bracket b passes null ≡ null
-bracket-null (position n) passes = refl
+bracket-null (position (Some n)) passes = refl
+bracket-null (position None) passes = refl
 bracket-null (named w) passes = refl
 bracket-null condition passes = refl
 

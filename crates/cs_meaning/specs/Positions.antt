@@ -18,9 +18,10 @@ abbrev pub place_in : ℕ → ℤ → Option ℕ
 place_in n (pos i) = if nat_lt i n then Some i else None
 place_in n (negsuc i) = None
 
--- `[n]`: the element at a position, null of anything but a list.
-abbrev pub element : ℤ → Tree → Tree
-element n v = of_list (λ ts. element_at ts (counted (length ts) n)) v
+-- `[n]`: the element at a position, null of anything but a list, and where the number has no value.
+abbrev pub element : Option ℤ → Tree → Tree
+element None v = null
+element (Some n) v = of_list (λ ts. element_at ts (counted (length ts) n)) v
 
 -- A place brought between 0 and the length.
 abbrev pub clamped : ℕ → ℤ → ℕ
@@ -38,7 +39,7 @@ elements_between i j closed ts =
     drop (clamped n (counted n i)) (take (clamped n (behind closed (counted n j))) ts)
 
 -- `[i..j]`, and `[i...j]` where it is not closed: null of anything but a list, and where an end is
--- no position.
-abbrev pub sliced : Option ℤ → Option ℤ → Bool → Tree → Tree
-sliced (Some i) (Some j) closed v = of_list (λ ts. list_of (elements_between i j closed ts)) v
+-- no position, or a number without a value.
+abbrev pub sliced : Option (Option ℤ) → Option (Option ℤ) → Bool → Tree → Tree
+sliced (Some (Some i)) (Some (Some j)) closed v = of_list (λ ts. list_of (elements_between i j closed ts)) v
 sliced i j closed v = null

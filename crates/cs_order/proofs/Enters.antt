@@ -81,13 +81,15 @@ between-first i j k false ts h =
     ap (λ (e : ℕ). drop (min i (length (take k ts))) (take (min e (length (take k ts))) (take k ts))) h
     ∙ (cut i k ts ∙ ap (λ (e : ℕ). drop (min i (length ts)) (take (min e (length ts)) ts)) (sym h))
 
-sliced-first : (i j : Option ℤ) (closed : Bool) (k : ℕ) (v : Tree) → slice_end i j closed ≡ Some k → sliced i j closed (first_elements (Some k) v) ≡ sliced i j closed v
+sliced-first : (i j : Option (Option ℤ)) (closed : Bool) (k : ℕ) (v : Tree) → slice_end i j closed ≡ Some k → sliced i j closed (first_elements (Some k) v) ≡ sliced i j closed v
 sliced-first None j closed k v h = refl
-sliced-first (Some i) None closed k v h = refl
-sliced-first (Some (pos i)) (Some (pos j)) closed k v h =
+sliced-first (Some None) j closed k v h = refl
+sliced-first (Some (Some i)) None closed k v h = refl
+sliced-first (Some (Some i)) (Some None) closed k v h = refl
+sliced-first (Some (Some (pos i))) (Some (Some (pos j))) closed k v h =
     by-first (λ ts. list_of (elements_between (pos i) (pos j) closed ts)) k (λ ts. ap list_of (between-first i j k closed ts (some-is _ k h))) v
-sliced-first (Some (negsuc i)) (Some j) closed k v h = cc
-sliced-first (Some (pos i)) (Some (negsuc j)) closed k v h = cc
+sliced-first (Some (Some (negsuc i))) (Some (Some j)) closed k v h = cc
+sliced-first (Some (Some (pos i))) (Some (Some (negsuc j))) closed k v h = cc
 
 -- elements
 found-first : (n : ℕ) (ts : List Tree) → slice_get (take (suc n) ts) n ≡ slice_get ts n
@@ -95,7 +97,7 @@ found-first n [] = refl
 found-first zero (t ∷ ts) = refl
 found-first (suc n) (t ∷ ts) = found-first n ts
 
-element-first : (n k : ℕ) (v : Tree) → n + 1 ≡ k → element (pos n) (first_elements (Some k) v) ≡ element (pos n) v
+element-first : (n k : ℕ) (v : Tree) → n + 1 ≡ k → element (Some (pos n)) (first_elements (Some k) v) ≡ element (Some (pos n)) v
 element-first n k v h =
     let e : k ≡ suc n = omega (arith, h) in
     by-first (λ ts. element_at ts (pos n)) k (λ ts. ap (λ (o : Option Tree). unwrap_or o null) (ap (λ (m : ℕ). slice_get (take m ts) n) e ∙ found-first n ts)) v
@@ -113,24 +115,26 @@ element-whole (Taking takes gives) = refl
 bracket-first : (docs : List Tree) (params : Pairs) (b : Bracketed) (passes : Tree → Bool) (ss : Steps) (scope : List Tree) (k : ℕ) (v : Tree) → bracket_end b ≡ Some k
     → entered (entrance (kind_before (bracket_form b) (kind ss))) (λ w. onward (way (bracket_form b) (kind ss)) (entrance (kind ss)) (in_bracket b passes) (rest_value docs params ss scope) w) (first_elements (Some k) v)
     ≡ entered (entrance (kind_before (bracket_form b) (kind ss))) (λ w. onward (way (bracket_form b) (kind ss)) (entrance (kind ss)) (in_bracket b passes) (rest_value docs params ss scope) w) v
-bracket-first docs params (position (pos n)) passes ss scope k v h =
+bracket-first docs params (position (Some (pos n))) passes ss scope k v h =
     let whole = element-whole (kind ss) in
-    let rest : Tree → Tree = λ w. rest_value docs params ss scope (element (pos n) w) in
+    let rest : Tree → Tree = λ w. rest_value docs params ss scope (element (Some (pos n)) w) in
     ap (λ (e : Entrance). entered e rest (first_elements (Some k) v)) whole
     ∙ (ap (rest_value docs params ss scope) (element-first n k v (some-is _ k h)) ∙ sym (ap (λ (e : Entrance). entered e rest v) whole))
-bracket-first docs params (position (negsuc n)) passes ss scope k v h = cc
+bracket-first docs params (position (Some (negsuc n))) passes ss scope k v h = cc
+bracket-first docs params (position None) passes ss scope k v h = cc
 bracket-first docs params (named w) passes ss scope k v h = cc
 bracket-first docs params condition passes ss scope k v h = cc
 
 bracket-looks : (docs : List Tree) (params : Pairs) (b : Bracketed) (passes : Tree → Bool) (looks : Tree → List Key) (ss : Steps) (scope : List Tree) (k : ℕ) (v : Tree) → bracket_end b ≡ Some k
     → entered_looked (entrance (kind_before (bracket_form b) (kind ss))) (λ w. onward_looked (way (bracket_form b) (kind ss)) (entrance (kind ss)) (in_bracket b passes) (bracket_looked b looks) (rest_looked docs params ss scope) w) (first_elements (Some k) v)
     ≡ entered_looked (entrance (kind_before (bracket_form b) (kind ss))) (λ w. onward_looked (way (bracket_form b) (kind ss)) (entrance (kind ss)) (in_bracket b passes) (bracket_looked b looks) (rest_looked docs params ss scope) w) v
-bracket-looks docs params (position (pos n)) passes looks ss scope k v h =
+bracket-looks docs params (position (Some (pos n))) passes looks ss scope k v h =
     let whole = element-whole (kind ss) in
-    let rest : Tree → List Key = λ w. [] ++ rest_looked docs params ss scope (element (pos n) w) in
+    let rest : Tree → List Key = λ w. [] ++ rest_looked docs params ss scope (element (Some (pos n)) w) in
     ap (λ (e : Entrance). entered_looked e rest (first_elements (Some k) v)) whole
     ∙ (ap (λ (w : Tree). [] ++ rest_looked docs params ss scope w) (element-first n k v (some-is _ k h)) ∙ sym (ap (λ (e : Entrance). entered_looked e rest v) whole))
-bracket-looks docs params (position (negsuc n)) passes looks ss scope k v h = cc
+bracket-looks docs params (position (Some (negsuc n))) passes looks ss scope k v h = cc
+bracket-looks docs params (position None) passes looks ss scope k v h = cc
 bracket-looks docs params (named w) passes looks ss scope k v h = cc
 bracket-looks docs params condition passes looks ss scope k v h = cc
 

@@ -4,13 +4,13 @@ use Rattle.cs_syntax.specs.Expression.{Step, slice, bracket, Steps, no_steps, mo
 use Rattle.cs_plan.specs.Steps.{Bracketed, position, bracketed, position_of}
 
 -- a slice whose ends are both counted from the start looks at no more than those before its end
-abbrev pub slice_end : Option ℤ → Option ℤ → Bool → Option ℕ
-slice_end (Some (pos i)) (Some (pos j)) closed = Some (if closed then j + 1 else j)
+abbrev pub slice_end : Option (Option ℤ) → Option (Option ℤ) → Bool → Option ℕ
+slice_end (Some (Some (pos i))) (Some (Some (pos j))) closed = Some (if closed then j + 1 else j)
 slice_end i j closed = None
 
 -- an element that is counted from the start
 abbrev pub bracket_end : Bracketed → Option ℕ
-bracket_end (position (pos n)) = Some (n + 1)
+bracket_end (position (Some (pos n))) = Some (n + 1)
 bracket_end b = None
 
 abbrev pub step_end : Step → Option ℕ

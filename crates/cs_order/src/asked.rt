@@ -1,17 +1,15 @@
 //! How many of the first elements of a list the rest of a chain looks at.
 ghost use Rattle.std.specs.Prelude.{◌≡◌, ◌≤◌, IfSome, Some, map, pos};
 ghost use Rattle.cs_syntax.specs.Expression.{steps_of};
-ghost use Rattle.cs_syntax.specs.Numbers.{whole_number};
 ghost use Rattle.cs_syntax.specs.View.{expression, step as step_of};
 ghost use Rattle.cs_plan.specs.Steps.{bracketed, position_of as position_in};
-ghost use Rattle.cs_parts.specs.Brackets.{place_of};
 ghost use Rattle.cs_order.specs.Asked.{slice_end, bracket_end, step_end, first_asked};
 
-use cs_parts::{Bracket, Place, bracket_of, position_of};
+use cs_parts::{Bracket, bracket_of, position_of};
 use cs_syntax::{Expr, Step};
 
 // Above this the whole list is sorted: a place among so many would take too long to make.
-const MOST: usize = 256;
+const MOST: i64 = 256;
 
 /// How many of the first elements a rest looks at, where its first step says so and they are few:
 /// 257 at most.
@@ -43,8 +41,8 @@ fn slice_end(from: &Expr, to: &Expr, closed: bool) -> Option<usize>
         (position_in (expression to.now)) closed ≡ Some k) }
     ensures few { IfSome result (λ k. k ≤ 257) }
 {
-    let _start = front(position_of(from)?)?;
-    let end = front(position_of(to)?)?;
+    let _start = front(position_of(from)??)?;
+    let end = front(position_of(to)??)?;
     Some(if closed { end + 1 } else { end })
 }
 
@@ -55,34 +53,19 @@ fn bracket_end(inner: &Expr) -> Option<usize>
     ensures few { IfSome result (λ k. k ≤ 257) }
 {
     match bracket_of(inner) {
-        Bracket::Position(place) => Some(front(place)? + 1),
+        Bracket::Position(place) => Some(front(place?)? + 1),
         _ => None,
     }
 }
 
 // The place, where it is counted from the start and near it.
-fn front(place: Place<'_>) -> Option<usize>
-    ensures place { IfSome result (λ n. place_of place.entry ≡ pos n) }
+fn front(place: i64) -> Option<usize>
+    ensures place { IfSome result (λ n. place ≡ pos n) }
     ensures near { IfSome result (λ n. n ≤ 256) }
 {
-    if place.negative {
+    if place < 0 || place > MOST {
         None
     } else {
-        small(place.digits)
+        Some(place as usize)
     }
-}
-
-// The number, where it is small.
-fn small(digits: &str) -> Option<usize>
-    ensures number { IfSome result (λ n. n ≡ whole_number digits.now) }
-    ensures near { IfSome result (λ n. n ≤ 256) }
-{
-    let mut value: usize = 0;
-    for digit in digits.as_bytes() {
-        value = value * 10 + usize::from(digit.saturating_sub(b'0'));
-        if value > MOST {
-            return None;
-        }
-    }
-    Some(value)
 }

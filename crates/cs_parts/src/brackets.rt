@@ -1,65 +1,59 @@
 //! What stands in the bracket of a step.
-ghost use Rattle.std.specs.Prelude.{◌≡◌, IfSome, IfNone, false, map, drop, option_map};
+ghost use Rattle.std.specs.Prelude.{◌≡◌, ℕ, pos, neg_ℤ, Option, IfSome, IfNone, false, map, drop, option_map};
 ghost use Rattle.cs_syntax.specs.Expression.{steps_of, bracket as bracket_step, more_steps};
 ghost use Rattle.cs_syntax.specs.View.{expression, step as step_of};
-ghost use Rattle.cs_syntax.specs.Numbers.{whole_number};
 ghost use Rattle.cs_plan.specs.Steps.{bracketed, condition, position_of, number_of};
 ghost use Rattle.cs_plan.specs.Simple.{is_filter};
 ghost use Rattle.cs_meaning.specs.Looked.{starts_with_filter};
 ghost use Rattle.cs_parts.specs.Kinds.{kinds_of};
-ghost use Rattle.cs_parts.specs.Brackets.{stands_for, place_of, signed_place};
+ghost use Rattle.cs_parts.specs.Brackets.{stands_for};
 
 use cs_plan::text_of;
-use cs_syntax::{Expr, PreSign, Step};
-
-/// A position as it is written: whether `-` stands in front, and its digits.
-#[derive(Clone, Copy)]
-pub struct Place<'e> {
-    pub negative: bool,
-    pub digits: &'e str,
-}
+use cs_syntax::{Expr, PreSign, Step, written_number};
 
 /// What a bracket asks for: an element, an attribute, or what a condition leaves.
 #[derive(Clone, Copy)]
 pub enum Bracket<'e> {
-    Position(Place<'e>),
+    /// The element at this position, counted from the end where it is below 0: none where the
+    /// profile refuses the number.
+    Position(Option<i64>),
+    /// The attribute of this name.
     Named(&'e str),
+    /// The elements that meet the condition.
     Condition,
 }
 
-// The digits of a number alone.
+// The number so far below 0.
+fn negated(number: Option<i64>) -> Option<i64>
+    ensures { (n : Option ℕ) → number ≡ option_map pos n
+        → result ≡ option_map (λ n. neg_ℤ (pos n)) n }
+{
+    number?.checked_neg()
+}
+
+// The number that an expression is, if it is one alone: one that the profile refuses has no value.
 #[tactic(auto, unfolding(cs_syntax::specs::View::expression))]
-fn number_of(expr: &Expr) -> Option<&str>
-    ensures { option_map (λ s. whole_number s.now) result ≡ number_of (expression expr.now) }
+fn number_of(expr: &Expr) -> Option<Option<i64>>
+    ensures { result ≡ option_map (option_map pos) (number_of (expression expr.now)) }
 {
     match expr {
-        Expr::Number(digits) => Some(digits.as_str()),
+        Expr::Number(number) => Some(written_number(number.as_str())),
         _ => None,
     }
 }
 
-// The place that the digits write.
-fn placed<'e>(negative: bool, digits: Option<&'e str>) -> Option<Place<'e>>
-    ensures { option_map place_of result ≡ option_map (signed_place negative) (option_map (λ s.
-        whole_number s.now) digits.entry) }
-{
-    match digits {
-        Some(digits) => Some(Place { negative, digits }),
-        None => None,
-    }
-}
-
-/// The position that an expression is: a number, or `-` and a number.
+/// The position that an expression is: a number, or `-` and a number. `Some(None)` is a number that
+/// the profile refuses: one with a fraction or an exponent, or above 2^63-1.
 #[tactic(auto, unfolding(cs_syntax::specs::View::expression))]
-pub fn position_of(expr: &Expr) -> Option<Place<'_>>
-    ensures { option_map place_of result ≡ position_of (expression expr.now) }
+pub fn position_of(expr: &Expr) -> Option<Option<i64>>
+    ensures { result ≡ position_of (expression expr.now) }
 {
     match expr {
         Expr::Prefix { signs, operand } => match signs.as_slice() {
-            [PreSign::Minus] => placed(true, number_of(operand)),
+            [PreSign::Minus] => Some(negated(number_of(operand)?)),
             _ => None,
         },
-        _ => placed(false, number_of(expr)),
+        _ => number_of(expr),
     }
 }
 

@@ -19,7 +19,7 @@ mod turns;
 mod visits;
 
 pub use answer::Got;
-pub use brackets::{Bracket, Place, bracket_of, head_filter, position_of};
+pub use brackets::{Bracket, bracket_of, head_filter, position_of};
 pub use calls::{Callee, applied, callee_of, path_arguments, sole};
 pub use cs_meaning::{Entrance, Form, Kind, Shape, Way};
 pub use gathering::{append, elements, flat_elements, gather, settle};

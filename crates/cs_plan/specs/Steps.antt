@@ -5,7 +5,7 @@ use Rattle.cs_value.specs.Tree.{Tree, null}
 use Rattle.cs_value.specs.Pairs.{attribute}
 use Rattle.cs_syntax.specs.declared.tree.PreSign.TheVariants as sign
 use Rattle.cs_syntax.specs.Expression.{Expression, number_literal, text_literal, prefix, Step, attr, bracket, Steps, no_steps, more_steps}
-use Rattle.cs_syntax.specs.Numbers.{whole_number}
+use Rattle.cs_syntax.specs.Numbers.{written_number}
 
 -- The value so many levels out in a scope, 0 being `@` and 1 `^`; null where the scope is too
 -- short: "This", "Parent".
@@ -16,16 +16,17 @@ in_scope level scope = unwrap_or (slice_get scope level) null
 abbrev pub field : List ℕ → Tree → Tree
 field name v = unwrap_or (attribute name v) null
 
--- The number that an expression is, if it is one alone.
-abbrev pub number_of : Expression → Option ℕ
-number_of (number_literal n) = Some (whole_number n)
+-- The number that an expression is, if it is one alone: one that the profile refuses has no value.
+abbrev pub number_of : Expression → Option (Option ℕ)
+number_of (number_literal n) = Some (written_number n)
 number_of _ = None
 
 -- The position that a number, or `-` and a number, stands for: this project's profile of constants
--- in brackets.
-abbrev pub position_of : Expression → Option ℤ
-position_of (prefix (sign.Minus ∷ []) e) = option_map (λ n. neg_ℤ (pos n)) (number_of e)
-position_of e = option_map pos (number_of e)
+-- in brackets. A number that the profile refuses is a position without a place.
+abbrev pub position_of : Expression → Option (Option ℤ)
+position_of (prefix (sign.Minus ∷ []) e) =
+    option_map (option_map (λ n. neg_ℤ (pos n))) (number_of e)
+position_of e = option_map (option_map pos) (number_of e)
 
 -- The text that an expression is, if it is one alone.
 abbrev pub text_of : Expression → Option (List ℕ)
@@ -35,13 +36,13 @@ text_of _ = None
 -- What a bracket asks for: the element at a position, the attribute of a name, or the elements that
 -- meet a condition.
 pub data Bracketed : Type 0 where
-  position : ℤ → Bracketed
+  position : Option ℤ → Bracketed
   named : List ℕ → Bracketed
   condition : Bracketed
 
 -- A position is an element, a text alone an attribute, and all else a filter: "Element access",
 -- "Attribute access", "Filter".
-abbrev pub bracketed_by : Option ℤ → Option (List ℕ) → Bracketed
+abbrev pub bracketed_by : Option (Option ℤ) → Option (List ℕ) → Bracketed
 bracketed_by (Some n) s = position n
 bracketed_by None (Some s) = named s
 bracketed_by None None = condition

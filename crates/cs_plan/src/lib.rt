@@ -15,7 +15,6 @@ mod steps;
 mod tails;
 
 pub use choice::choose;
-pub use cs_syntax::whole_number;
 pub use given::filter_keys;
 pub use numbers::literal;
 pub use quiet::is_quiet;
