@@ -1,5 +1,6 @@
 -- The transaction that stands in a command: Sanity's HTTP documentation, "Mutations", in this
 -- project's profile.
+use Prim.Native.Char.{code}
 use Rattle.std.specs.Prelude.{ℕ, ℤ, List, [], ◌∷◌, ◌++◌, length, Bool, not, ◌&&◌, ◌||◌, cond, nat_le, ◌==◌, is_some, take, Option, Some, None, option_map, option_and_then, bytes_eq, codes}
 use Rattle.std.specs.List.{list_all}
 use Rattle.std.specs.Fmt.{decimal}
@@ -138,8 +139,11 @@ abbrev pub action : Tree → Option Action
 action t = option_and_then (λ ps. sole_action (attributes ps)) (as_object t)
 
 -- ---- ids
+-- an ASCII letter, a digit, `_` or `-`
 abbrev pub is_tx_byte : ℕ → Bool
-is_tx_byte b = is_between 65 90 b || is_between 97 122 b || is_between 48 57 b || b == 95 || b == 45
+is_tx_byte b =
+    is_between (code "A") (code "Z") b || is_between (code "a") (code "z") b
+    || is_between (code "0") (code "9") b || b == code "_" || b == code "-"
 
 abbrev pub begins : List ℕ → List ℕ → Bool
 begins start s = bytes_eq start (take (length start) s)

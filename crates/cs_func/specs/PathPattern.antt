@@ -1,11 +1,12 @@
 -- Which texts a pattern of `path()` matches: GROQ-1.revision1, "path()". A pattern is cut at its
 -- dots into parts, and what a part matches is this project's profile.
+use Prim.Native.Char.{code}
 use Rattle.std.specs.Prelude.{ℕ, List, [], ◌∷◌, ◌++◌, length, Bool, true, false, not, ◌&&◌, ◌||◌, ◌==◌, nat_lt, if◌then◌else◌, codes}
 use Rattle.std.specs.List.{list_all, slice_split}
 use Rattle.std.specs.Str.{bytes_eq}
 
 abbrev pub is_dot : ℕ → Bool
-is_dot b = b == 46
+is_dot b = b == code "."
 
 -- `**` matches any text, `*` one that is not empty and has no dot, any other part itself
 abbrev pub part_matches : List ℕ → List ℕ → Bool

@@ -1,15 +1,16 @@
 -- Which texts are moments: RFC 3339, "Internet Date/Time Format", of which this project's profile
 -- has whole seconds of UTC alone, with no leap second.
+use Prim.Native.Char.{code}
 use Rattle.std.specs.Prelude.{ℕ, ◌+◌, ◌-◌, ◌*◌, ◌%◌, List, [], ◌∷◌, Bool, true, false, not, ◌&&◌, ◌||◌, cond, nat_le, ◌==◌, take, drop, codes}
 use Rattle.cs_value.specs.Id.{is_between}
 
 -- ---- the form
 abbrev pub is_digit : ℕ → Bool
-is_digit b = is_between 48 57 b
+is_digit b = is_between (code "0") (code "9") b
 
 -- the byte is the one of the pattern, in which `d` stands for any digit
 abbrev pub fits_byte : ℕ → ℕ → Bool
-fits_byte p b = cond (p == 100) (is_digit b) (p == b)
+fits_byte p b = cond (p == code "d") (is_digit b) (p == b)
 
 abbrev pub fits : List ℕ → List ℕ → Bool
 fits [] [] = true
@@ -20,7 +21,7 @@ abbrev pub has_form : List ℕ → Bool
 has_form s = fits (codes "dddd-dd-ddTdd:dd:ddZ") s
 
 -- ---- the numbers
--- a number with some digits more
+-- a number with some digits more: 48 is the code of `0`
 abbrev pub and_digits : ℕ → List ℕ → ℕ
 and_digits n [] = n
 and_digits n (b ∷ bs) = and_digits (10 * n + (b - 48)) bs
