@@ -17,6 +17,7 @@ use Rattle.std.specs.Ordering.{ordering_then, eq_by_cmp}
 use Rattle.cs_view.specs.Dataset.{id_cmp, same_id}
 use Rattle.cs_view.specs.declared.key.Key.{Key}
 use Rattle.cs_view.proofs.Datasets.{same_id-same}
+use Rattle.cs_view.proofs.Booleans.{and-left}
 use Rattle.cs_docs.specs.Store.{doc_at}
 use Rattle.cs_docs.specs.declared.docs.Docs.{Docs}
 use Rattle.cs_index.specs.Picking.{Hits, is_hit, wanted, ArePlacesIn}
@@ -38,12 +39,8 @@ hit_ties : (x y : Hit) → hit_eq x y ≡ eq_by_cmp hit_cmp x y
 hit_ties x y = both_tied (pointwise nat_eq x.0.now y.0.now) (nat_eq x.1 y.1) (id_cmp x.0.now y.0.now) (nat_cmp x.1 y.1) (texts_ties x.0.now y.0.now) (unsigned_ties x.1 y.1)
 
 -- ---- equal hits that follow one another count once
-first_of_two : (a b : Bool) → (a && b) ≡ true → a ≡ true
-first_of_two true b h = refl
-first_of_two false b h = h
-
 same_hit : (y : List ℕ) (g h : Hit) → hit_eq g h ≡ true → same_id y g.0.now ≡ same_id y h.0.now
-same_hit y g h e = ap (same_id y) (same_id-same g.0.now h.0.now (sym (texts_ties g.0.now h.0.now) ∙ first_of_two (pointwise nat_eq g.0.now h.0.now) (nat_eq g.1 h.1) e))
+same_hit y g h e = ap (same_id y) (same_id-same g.0.now h.0.now (sym (texts_ties g.0.now h.0.now) ∙ and-left (pointwise nat_eq g.0.now h.0.now) (nat_eq g.1 h.1) e))
 
 once : (a b c : Bool) → b ≡ a → (a || c) ≡ (a || (b || c))
 once true b c e = refl

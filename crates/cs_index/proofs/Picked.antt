@@ -12,6 +12,7 @@ use Rattle.std.specs.List.{list_any}
 use Rattle.std.specs.List.Sorted.{IsStrictlySortedBy}
 use Rattle.std.specs.Map.{keys_of, lookup}
 use Rattle.std.specs.declared.ops.Bound.TheVariants.{Included}
+use Rattle.std.proofs.Math.Bool.{and-false}
 use Rattle.cs_value.specs.Tree.{Tree}
 use Rattle.cs_view.specs.Document.{id_of, passes}
 use Rattle.cs_view.specs.Dataset.{id_cmp, same_id, At, kept_if}
@@ -30,10 +31,6 @@ use Rattle.cs_index.specs.Picking.{Hits, IsImplied, where_has, wanted, is_hit, i
 use Rattle.cs_index.specs.declared.entry.Entry.{Entry}
 use Rattle.cs_index.proofs.Applied.{same_parts}
 use Rattle.cs_codes.proofs.Listed.{listed}
-
-never : (b : Bool) → (b && false) ≡ false
-never true = refl
-never false = refl
 
 -- an id that is not wanted, and one that is
 pub none_found : (d : Docs) (k : List Key) (y i : List ℕ) (a : Bool) → wanted d k i ≡ None → a ≡ (is_found d k i y || a)
@@ -98,7 +95,7 @@ nothing_found : (d : Docs) (k : List Key) (y : List ℕ) (es : List Entry) → w
 nothing_found d k y [] h = refl
 nothing_found d k y (e ∷ es) h =
     ap (λ w. (passes (λ t. same_id y (id_of t)) (doc_at d e.place) && is_some w) || is_found_among d k es y) h
-    ∙ ap (λ b. b || is_found_among d k es y) (never (passes (λ t. same_id y (id_of t)) (doc_at d e.place)))
+    ∙ ap (λ b. b || is_found_among d k es y) (and-false (passes (λ t. same_id y (id_of t)) (doc_at d e.place)))
     ∙ nothing_found d k y es h
 
 found_there : (d : Docs) (k : List Key) (y : List ℕ) (p : ℕ) (es : List Entry) → wanted d k y ≡ Some p → passes (λ t. same_id y (id_of t)) (doc_at d p) ≡ true → is_here p es ≡ true → is_found_among d k es y ≡ true

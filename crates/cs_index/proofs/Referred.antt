@@ -20,7 +20,7 @@ use Rattle.cs_docs.proofs.Filters.{keep, first_at, first_lesser, filter_same, me
 use Rattle.cs_codes.specs.Codes.{Seed, ref_code, is_among}
 use Rattle.cs_index.specs.Entries.{entry_cmp, entry, AreEntriesOf, side_codes}
 use Rattle.cs_index.specs.Picking.{under}
-use Rattle.cs_index.specs.Referring.{refers, same_referrer, least}
+use Rattle.cs_index.specs.Referring.{refers, referrer_at, least}
 use Rattle.cs_index.specs.declared.entry.Entry.{Entry}
 use Rattle.cs_index.proofs.Picked.{is_here, here_filter, inside_low, inside_all, has_codes}
 
@@ -48,12 +48,23 @@ keep_kept : (f : Tree → Bool) (o : Option Tree) → kept_if f o ≡ keep f o
 keep_kept f None = refl
 keep_kept f (Some u) = refl
 
+-- a document that stands at a place is the one with its id
+stands : (d : Docs) (p : ℕ) (t : Tree) → doc_at d p ≡ Some t → At (id_of t) (docs d) ≡ Some t
+stands d p t h =
+    at-documents d.shelf (id_of t) ∙ (ap (found d.shelf.store) (d.shelf.entered p t h) ∙ h)
+
 -- the referrer at one place is the first of those with the id there
-one_place : (d : Docs) (target : List ℕ) (low : Option (List ℕ)) (o : Option Tree)
-    → same_referrer d target low o ≡ first_among (refers target low) (is_named o) (docs d)
-one_place d target low None = sym (none_among (refers target low) (docs d))
-one_place d target low (Some t) =
-    keep_kept (refers target low) (At (id_of t) (docs d)) ∙ sym (first_at (refers target low) (id_of t) (docs d) (ascending-documents d.shelf))
+one_place : (d : Docs) (target : List ℕ) (low : Option (List ℕ)) (p : ℕ)
+    → referrer_at d target low p ≡ first_among (refers target low) (is_named (doc_at d p)) (docs d)
+one_place d target low p = by_doc (doc_at d p) refl where
+  f : Tree → Bool
+  f = refers target low
+
+  by_doc : (o : Option Tree) → doc_at d p ≡ o → kept_if f o ≡ first_among f (is_named o) (docs d)
+  by_doc None h = sym (none_among f (docs d))
+  by_doc (Some t) h =
+      sym (ap (kept_if f) (stands d p t h))
+      ∙ (keep_kept f (At (id_of t) (docs d)) ∙ sym (first_at f (id_of t) (docs d) (ascending-documents d.shelf)))
 
 regroup : (f q r : Tree → Bool) (es : Tree → Bool) (ds : List Tree)
     → filter (λ u. f u && ((q u || r u) || es u)) ds ≡ filter (λ u. f u && (q u || (r u || es u))) ds
@@ -80,7 +91,7 @@ walked : (d : Docs) (target : List ℕ) (low : Option (List ℕ)) (es : List Ent
 walked d target low [] q = ap first_of (no_more (refers target low) q (docs d))
 walked d target low (e ∷ es) q =
     ap (least d target low es)
-    (ap (lesser (first_among (refers target low) q (docs d))) (one_place d target low (doc_at d e.place))
+    (ap (lesser (first_among (refers target low) q (docs d))) (one_place d target low e.place)
     ∙ sym (first_lesser (refers target low) q (is_named (doc_at d e.place)) (docs d) (ascending-documents d.shelf)))
     ∙ walked d target low es (λ u. q u || is_named (doc_at d e.place) u)
     ∙ ap first_of (regroup (refers target low) q (is_named (doc_at d e.place)) (is_found d es) (docs d))

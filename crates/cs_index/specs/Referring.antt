@@ -4,10 +4,10 @@ use Rattle.std.specs.Prelude.{ℕ, List, [], ◌∷◌, Bool, true, ◌&&◌, Op
 use Rattle.std.specs.Ordering.{is_lt}
 use Rattle.cs_value.specs.Tree.{Tree}
 use Rattle.cs_view.specs.Document.{id_of}
-use Rattle.cs_view.specs.Dataset.{id_cmp, At, kept_if}
+use Rattle.cs_view.specs.Dataset.{id_cmp, kept_if}
 use Rattle.cs_view.specs.Keys.{has_ref}
 use Rattle.cs_shelf.specs.Referring.{above}
-use Rattle.cs_docs.specs.Store.{docs, doc_at}
+use Rattle.cs_docs.specs.Store.{doc_at}
 use Rattle.cs_docs.specs.Suspects.{lesser}
 use Rattle.cs_docs.specs.declared.docs.Docs.{Docs}
 use Rattle.cs_index.specs.declared.entry.Entry.{Entry}
@@ -16,17 +16,9 @@ use Rattle.cs_index.specs.declared.entry.Entry.{Entry}
 abbrev pub refers : List ℕ → Option (List ℕ) → Tree → Bool
 refers target low d = has_ref target d && above low (id_of d)
 
--- the document of the store with the id, where it refers to the target
-abbrev pub referrer : Docs → List ℕ → Option (List ℕ) → List ℕ → Option Tree
-referrer d target low id = kept_if (refers target low) (At id (docs d))
-
--- the store's document with the id of what stands there
-abbrev pub same_referrer : Docs → List ℕ → Option (List ℕ) → Option Tree → Option Tree
-same_referrer d target low None = None
-same_referrer d target low (Some t) = referrer d target low (id_of t)
-
+-- the document at a place, where it refers to the target
 abbrev pub referrer_at : Docs → List ℕ → Option (List ℕ) → ℕ → Option Tree
-referrer_at d target low p = same_referrer d target low (doc_at d p)
+referrer_at d target low p = kept_if (refers target low) (doc_at d p)
 
 -- the id is below that of a document, where one is given
 abbrev pub is_below : List ℕ → Option Tree → Bool

@@ -4,7 +4,7 @@ ghost use Rattle.cs_view.specs.View.{doc as document};
 ghost use Rattle.cs_shelf.specs.Referring.{above};
 ghost use Rattle.cs_docs.specs.Suspects.{lesser};
 ghost use Rattle.cs_index.specs.Picking.{under};
-ghost use Rattle.cs_index.specs.Referring.{referrer, referrer_at, is_below, least};
+ghost use Rattle.cs_index.specs.Referring.{referrer_at, is_below, least};
 
 use crate::entry::Entry;
 use cs_docs::Docs;
@@ -22,40 +22,12 @@ fn is_above(low: Option<&Txt>, id: &Txt) -> bool
     }
 }
 
-// Of two documents the one with the lesser id.
-fn lesser<'d>(one: Option<&'d Doc>, other: Option<&'d Doc>) -> Option<&'d Doc>
-    ensures { option_map (λ d. document d.now) result
-        ≡ lesser (option_map (λ d. document d.now) one.entry)
-        (option_map (λ d. document d.now) other.entry) }
-{
-    let Some(a) = one else { return other };
-    let Some(b) = other else { return Some(a) };
-    if b.id().as_str().cmp(a.id().as_str()) == Ordering::Less {
-        Some(b)
-    } else {
-        Some(a)
-    }
-}
-
 fn is_below(id: &Txt, high: Option<&Doc>) -> bool
     ensures { result ≡ is_below id.now (option_map (λ d. document d.now) high.entry) }
 {
     match high {
         Some(doc) => id.as_str().cmp(doc.id().as_str()) == Ordering::Less,
         None => true,
-    }
-}
-
-// The document with the id, if it refers to the target and stands above `low`.
-fn referrer<'d>(docs: &'d Docs, target: &Txt, low: Option<&Txt>, id: &Txt) -> Option<&'d Doc>
-    ensures { option_map (λ d. document d.now) result
-        ≡ referrer docs.now target.now (option_map (λ i. i.now) low.entry) id.now }
-{
-    let doc = docs.get(id)?;
-    if has_ref(doc.val(), target) && is_above(low, doc.id()) {
-        Some(doc)
-    } else {
-        None
     }
 }
 
@@ -66,29 +38,9 @@ fn is_between(low: Option<&Txt>, id: &Txt, high: Option<&Doc>) -> bool
     is_above(low, id) && is_below(id, high)
 }
 
-// Of a document and the one with the id, if this refers to the target and stands above `low`, the
-// one with the lesser id. A document that can't be the answer is not looked up.
-#[tactic(auto, using(crate::proofs::Nearest::not_between))]
-fn nearer<'d>(
-    docs: &'d Docs,
-    target: &Txt,
-    low: Option<&Txt>,
-    id: &Txt,
-    least: Option<&'d Doc>,
-) -> Option<&'d Doc>
-    ensures { option_map (λ d. document d.now) result
-        ≡ lesser (option_map (λ d. document d.now) least.entry)
-        (referrer docs.now target.now (option_map (λ i. i.now) low.entry) id.now) }
-{
-    if is_between(low, id, least) {
-        lesser(least, referrer(docs, target, low, id))
-    } else {
-        least
-    }
-}
-
 // Of a document and the one at a place, if this refers to the target and stands above `low`, the
-// one with the lesser id.
+// one with the lesser id. A document that can't be the answer is not walked over.
+#[tactic(auto, using(crate::proofs::Nearest::nearer))]
 fn nearer_at<'d>(
     docs: &'d Docs,
     target: &Txt,
@@ -101,8 +53,10 @@ fn nearer_at<'d>(
         (referrer_at docs.now target.now (option_map (λ i. i.now) low.entry) place) }
 {
     match docs.found(place) {
-        Some(found) => nearer(docs, target, low, found.id(), least),
-        None => least,
+        Some(found) if is_between(low, found.id(), least) && has_ref(found.val(), target) => {
+            Some(found)
+        }
+        _ => least,
     }
 }
 

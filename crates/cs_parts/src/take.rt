@@ -95,11 +95,8 @@ pub fn reference_of(val: &Val) -> Option<&Txt>
     let Val::Obj(object) = val else {
         return None;
     };
-    if object.get("_dataset").is_some() {
-        return None;
-    }
     match object.get("_ref") {
-        Some(Val::Text(text)) => Some(text),
+        Some(Val::Text(text)) if object.get("_dataset").is_none() => Some(text),
         _ => None,
     }
 }

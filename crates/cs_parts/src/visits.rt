@@ -43,7 +43,7 @@ fn find<'s, S: Source<C>, C>(
     let Some(id) = id else {
         return Ok(Got::Whole(Val::Null));
     };
-    keys.add(Key::Id(Txt::copy_of(alloc, id.as_str())?))?;
+    keys.add(Key::Id(id.copy(alloc)?))?;
     match source.by_id(id, count) {
         Some(doc) => Ok(Got::Part(doc)),
         None => Ok(Got::Whole(Val::Null)),

@@ -59,7 +59,7 @@ impl Shelf {
     {
         for (_, place) in self.order.iter() {
             let document = self.at(*place);
-            if has_ref(document.val(), target) && is_above(low, document.id()) {
+            if is_above(low, document.id()) && has_ref(document.val(), target) {
                 return Some(document.id());
             }
         }
