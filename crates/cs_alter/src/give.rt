@@ -33,8 +33,8 @@ pub(crate) fn give(alloc: Global, val: Val, names: &[Txt], new: Val) -> Result<V
         return Ok(new);
     };
     let mut object = object_of(alloc, val);
-    let old = object.put(Txt::copy_of(alloc, name.as_str())?, Val::Null)?;
+    let old = object.put(name.copy(alloc)?, Val::Null)?;
     let inner = give(alloc, or_null(old), rest, new)?;
-    drop(object.put(Txt::copy_of(alloc, name.as_str())?, inner)?);
+    drop(object.put(name.copy(alloc)?, inner)?);
     Ok(Val::Obj(object))
 }

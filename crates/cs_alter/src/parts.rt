@@ -2,7 +2,7 @@
 ghost use Rattle.std.specs.Prelude.{◌≡◌, IfOk};
 
 use cs_jsonmatch::Part;
-use cs_value::{NoMemory, Txt};
+use cs_value::NoMemory;
 use std::alloc::Global;
 
 /// A copy of the part. `NoMemory` where the allocator has no room for its name.
@@ -10,7 +10,7 @@ pub fn copy_part(alloc: Global, part: &Part) -> Result<Part, NoMemory>
     ensures { IfOk result (λ copy. copy ≡ part.now) }
 {
     match part {
-        Part::Name(name) => Ok(Part::Name(Txt::copy_of(alloc, name.as_str())?)),
+        Part::Name(name) => Ok(Part::Name(name.copy(alloc)?)),
         Part::Pos(index) => Ok(Part::Pos(*index)),
     }
 }

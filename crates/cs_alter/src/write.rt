@@ -61,7 +61,7 @@ fn alter_member(
         return Ok(());
     };
     alter(alloc, &mut inner, rest, alteration)?;
-    drop(object.put(Txt::copy_of(alloc, name.as_str())?, inner)?);
+    drop(object.put(name.copy(alloc)?, inner)?);
     Ok(())
 }
 

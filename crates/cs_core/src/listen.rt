@@ -112,7 +112,7 @@ impl Core {
             (Some (filter_of predicate)))) }
         ensures kept { OnErr result (IsKept self.old self.new) }
     {
-        let named = Txt::copy_of(self.alloc, name.as_str())?;
+        let named = name.copy(self.alloc)?;
         let begun = out.len();
         Reply::Welcome(named.as_str()).write(self.alloc, line, out)?;
         match self

@@ -77,7 +77,7 @@ impl Core {
             let name = name.as_str();
             return self.state.refuse(Refusal::NameUsed { name }, line, out);
         }
-        let named = Txt::copy_of(self.alloc, name.as_str())?;
+        let named = name.copy(self.alloc)?;
         match self.add_live(name, query, params, steps) {
             Ok(first) => match write_answer(self.alloc, &first, line, out) {
                 Ok(()) => Ok(ONE_ANSWER),

@@ -11,7 +11,7 @@ ghost use Rattle.cs_docs.specs.Verdict.{verdict, fits};
 
 use crate::docs::Docs;
 use crate::prepared::{PrepareFault, Prepared};
-use cs_value::{NoMemory, Txt};
+use cs_value::NoMemory;
 use cs_view::{Change, Doc};
 use std::alloc::Global;
 
@@ -20,7 +20,7 @@ fn entering_change(alloc: Global, document: Doc) -> Result<Change, NoMemory>
     ensures { IfOk result (λ c. edit c ≡ (id_of (doc document), (None, Some (doc document)))) }
 {
     Ok(Change {
-        id: Txt::copy_of(alloc, document.id().as_str())?,
+        id: document.id().copy(alloc)?,
         before: None,
         after: Some(document),
     })

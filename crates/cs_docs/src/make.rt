@@ -11,7 +11,6 @@ use crate::dangling::first_dangling;
 use crate::docs::{Docs, MOST_DOCUMENTS};
 use crate::prepared::{PrepareFault, Prepared};
 use crate::referrers::Referrers;
-use cs_value::Txt;
 use cs_view::Change;
 use std::alloc::Global;
 
@@ -55,8 +54,8 @@ impl Prepared {
             return Err(PrepareFault::Full);
         }
         if let Some(found) = first_dangling(store, &changes, referrers) {
-            let from = Txt::copy_of(alloc, found.from.as_str())?;
-            let to = Txt::copy_of(alloc, found.to.as_str())?;
+            let from = found.from.copy(alloc)?;
+            let to = found.to.copy(alloc)?;
             return Err(PrepareFault::Dangling { from, to });
         }
         Ok(Prepared { changes })

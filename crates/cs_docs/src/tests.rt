@@ -37,7 +37,7 @@ fn one_change(alloc: Global, document: Doc) -> Result<Vec<Change>, NoMemory>
 {
     let mut changes = Vec::new(alloc);
     changes.push(Change {
-        id: Txt::copy_of(alloc, document.id().as_str())?,
+        id: document.id().copy(alloc)?,
         before: None,
         after: Some(document),
     })?;

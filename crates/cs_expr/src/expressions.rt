@@ -23,7 +23,7 @@ use cs_parts::{
 };
 use cs_plan::literal;
 use cs_syntax::{BinSign, Elem, Entry, Expr};
-use cs_value::{Fields, NoMemory, Txt, Val};
+use cs_value::{Fields, NoMemory, Val};
 use cs_view::{Record, Scope};
 use std::alloc::Global;
 
@@ -48,7 +48,7 @@ pub fn eval<'s, S: Source<C>, C>(
         Expr::Null => Ok(Got::Whole(Val::Null)),
         Expr::Bool(b) => Ok(Got::Whole(Val::Bool(*b))),
         Expr::Number(number) => Ok(Got::Whole(literal(number.as_str()))),
-        Expr::Text(text) => Ok(Got::Whole(Val::Text(Txt::copy_of(alloc, text.as_str())?))),
+        Expr::Text(text) => Ok(Got::Whole(Val::Text(text.copy(alloc)?))),
         Expr::Param(name) => Ok(param(params, name.as_str())),
         Expr::Word(name) => Ok(field(at_level(frame, 0), name.as_str())),
         Expr::This => Ok(at_level(frame, 0)),

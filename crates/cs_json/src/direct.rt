@@ -21,7 +21,7 @@ const MOST_LEVELS: usize = 127;
 // An object and a list are gathered where there is room for so many members or items at first, so
 // that the allocator gives the same memory again and again: it is less than a kilobyte, up to which
 // allocators keep blocks at hand.
-const ROOM: usize = 14;
+const ROOM: usize = 18;
 
 /// The value that the bytes are as JSON, if its lists and objects nest at most `deepest` levels and
 /// each of its numbers is whole; an object that it is has room for `room` attributes more. `None`

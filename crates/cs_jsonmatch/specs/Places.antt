@@ -55,24 +55,24 @@ size (object ps) = 0
 
 -- Whether an integer means the position k of a list of so many: k itself, or from the end, where -1
 -- is the last.
-abbrev pub is_position : ℤ → ℕ → ℕ → Bool
-is_position (pos n) count k = nat_eq n k
-is_position (negsuc n) count k = nat_eq (k + suc n) count
+abbrev pub is_at : ℤ → ℕ → ℕ → Bool
+is_at (pos n) count k = nat_eq n k
+is_at (negsuc n) count k = nat_eq (k + suc n) count
 
 -- An end of a range in a list of so many: a negative one has the length added, and then it is
 -- clamped to 0 and the length.
-abbrev pub clamped : ℤ → ℕ → ℕ
-clamped (pos n) count = min n count
-clamped (negsuc n) count = count - suc n
+abbrev pub bound_within : ℤ → ℕ → ℕ
+bound_within (pos n) count = min n count
+bound_within (negsuc n) count = count - suc n
 
 -- An absent first end is 0, an absent second end the length.
 abbrev pub from_end : Option ℤ → ℕ → ℕ
 from_end None count = 0
-from_end (Some n) count = clamped n count
+from_end (Some n) count = bound_within n count
 
 abbrev pub to_end : Option ℤ → ℕ → ℕ
 to_end None count = count
-to_end (Some n) count = clamped n count
+to_end (Some n) count = bound_within n count
 
 -- Whether there is a comparison, and the test holds of it.
 abbrev pub holds : (Ordering → Bool) → Option Ordering → Bool
@@ -101,7 +101,7 @@ selects count (Name m) t (range a b) = false
 selects count (Name m) t every = true
 selects count (Name m) t (named n) = bytes_eq n m
 selects count (Name m) t (meets ns c u) = false
-selects count (Pos k) t (position n) = is_position n count k
+selects count (Pos k) t (position n) = is_at n count k
 selects count (Pos k) t (range a b) = nat_le (from_end a count) k && nat_lt k (to_end b count)
 selects count (Pos k) t every = true
 selects count (Pos k) t (named n) = false

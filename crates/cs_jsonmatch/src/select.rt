@@ -3,7 +3,7 @@ ghost use Rattle.std.specs.Prelude.{◌≡◌, option_map, ℕ, map};
 ghost use Rattle.std.specs.List.{list_any};
 ghost use Rattle.cs_value.specs.Tree.{Tree};
 ghost use Rattle.cs_value.specs.View.{tree};
-ghost use Rattle.cs_jsonmatch.specs.Places.{is_position, clamped, stands, met, selects};
+ghost use Rattle.cs_jsonmatch.specs.Places.{is_at, bound_within, stands, met, selects};
 ghost use Rattle.cs_value.specs.Words.{followed};
 ghost use Rattle.cs_jsonmatch.specs.View.{item_of, items_of, part_of};
 ghost use Rattle.cs_jsonmatch.specs.declared.places.Part.TheVariants.{Pos, Name};
@@ -13,8 +13,8 @@ use crate::places::Key;
 use cs_ops::{equal, partial};
 use cs_value::{Txt, Val};
 
-fn at_position(wanted: i64, count: usize, here: usize) -> bool
-    ensures { result ≡ is_position wanted count here }
+fn is_at(wanted: i64, count: usize, here: usize) -> bool
+    ensures { result ≡ is_at wanted count here }
 {
     if wanted >= 0 {
         wanted as u64 == here as u64
@@ -26,8 +26,8 @@ fn at_position(wanted: i64, count: usize, here: usize) -> bool
     }
 }
 
-fn clamp(end: i64, count: usize) -> usize
-    ensures { result ≡ clamped end count }
+fn bound_within(end: i64, count: usize) -> usize
+    ensures { result ≡ bound_within end count }
 {
     if end >= 0 {
         count.min(end as usize)
@@ -76,14 +76,14 @@ fn selects_at(item: &Item, count: usize, here: usize, val: &Val) -> bool
     ensures { result ≡ selects count (Pos here) (tree val.now) (item_of item.now) }
 {
     match item {
-        Item::Position(wanted) => at_position(*wanted, count, here),
+        Item::Position(wanted) => is_at(*wanted, count, here),
         Item::Range(from, to) => {
             let low = match from {
-                Some(end) => clamp(*end, count),
+                Some(end) => bound_within(*end, count),
                 None => 0,
             };
             let high = match to {
-                Some(end) => clamp(*end, count),
+                Some(end) => bound_within(*end, count),
                 None => count,
             };
             low <= here && here < high

@@ -21,7 +21,7 @@ fn copy_parts(alloc: Global, parts: &[Part]) -> Result<Vec<Part>, NoMemory>
     };
     for part in parts {
         match part {
-            Part::Name(name) => copies.push(Part::Name(Txt::copy_of(alloc, name.as_str())?))?,
+            Part::Name(name) => copies.push(Part::Name(name.copy(alloc)?))?,
             Part::Pos(place) => copies.push(Part::Pos(*place))?,
         }
     }

@@ -74,7 +74,7 @@ impl Entry {
     pub(crate) fn line(&self, alloc: Global) -> Result<LiveLine, NoMemory>
         ensures { IfOk result (λ line. said line ≡ say (live_query self.now)) }
     {
-        let name = Txt::copy_of(alloc, self.name.as_str())?;
+        let name = self.name.copy(alloc)?;
         let answer = self.kept.last().copy(alloc)?;
         Ok(LiveLine { name, answer })
     }

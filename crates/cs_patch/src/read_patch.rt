@@ -73,8 +73,8 @@ impl<'p> ReadPatch<'p> {
             return Ok(());
         }
         Err(PatchFault::Revision {
-            expected: Txt::copy_of(alloc, expected.as_str())?,
-            found: Txt::copy_of(alloc, found.as_str())?,
+            expected: expected.copy(alloc)?,
+            found: found.copy(alloc)?,
         })
     }
 

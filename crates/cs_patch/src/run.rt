@@ -67,7 +67,7 @@ pub(crate) fn take_run(alloc: Global, steps: &mut Vec<Step>) -> Result<Vec<Txt>,
 {
     let mut names = Vec::new(alloc);
     while let Some(name) = last_name(steps) {
-        let copy = Txt::copy_of(alloc, name.as_str())?;
+        let copy = name.copy(alloc)?;
         names.push(copy)?;
         drop(steps.pop());
     }

@@ -29,7 +29,7 @@ fn copy_names(alloc: Global, names: &[Txt]) -> Result<Vec<Txt>, NoMemory>
 {
     let mut copies = Vec::new(alloc);
     for name in names {
-        copies.push(Txt::copy_of(alloc, name.as_str())?)?;
+        copies.push(name.copy(alloc)?)?;
     }
     Ok(copies)
 }

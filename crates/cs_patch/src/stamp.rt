@@ -12,9 +12,9 @@ pub(crate) fn stamp(alloc: Global, val: Val, tx: &Txt, moment: &Txt) -> Result<V
     match val {
         Val::Obj(fields) => {
             let mut object = fields;
-            let rev = Txt::copy_of(alloc, tx.as_str())?;
+            let rev = tx.copy(alloc)?;
             drop(object.put(Txt::copy_of(alloc, "_rev")?, Val::Text(rev))?);
-            let updated = Txt::copy_of(alloc, moment.as_str())?;
+            let updated = moment.copy(alloc)?;
             drop(object.put(Txt::copy_of(alloc, "_updatedAt")?, Val::Text(updated))?);
             Ok(Val::Obj(object))
         }

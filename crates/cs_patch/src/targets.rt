@@ -62,7 +62,7 @@ fn location(alloc: Global, place: &[Part], names: &[Txt]) -> Result<Vec<Part>, N
 {
     let mut parts = copy_parts(alloc, place)?;
     for name in names {
-        parts.push(Part::Name(Txt::copy_of(alloc, name.as_str())?))?;
+        parts.push(Part::Name(name.copy(alloc)?))?;
     }
     Ok(parts)
 }

@@ -80,7 +80,7 @@ fn copied_names(alloc: Global, word: &Txt, steps: &[Step]) -> Result<Names, NoMe
         ≡ path_names word.now (steps_of (map step_of steps.now))) }
 {
     let mut texts = Vec::new(alloc);
-    texts.push(Txt::copy_of(alloc, word.as_str())?)?;
+    texts.push(word.copy(alloc)?)?;
     let mut left = steps;
     while let Some((step, later)) = left.split_first() {
         let Some(name) = name_of(step) else {

@@ -31,7 +31,7 @@ fn why_of(alloc: Global, id: &Txt, fault: PatchFault) -> Why
     ensures { (docs : List Tree) (o : Outcome) → IsPatchFault (λ r. o ≡ refused_by r) fault
         → IsTold (λ c. by_outcome id.now docs o ≡ Err c) result }
 {
-    let Ok(id) = Txt::copy_of(alloc, id.as_str()) else {
+    let Ok(id) = id.copy(alloc) else {
         return Why::NoMemory;
     };
     match fault {
@@ -76,7 +76,7 @@ fn patch_one(
         moment.now id.now (docs_of working.old) ≡ Err c)) }
 {
     let Some(before) = working.get(id) else {
-        let id = Txt::copy_of(alloc, id.as_str())?;
+        let id = id.copy(alloc)?;
         return Err(Why::Missing { id });
     };
     match patch.apply(alloc, before, tx, moment) {

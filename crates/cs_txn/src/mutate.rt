@@ -82,7 +82,7 @@ fn install_new(
         Err(why) => return Err(why),
     };
     if working.stands(id) {
-        let id = Txt::copy_of(alloc, id.as_str())?;
+        let id = id.copy(alloc)?;
         return Err(Why::Exists { id });
     }
     install(alloc, working, body, tx, moment)?;

@@ -45,7 +45,7 @@ fn add(alloc: Global, ids: &mut BTreeSet<Txt>, id: &Txt) -> Result<(), NoMemory>
         ≡ cond (same_id id.now q) true (contains id_cmp ids.old q)) }
     ensures ordered { OnOk result (IsOrdered id_cmp ids.new) }
 {
-    drop(ids.insert(Txt::copy_of(alloc, id.as_str())?)?);
+    drop(ids.insert(id.copy(alloc)?)?);
     Ok(())
 }
 

@@ -91,7 +91,7 @@ impl Txt {
     }
 
     /// The text again, held in `N` places, where it lies in its value and is short enough.
-    pub(crate) fn fitted<const N: usize>(&self) -> Option<Short<N>>
+    pub(crate) fn narrowed<const N: usize>(&self) -> Option<Short<N>>
         requires { N ≤ 30 }
         ensures { IfSome result (λ short. short ≡ self.now) }
     {

@@ -47,7 +47,7 @@ fn change_of(
         return Ok(None);
     }
     Ok(Some(Change {
-        id: Txt::copy_of(alloc, id.as_str())?,
+        id: id.copy(alloc)?,
         before: copied(before)?,
         after: copied(after)?,
     }))

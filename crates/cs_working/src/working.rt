@@ -85,7 +85,7 @@ impl<'d> Working<'d> {
         ensures put { OnOk result (working self.new
             ≡ with_doc (document doc) (working self.old)) }
     {
-        let id = Txt::copy_of(self.alloc, doc.id().as_str())?;
+        let id = doc.id().copy(self.alloc)?;
         drop(self.touched.insert(id)?);
         put_in(&mut self.put, doc)
     }
@@ -96,7 +96,7 @@ impl<'d> Working<'d> {
         ensures removed { OnOk result (working self.new
             ≡ without id.now (working self.old)) }
     {
-        let copy = Txt::copy_of(self.alloc, id.as_str())?;
+        let copy = id.copy(self.alloc)?;
         drop(self.touched.insert(copy)?);
         self.put.remove(id);
         Ok(())

@@ -11,8 +11,8 @@ use std::marker::Model;
 /// The most bytes of a name that lies in its pair and takes no memory of its own.
 const MOST_BESIDE: usize = 14;
 
-/// A name. It takes 16 bytes, and no memory of its own if it has at most 14, as most names have: a
-/// search among names then reads fewer of them than it would of texts. Contracts see it as the list
+/// A name. It takes 16 bytes where a text takes 32, so that a search among names reads less memory,
+/// and none of its own if it has at most 14 bytes, as most names have. Contracts see it as the list
 /// of its bytes.
 #[derive(Drop)]
 pub(crate) struct Name {
@@ -39,7 +39,7 @@ impl Name {
     pub(super) fn of(alloc: Global, text: Txt) -> Result<Name, NoMemory>
         ensures { IfOk result (λ name. name ≡ text) }
     {
-        if let Some(short) = text.fitted() {
+        if let Some(short) = text.narrowed() {
             return Ok(Name {
                 held: Spelled::Beside(short),
             });

@@ -47,14 +47,6 @@ impl<const N: usize> Short<N> {
         }
     }
 
-    /// How many bytes it has.
-    pub(crate) fn len(&self) -> usize
-        ensures len { result ≡ length self.now }
-        ensures fits { result ≤ N }
-    {
-        self.len as usize
-    }
-
     /// The same text where it is held in `M` places, for which it is short enough. `None` where it
     /// is longer.
     pub(crate) fn narrowed<const M: usize>(&self) -> Option<Short<M>>

@@ -6,5 +6,5 @@ use Rattle.cs_alter.proofs.give.+give.Goals as goal
 pub returns : goal.returns
 returns t c =
     tree-Obj c.put-2.new.self
-    ∙ gift_step _ _ _ _ _ _ _ _ _ _ _ _ _ _ c.in-Some.ensures.cases.0 (c.in_ok-copy_of.ensures ∙ c.as_str.ensures) (c.in_ok-copy_of-2.ensures ∙ c.as_str-2.ensures)
+    ∙ gift_step _ _ _ _ _ _ _ _ _ _ _ _ _ _ c.in-Some.ensures.cases.0 c.in_ok-copy.ensures c.in_ok-copy-2.ensures
     c.object_of-object.ensures c.in_ok-old.ensures.replaced c.in_ok-old.ensures.put c.or_null.ensures c.in_ok-inner.ensures c.in_ok-put.ensures.put

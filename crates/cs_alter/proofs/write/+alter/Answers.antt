@@ -25,7 +25,7 @@ alter_member-returns t c =
     (Ascends-entries_tree (out-Fields c.args.object.now).pairs c.len-count.ensures.ordered) in
     member_back c.args.name.now c.as_str.result.now _ f (tree c.in-Some.inner) (tree c.alter.new.val)
     (fields c.args.object.now) (fields c.take.new.self) _ ascends c.as_str.ensures
-    (c.in_ok-copy_of.ensures ∙ c.as_str-2.ensures) c.in-Some.ensures.taken c.in-Some.ensures.left
+    c.in_ok-copy.ensures c.in-Some.ensures.taken c.in-Some.ensures.left
     c.in_ok-alter.ensures c.in_ok-put.ensures.put
 
 pub alter_item-returns-in-Some : goal.alter_item-returns-in-Some

@@ -17,7 +17,7 @@ returns-clause-put c =
     let self = c.args.self.now in
     let d = doc c.args.doc in
     let touched : (q : List ℕ) → contains id_cmp c.insert.new.self q ≡ cond (same_id (id_of d) q) true (contains id_cmp self.touched q) =
-    subst (λ (i : List ℕ). (q : List ℕ) → contains id_cmp c.insert.new.self q ≡ cond (same_id i q) true (contains id_cmp self.touched q)) (c.in_ok-id.ensures ∙ c.as_str.ensures ∙ c.id.ensures) c.in_ok-insert.ensures.updates.0 in
+    subst (λ (i : List ℕ). (q : List ℕ) → contains id_cmp c.insert.new.self q ≡ cond (same_id i q) true (contains id_cmp self.touched q)) (c.in_ok-id.ensures ∙ c.id.ensures) c.in_ok-insert.ensures.updates.0 in
     on_ok c.put_in.result c.put_in.ensures.put
     (λ is. worked_on (base self) (documents self.put) (documents c.put_in.new.shelf) self.touched.keys c.insert.new.self.keys (id_of d) (Some d) (ascending-documents (store_of self.store).shelf) (same_id-refl (id_of d)) touched
     (λ q. ap (At q) is ∙ At-with_doc q d (documents self.put)))
@@ -27,7 +27,7 @@ invariant_of-self-2 c =
     let self = c.args.self.now in
     let d = doc c.args.doc in
     let touched : (q : List ℕ) → contains id_cmp c.insert.new.self q ≡ cond (same_id (id_of d) q) true (contains id_cmp self.touched q) =
-    subst (λ (i : List ℕ). (q : List ℕ) → contains id_cmp c.insert.new.self q ≡ cond (same_id i q) true (contains id_cmp self.touched q)) (c.in_ok-id.ensures ∙ c.as_str.ensures ∙ c.id.ensures) c.in_ok-insert.ensures.updates.0 in
+    subst (λ (i : List ℕ). (q : List ℕ) → contains id_cmp c.insert.new.self q ≡ cond (same_id i q) true (contains id_cmp self.touched q)) (c.in_ok-id.ensures ∙ c.id.ensures) c.in_ok-insert.ensures.updates.0 in
     record {
       noted = either c.put_in.result c.put_in.ensures.put c.put_in.ensures.kept
           (λ is. noted_at (documents self.put) (documents c.put_in.new.shelf) self.touched c.insert.new.self (id_of d) (Some d) self.noted touched (λ q. ap (At q) is ∙ At-with_doc q d (documents self.put)))

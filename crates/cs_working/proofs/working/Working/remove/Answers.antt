@@ -15,7 +15,7 @@ returns-clause-removed c =
     let self = c.args.self.now in
     let id = c.args.id.now in
     let touched : (q : List ℕ) → contains id_cmp c.insert.new.self q ≡ cond (same_id id q) true (contains id_cmp self.touched q) =
-    subst (λ (i : List ℕ). (q : List ℕ) → contains id_cmp c.insert.new.self q ≡ cond (same_id i q) true (contains id_cmp self.touched q)) (c.in_ok-copy.ensures ∙ c.as_str.ensures) c.in_ok-insert.ensures.updates.0 in
+    subst (λ (i : List ℕ). (q : List ℕ) → contains id_cmp c.insert.new.self q ≡ cond (same_id i q) true (contains id_cmp self.touched q)) c.in_ok-copy.ensures c.in_ok-insert.ensures.updates.0 in
     worked_on (base self) (documents self.put) (documents c.remove.new.self) self.touched.keys c.insert.new.self.keys id None (ascending-documents (store_of self.store).shelf) refl touched
     (λ q. ap (At q) c.remove.ensures.removed ∙ At-without q id (documents self.put))
 
@@ -24,7 +24,7 @@ invariant_of-self-2 c =
     let self = c.args.self.now in
     let id = c.args.id.now in
     let touched : (q : List ℕ) → contains id_cmp c.insert.new.self q ≡ cond (same_id id q) true (contains id_cmp self.touched q) =
-    subst (λ (i : List ℕ). (q : List ℕ) → contains id_cmp c.insert.new.self q ≡ cond (same_id i q) true (contains id_cmp self.touched q)) (c.in_ok-copy.ensures ∙ c.as_str.ensures) c.in_ok-insert.ensures.updates.0 in
+    subst (λ (i : List ℕ). (q : List ℕ) → contains id_cmp c.insert.new.self q ≡ cond (same_id i q) true (contains id_cmp self.touched q)) c.in_ok-copy.ensures c.in_ok-insert.ensures.updates.0 in
     record {
       noted = noted_at (documents self.put) (documents c.remove.new.self) self.touched c.insert.new.self id None self.noted touched (λ q. ap (At q) c.remove.ensures.removed ∙ At-without q id (documents self.put));
     }
