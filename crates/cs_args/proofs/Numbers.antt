@@ -5,7 +5,7 @@ use Rattle.std.specs.Borrow.{Bor}
 use Rattle.std.specs.List.{All, slice_index_or}
 use Rattle.std.specs.Str.{bytes_eq}
 use Rattle.std.specs.Str.Parse.{IsNumeral, ParsesUnsigned, digits_value, starts_with_minus, without_leading_plus}
-use Rattle.std.proofs.lemmas.Bool.{ne_eqb}
+use Rattle.std.proofs.lemmas.Bool.{ne_eqb, not-true}
 use Rattle.std.proofs.lemmas.Bool.Decides.{nat_tests}
 use Rattle.std.proofs.lemmas.Int.{ints}
 use Rattle.std.proofs.lemmas.List.Elements.{All-get_or}
@@ -125,12 +125,8 @@ plain_fields c e = ap (λ a. a.top.is_plain) e
 no_groups : (c : Command) → app_of c ≡ command_app → groups_of c ≡ []
 no_groups c e = empty_is (groups_of c) (both _ _ (plain_fields c e)).0
 
-not_true : (b : Bool) → not b ≡ true → b ≡ false
-not_true true e = cc
-not_true false e = refl
-
 no_globals : (c : Command) → app_of c ≡ command_app → (out-Command c).has_globals ≡ false
-no_globals c e = not_true _ (both _ _ (both _ _ (both _ _ (plain_fields c e)).1).1).0
+no_globals c e = not-true _ (both _ _ (both _ _ (both _ _ (plain_fields c e)).1).1).0
 
 no_group_named : (c : Command) → app_of c ≡ command_app → NamesNoGroup c
 no_group_named c e =

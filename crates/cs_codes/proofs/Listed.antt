@@ -10,6 +10,7 @@ use Rattle.std.proofs.lemmas.List.Folds.{list_any-append}
 use Rattle.std.proofs.lemmas.Bool.Decides.{Decides-int_eq}
 use Rattle.std.proofs.lemmas.Slice.Eq.{bytes_eq-Decides}
 use Rattle.std.proofs.lemmas.Map.Lookups.{exact_bytes}
+use Rattle.std.proofs.Math.Bool.{or-true}
 use Rattle.cs_value.specs.Tree.{Tree, null, boolean, integer, text, list, object, Trees, no_trees, more_trees, Pairs, no_pairs, more_pairs, members}
 use Rattle.cs_value.specs.Pairs.{find}
 use Rattle.cs_value.specs.Words.{as_text, followed}
@@ -22,10 +23,6 @@ use Rattle.cs_view.specs.declared.key.Key.TheVariants.{All, Id, Path, Elem, Ref}
 use Rattle.cs_view.specs.Limits.{most_names}
 use Rattle.cs_codes.specs.Codes.{Seed, Hash, start, with_text, with_names, with_value, with_element, boolean_code, scalar_code, ref_code, key_code, scalar_codes, elements_codes, here, inside, pairs_inside, own_refs, refs, trees_refs, pairs_refs, codes, is_among}
 use Rattle.cs_codes.specs.Kept.{IsKept}
-
-or-true : (b : Bool) → (b || true) ≡ true
-or-true true = refl
-or-true false = refl
 
 first : (c : ℕ) → is_among c (c ∷ []) ≡ true
 first c = ap (λ b. b || false) (eq-eqb c c refl)

@@ -3,10 +3,11 @@ use Rattle.std.proofs.Common.{◌≡◌, ◌↔◌, ◌≤◌, ◌<◌, ℕ, Lis
 use Rattle.std.proofs.lemmas.Bool.Decides.{nat_tests}
 use Rattle.std.proofs.lemmas.Grind.{common_steps}
 use Rattle.std.specs.List.{filter, list_all}
+use Rattle.std.proofs.lemmas.Bool.{and_from}
 use Rattle.cs_value.specs.Tree.{Tree}
 use Rattle.cs_view.specs.Document.{id_of}
 use Rattle.cs_view.specs.Dataset.{stands}
-use Rattle.cs_view.proofs.Booleans.{and-left, and-right, both}
+use Rattle.cs_view.proofs.Booleans.{and-left, and-right}
 use Rattle.cs_docs.specs.Limits.{most_documents}
 use Rattle.cs_shelf.specs.Referring.{first_of}
 use Rattle.cs_docs.specs.References.{strong, missing, clean, dangling_in, first_dangling}
@@ -37,7 +38,7 @@ no_dangling docs (d ∷ ds) =
     → (first_of (map (λ t. (id_of d, t)) ts ++ dangling_in docs ds) ≡ None)
     ↔ ((whole docs d && list_all (whole docs) ds) ≡ true)) [
       | [] ↦ λ e. (
-        (λ h. both _ _ (here.0 e) (rest.0 h)),
+        (λ h. and_from _ _ (here.0 e) (rest.0 h)),
         (λ h. rest.1 (and-right (whole docs d) _ h)),
       )
       | t ∷ ts ↦ λ e. (

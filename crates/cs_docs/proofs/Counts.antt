@@ -11,10 +11,9 @@ use Rattle.cs_view.specs.Document.{id_of}
 use Rattle.cs_view.specs.Dataset.{id_cmp, keyed, At, ascending, placed, with_doc, without}
 use Rattle.cs_view.specs.Changes.{Edit, is_of_id, ids_ascend, are_changes, LeadFrom, After, after_of}
 use Rattle.cs_view.proofs.Booleans.{and-left, and-right}
-use Rattle.cs_view.proofs.Datasets.{keyed-with_doc, keyed-without, same_id-same}
+use Rattle.cs_view.proofs.Datasets.{keyed-with_doc, keyed-without, same_id-same, is_lt-Less}
 use Rattle.cs_view.proofs.Booleans.{to_T}
 use Rattle.cs_view.proofs.Changed.{OwnIds, At-After, ascending-After, own_ids}
-use Rattle.cs_docs.proofs.Filters.{is_lt-Less}
 
 one_if : Bool → ℕ
 one_if b = cond b 1 0

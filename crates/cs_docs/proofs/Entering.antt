@@ -3,10 +3,11 @@ use Rattle.std.specs.Prelude.{Result, Ok, Err, OnOk, OnErr}
 use Rattle.std.proofs.Common.{◌≡◌, ◌∙◌, ap, refl, ℕ, ◌≤◌, ◌<◌, ◌+◌, List, [], ◌∷◌, length, Bool, true, false, cond, is_some, Some, Less, Equal, Greater, arith}
 use Rattle.std.specs.List.{list_all}
 use Rattle.std.specs.FinMap.Entries.{by_order}
+use Rattle.std.proofs.lemmas.Bool.{and_from}
 use Rattle.cs_value.specs.Tree.{Tree}
 use Rattle.cs_view.specs.Document.{id_of}
 use Rattle.cs_view.specs.Dataset.{id_cmp, same_id, At, stands, with_doc}
-use Rattle.cs_view.proofs.Booleans.{and-left, and-right, both}
+use Rattle.cs_view.proofs.Booleans.{and-left, and-right}
 use Rattle.cs_view.proofs.Datasets.{At-with_doc}
 use Rattle.cs_docs.specs.Limits.{most_documents}
 use Rattle.cs_docs.specs.References.{strong, clean}
@@ -27,7 +28,7 @@ all_stand_still : (d : Tree) (docs : List Tree) (ts : List (List ℕ))
     → list_all (λ t. stands t (with_doc d docs)) ts ≡ true
 all_stand_still d docs [] h = refl
 all_stand_still d docs (t ∷ ts) h =
-    both _ _ (stands_still d docs t (and-left _ _ h)) (all_stand_still d docs ts (and-right _ _ h))
+    and_from _ _ (stands_still d docs t (and-left _ _ h)) (all_stand_still d docs ts (and-right _ _ h))
 
 -- a test that each document passes that passes another, and the one more too
 all_pass : (p q : Tree → Bool) (d : Tree)
@@ -38,7 +39,7 @@ all_pass : (p q : Tree → Bool) (d : Tree)
     → list_all q es ≡ true
 all_pass p q d follows own [] h = refl
 all_pass p q d follows own (e ∷ es) h =
-    both _ _ (follows e (and-left _ _ h)) (all_pass p q d follows own es (and-right _ _ h))
+    and_from _ _ (follows e (and-left _ _ h)) (all_pass p q d follows own es (and-right _ _ h))
 
 all_with : (p q : Tree → Bool) (d : Tree)
     → ((e : Tree) → p e ≡ true → q e ≡ true)
@@ -46,15 +47,15 @@ all_with : (p q : Tree → Bool) (d : Tree)
     → (es : List Tree)
     → list_all p es ≡ true
     → list_all q (with_doc d es) ≡ true
-all_with p q d follows own [] h = both _ _ own refl
+all_with p q d follows own [] h = and_from _ _ own refl
 all_with p q d follows own (e ∷ es) h =
     let rest = all_pass p q d follows own es (and-right _ _ h) in
     let here = follows e (and-left _ _ h) in
     elim (id_cmp (id_of d) (id_of e)) as (λ o. list_all q (by_order o (d ∷ e ∷ es) (d ∷ es)
     (e ∷ with_doc d es)) ≡ true) [
-      | Less ↦ both _ _ own (both _ _ here rest)
-      | Equal ↦ both _ _ own rest
-      | Greater ↦ both _ _ here (all_with p q d follows own es (and-right _ _ h))
+      | Less ↦ and_from _ _ own (and_from _ _ here rest)
+      | Equal ↦ and_from _ _ own rest
+      | Greater ↦ and_from _ _ here (all_with p q d follows own es (and-right _ _ h))
     ]
 
 pub entering-clean : (docs : List Tree) (d : Tree)

@@ -5,11 +5,12 @@ use Rattle.std.specs.List.{AllByRecursion}
 use Rattle.std.specs.Option.{option_to_list}
 use Rattle.std.specs.Ordering.{is_lt}
 use Rattle.std.specs.FinMap.Entries.{find, below_all}
+use Rattle.std.proofs.lemmas.Bool.{and_from}
 use Rattle.cs_value.specs.Tree.{Tree}
 use Rattle.cs_view.specs.Document.{id_of, passes}
 use Rattle.cs_view.specs.Dataset.{id_cmp, same_id, keyed, At, stands, ascending, with_doc, without}
 use Rattle.cs_view.specs.Changes.{Edit, ids_ascend, is_of_id, are_changes, LeadFrom, After, after_of}
-use Rattle.cs_view.proofs.Booleans.{and-left, and-right, both}
+use Rattle.cs_view.proofs.Booleans.{and-left, and-right}
 use Rattle.cs_view.proofs.Datasets.{same_id-same, same_id-sym, lower-differs, find-above, At-with_doc, At-without, ascending-placed, same_docs}
 use Rattle.cs_view.proofs.Changed.{OwnIds, own_ids, At-After, ascending-After, each_found, AreFoundIn}
 use Rattle.cs_docs.specs.Limits.{most_documents}
@@ -131,7 +132,7 @@ below-picked pick k [] own h = refl
 below-picked pick k (c ∷ cs) own h = by_side (below-picked pick k cs own.1 (and-right (is_lt (id_cmp k c.0)) _ h)) (pick c.1) own.0 where
   by_side : below_all id_cmp k (keyed (picked pick cs)) ≡ true → (o : Option Tree) → is_of_id c.0 o ≡ true → below_all id_cmp k (keyed (option_to_list o ++ picked pick cs)) ≡ true
   by_side rest None w = rest
-  by_side rest (Some d) w = both _ _ (ap (λ y. is_lt (id_cmp k y)) (sym (same_id-same c.0 (id_of d) w)) ∙ and-left _ _ h) rest
+  by_side rest (Some d) w = and_from _ _ (ap (λ y. is_lt (id_cmp k y)) (sym (same_id-same c.0 (id_of d) w)) ∙ and-left _ _ h) rest
 
 pub ascending-picked : (pick : Sides → Option Tree) (cs : List Edit) → ids_ascend cs ≡ true → Owned pick cs → ascending (picked pick cs) ≡ true
 ascending-picked pick [] h own = refl
@@ -139,7 +140,7 @@ ascending-picked pick (c ∷ cs) h own = by_side (ascending-picked pick cs (and-
   by_side : ascending (picked pick cs) ≡ true → (o : Option Tree) → is_of_id c.0 o ≡ true → ascending (option_to_list o ++ picked pick cs) ≡ true
   by_side rest None w = rest
   by_side rest (Some d) w =
-      both _ _ (subst (λ (k : List ℕ). below_all id_cmp k (keyed (picked pick cs)) ≡ true) (same_id-same c.0 (id_of d) w) (below-picked pick c.0 cs own.1 (and-left _ _ h))) rest
+      and_from _ _ (subst (λ (k : List ℕ). below_all id_cmp k (keyed (picked pick cs)) ≡ true) (same_id-same c.0 (id_of d) w) (below-picked pick c.0 cs own.1 (and-left _ _ h))) rest
 
 -- none of the documents has the id of one that stands
 abbrev pub AreFree : List Tree → List Tree → Type 0

@@ -9,18 +9,19 @@ use Rattle.cs_value.specs.Tree.{Tree}
 use Rattle.cs_view.specs.Document.{id_of}
 use Rattle.cs_view.specs.Dataset.{id_cmp, At, ascending}
 use Rattle.std.proofs.lemmas.List.{drop_more, drop_all}
+use Rattle.std.proofs.lemmas.Bool.{and_left, and_right}
 use Rattle.cs_view.specs.View.{edit, edits}
 use Rattle.cs_view.specs.declared.change.Change.{Change}
 use Rattle.cs_view.specs.Changes.{Edit, ids_ascend, are_changes, After, after_of}
 use Rattle.cs_view.proofs.Booleans.{and-left, and-right}
-use Rattle.cs_view.proofs.Datasets.{same_id-refl, At-id}
+use Rattle.cs_view.proofs.Datasets.{same_id-refl, At-id, is_lt-Less}
 use Rattle.cs_view.proofs.Changed.{At-After, ascending-After, own_ids}
 use Rattle.cs_view.specs.Keys.{has_ref}
 use Rattle.cs_shelf.specs.Referring.{first_of, above, next_referrer}
 use Rattle.cs_docs.specs.References.{strong, missing, clean, dangling_in, first_dangling}
 use Rattle.cs_docs.specs.Missing.{first_missing}
 use Rattle.cs_docs.specs.Suspects.{is_changed, dangles, is_referrer, at_change, suspected, is_suspect, lesser}
-use Rattle.cs_docs.proofs.Filters.{keep, IsBelow, below-head, below-tail, head-below, tail-ascends, above-Greater, is_lt-Less, first_above, IsAbove, members, filter_same, filter_agree, first_at, first_lesser, first_stands, first_within, none_within}
+use Rattle.cs_docs.proofs.Filters.{keep, IsBelow, below-head, below-tail, head-below, tail-ascends, above-Greater, first_above, IsAbove, members, filter_same, filter_agree, first_at, first_lesser, first_stands, first_within, none_within}
 use Rattle.cs_docs.proofs.Clean.{none-is-clean}
 use Rattle.cs_docs.proofs.Joins.{at_one}
 
@@ -42,14 +43,6 @@ not_true : (b : Bool) → ((b ≡ true) → ⊥) → b ≡ false
 not_true true h = absurd (h refl)
 not_true false h = refl
 
-and-false : (a b : Bool) → b ≡ false → (a && b) ≡ false
-and-false true b h = h
-and-false false b h = refl
-
-false-and : (a b : Bool) → a ≡ false → (a && b) ≡ false
-false-and true b h = cc
-false-and false b h = refl
-
 above_it : (e d : Tree) (o : Option Tree) → IsAbove e o → o ≡ Some d → id_cmp (id_of e) (id_of d) ≡ Less
 above_it e d None h is = absurd (cc)
 above_it e d (Some x) h is = let s : x ≡ d = cc in subst (λ y. id_cmp (id_of e) (id_of y) ≡ Less) s h
@@ -65,12 +58,12 @@ seen_step h r a (e ∷ es) d asc within up is refused =
       | true ↦ λ p g.
           let s : e ≡ d = cc in
           let no_e : h e ≡ false = ap h s ∙ refused in (
-            false-and (h e) _ no_e ∙ sym (false-and (h e) _ no_e),
+            and_left (h e) _ no_e ∙ sym (and_left (h e) _ no_e),
             subst (λ y. AllByRecursion (λ x. (h x && above a (id_of x)) ≡ (h x && above (Some (id_of y)) (id_of x))) es) s (step_below h e es a (up e p) (head-below e es asc)),
           )
       | false ↦ λ p g.
           let less : id_cmp (id_of e) (id_of d) ≡ Less = above_it e d (first_of (filter r es)) (first_above r e es (head-below e es asc)) g in (
-            not_true (h e && above a (id_of e)) (λ t. let k = within e t in cc) ∙ sym (and-false (h e) _ (ap is_lt (above-Greater (id_of e) (id_of d) less))),
+            not_true (h e && above a (id_of e)) (λ t. let k = within e t in cc) ∙ sym (and_right (h e) _ (ap is_lt (above-Greater (id_of e) (id_of d) less))),
             seen_step h r a es d (tail-ascends e es asc) within up g refused,
           )
     ] refl is
@@ -133,7 +126,7 @@ keep_none : (f : Tree → Bool) (cs : List Edit) (target q : List ℕ) (o : Opti
 keep_none f cs target q None h at = refl
 keep_none f cs target q (Some d) h at =
     let changed : is_changed cs (id_of d) ≡ true = ap (is_changed cs) (sym (at d refl)) ∙ h in
-    ap (λ b. cond b (Some d) None) (and-false (f d) (is_referrer cs target d) (and-false (has_ref target d) (not (is_changed cs (id_of d))) (ap not changed)))
+    ap (λ b. cond b (Some d) None) (and_right (f d) (is_referrer cs target d) (and_right (has_ref target d) (not (is_changed cs (id_of d))) (ap not changed)))
 
 -- the unchanged referrers with a dangling reference are those of the dataset before
 pub referrer_either : (ds : List Tree) (cs : List Edit) (target : List ℕ) → ascending ds ≡ true → are_changes cs ≡ true

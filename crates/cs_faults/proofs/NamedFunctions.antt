@@ -4,7 +4,7 @@ use Rattle.std.specs.Prelude.{◌||◌, if◌then◌else◌}
 use Rattle.std.specs.List.{list_all}
 use Rattle.std.specs.Ordering.{is_eq}
 use Rattle.std.specs.Cmp.Lexicographic.{slice_cmp}
-use Rattle.std.proofs.lemmas.Bool.{and_parts}
+use Rattle.std.proofs.lemmas.Bool.{and_parts, not-true}
 use Rattle.std.proofs.lemmas.Map.Text.{is_eq-slice_cmp}
 use Rattle.std.proofs.lemmas.Slice.Eq.{bytes_eq-Decides}
 use Rattle.cs_table.specs.Row.{row_of}
@@ -40,13 +40,9 @@ found_passes p (r ∷ rows) name a all h =
 abbrev is_kept : List ℕ → Bool
 is_kept name = not (is_left_out name || is_path name)
 
-kept : (t : Bool) → not t ≡ true → t ≡ false
-kept true h = sym h
-kept false h = refl
-
 pub is_not_left_out : (name : List ℕ) (a : Arity) → arity_of name ≡ Some a →
     (is_left_out name || is_path name) ≡ false
-is_not_left_out name a h = kept _ (found_passes is_kept functions name a refl h)
+is_not_left_out name a h = not-true _ (found_passes is_kept functions name a refl h)
 
 -- the faults of a call of a function
 pub call_of_function : (name : List ℕ) (args : Arguments) (a : Arity) → arity_of name ≡ Some a

@@ -3,6 +3,7 @@ use Rattle.std.proofs.Common.{◌≡◌, ◌≢◌, ℕ, zero, suc, ◌-◌, ◌
 use Rattle.std.specs.List.{starts_with, onto_first}
 use Rattle.std.specs.Str.Pattern.{LacksTextAt, HasTextAt}
 use Rattle.std.proofs.lemmas.Slice.Eq.{bytes_eq-Decides}
+use Rattle.std.proofs.lemmas.Bool.{false_from_ne_true}
 use Rattle.cs_func.specs.Texts.{cut}
 
 take_front : (n rest : List ℕ) → take (length n) (n ++ rest) ≡ n
@@ -18,12 +19,8 @@ parts-back zero (x ∷ xs) = refl
 parts-back (suc i) [] = refl
 parts-back (suc i) (x ∷ xs) = ap (λ ys. x ∷ ys) (parts-back i xs)
 
-not_true : (b : Bool) → (b ≡ true → ⊥) → b ≡ false
-not_true true h = absurd (h refl)
-not_true false h = refl
-
 starts-lacks : (n xs : List ℕ) → ((rest : List ℕ) → xs ≢ n ++ rest) → starts_with nat_eq xs n ≡ false
-starts-lacks n xs h = not_true _ (λ t.
+starts-lacks n xs h = false_from_ne_true _ (λ t.
     let same : n ≡ take (length n) xs = (bytes_eq-Decides n (take (length n) xs)).0 t in
     h (drop (length n) xs) (sym (parts-back (length n) xs) ∙ ap (λ ys. ys ++ drop (length n) xs) (sym same)))
 

@@ -4,6 +4,7 @@ use Rattle.std.specs.Prelude.{◌&&◌, ◌||◌, codes, ◌==◌, nat_lt}
 use Rattle.std.proofs.lemmas.Bool.Decides.{nat_tests}
 use Rattle.std.specs.List.{list_all, list_any, onto_first}
 use Rattle.std.proofs.lemmas.Slice.Eq.{bytes_eq-Decides}
+use Rattle.std.proofs.lemmas.Bool.{and_from}
 use Rattle.cs_func.specs.PathPattern.{is_dot, part_matches}
 use Rattle.cs_func.specs.Run.{LeadsTo}
 use Rattle.cs_func.specs.Segments.{segments, is_any, after_some, after_one, segments_match}
@@ -116,10 +117,7 @@ positive n = grind (arith, nat_tests)
 not_zero : (n : ℕ) → (suc n == 0) ≡ false
 not_zero n = grind (arith, nat_tests)
 
-both : (a b : Bool) → a ≡ true → b ≡ true → (a && b) ≡ true
-both a b h k = rw (h, k) refl
-
 pub star-fits : (part star u : List ℕ) (e : Bool) → bytes_eq part star ≡ true → star ≡ codes "*" → list_any is_dot u ≡ false → e ≡ (length u == 0) → not e ≡ part_matches part u
 star-fits part star [] e same is plain h = ap not h ∙ sym (ap (λ p. part_matches p []) ((bytes_eq-Decides part star).0 same ∙ is))
 star-fits part star (b ∷ u) e same is plain h =
-    ap not (h ∙ not_zero (length u)) ∙ sym (ap (λ p. part_matches p (b ∷ u)) ((bytes_eq-Decides part star).0 same ∙ is) ∙ both _ _ (positive (length u)) (plain-all (b ∷ u) plain))
+    ap not (h ∙ not_zero (length u)) ∙ sym (ap (λ p. part_matches p (b ∷ u)) ((bytes_eq-Decides part star).0 same ∙ is) ∙ and_from _ _ (positive (length u)) (plain-all (b ∷ u) plain))

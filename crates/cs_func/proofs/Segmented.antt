@@ -3,32 +3,14 @@ use Rattle.std.proofs.Common.{◌≡◌, ℕ, List, [], ◌∷◌, ◌++◌, len
 use Rattle.std.specs.Prelude.{◌&&◌, ◌||◌, nat_lt, codes}
 use Rattle.std.specs.List.{list_all, list_any, onto_first}
 use Rattle.std.proofs.lemmas.Slice.Eq.{bytes_eq-Decides}
+use Rattle.std.proofs.lemmas.Bool.{false_from_ne_true}
+use Rattle.std.proofs.Math.Bool.{and-false, and-true, or-false, or-true}
 use Rattle.cs_func.specs.PathPattern.{is_dot, part_matches, some_cut, parts_match, path_matches}
 use Rattle.cs_func.specs.Segments.{segments, is_any, after_some, after_one, segments_match}
-
-or_false : (a : Bool) → (a || false) ≡ a
-or_false true = refl
-or_false false = refl
-
-or_true : (a : Bool) → (a || true) ≡ true
-or_true true = refl
-or_true false = refl
 
 or_assoc : (a b c : Bool) → (a || (b || c)) ≡ ((a || b) || c)
 or_assoc true b c = refl
 or_assoc false b c = refl
-
-and_false : (a : Bool) → (a && false) ≡ false
-and_false true = refl
-and_false false = refl
-
-and_true : (a : Bool) → (a && true) ≡ a
-and_true true = refl
-and_true false = refl
-
-not_true : (b : Bool) → (b ≡ true → ⊥) → b ≡ false
-not_true true h = absurd (h refl)
-not_true false h = refl
 
 append-none : (xs : List ℕ) → xs ++ [] ≡ xs
 append-none [] = refl
@@ -39,7 +21,7 @@ any-append [] ys = refl
 any-append (x ∷ xs) ys = ap (λ b. is_dot x || b) (any-append xs ys) ∙ or_assoc (is_dot x) (list_any is_dot xs) (list_any is_dot ys)
 
 any-push : (xs : List ℕ) (b : ℕ) → list_any is_dot (xs ++ b ∷ []) ≡ (list_any is_dot xs || is_dot b)
-any-push xs b = any-append xs (b ∷ []) ∙ ap (λ c. list_any is_dot xs || c) (or_false (is_dot b))
+any-push xs b = any-append xs (b ∷ []) ∙ ap (λ c. list_any is_dot xs || c) (or-false (is_dot b))
 
 all-dotted : (u : List ℕ) → list_any is_dot u ≡ true → list_all (λ b. not (is_dot b)) u ≡ false
 all-dotted [] h = absurd (true≢false (sym h))
@@ -57,8 +39,8 @@ one-dotted p u not_any plain dotted = rw not_any (by_star (bytes_eq p (codes "*"
     differ h = true≢false (sym dotted ∙ ap (list_any is_dot) (sym ((bytes_eq-Decides p u).0 h)) ∙ plain)
 
     by_star : (s : Bool) → cond s (nat_lt 0 (length u) && list_all (λ b. not (is_dot b)) u) (bytes_eq p u) ≡ false
-    by_star true = ap (λ b. nat_lt 0 (length u) && b) (all-dotted u dotted) ∙ and_false (nat_lt 0 (length u))
-    by_star false = not_true (bytes_eq p u) differ
+    by_star true = ap (λ b. nat_lt 0 (length u) && b) (all-dotted u dotted) ∙ and-false (nat_lt 0 (length u))
+    by_star false = false_from_ne_true (bytes_eq p u) differ
 
 some_cut-same : (f h : List ℕ → List ℕ → Bool) → ((u v : List ℕ) → f u v ≡ h u v) → (before text : List ℕ) → some_cut f before text ≡ some_cut h before text
 some_cut-same f h same before [] = refl
@@ -68,11 +50,11 @@ some_cut-same f h same before (b ∷ bs) =
 
 -- `**`: each cut at a dot leaves what is left after some segments
 any-onto_first : (g : List (List ℕ) → Bool) → g [] ≡ false → (b : ℕ) (ss : List (List ℕ)) → after_some g (onto_first b ss) ≡ after_some g ss
-any-onto_first g none b [] = or_false (g []) ∙ none
+any-onto_first g none b [] = or-false (g []) ∙ none
 any-onto_first g none b (s ∷ ss) = refl
 
 any-cuts : (g : List (List ℕ) → Bool) → g [] ≡ false → (before text : List ℕ) → some_cut (λ u v. g (segments v)) before text ≡ after_some g (segments text)
-any-cuts g none before [] = sym (or_false (g []) ∙ none)
+any-cuts g none before [] = sym (or-false (g []) ∙ none)
 any-cuts g none before (b ∷ bs) = by_byte (is_dot b) (any-cuts g none (before ++ b ∷ []) bs)
   where
     by_byte : (d : Bool) → some_cut (λ u v. g (segments v)) (before ++ b ∷ []) bs ≡ after_some g (segments bs)
@@ -85,7 +67,7 @@ dotted-cuts : (p : List ℕ) → is_any p ≡ false → list_any is_dot p ≡ fa
 dotted-cuts p not_any plain g before [] dotted = refl
 dotted-cuts p not_any plain g before (b ∷ bs) dotted =
     ap (λ x. (is_dot b && (x && g bs)) || some_cut (λ u v. part_matches p u && g v) (before ++ b ∷ []) bs) (one-dotted p before not_any plain dotted)
-    ∙ ap (λ x. x || some_cut (λ u v. part_matches p u && g v) (before ++ b ∷ []) bs) (and_false (is_dot b))
+    ∙ ap (λ x. x || some_cut (λ u v. part_matches p u && g v) (before ++ b ∷ []) bs) (and-false (is_dot b))
     ∙ dotted-cuts p not_any plain g (before ++ b ∷ []) bs (any-push before b ∙ ap (λ x. x || is_dot b) dotted)
 
 abbrev first_fits : List ℕ → (List (List ℕ) → Bool) → List ℕ → List (List ℕ) → Bool
@@ -93,17 +75,17 @@ first_fits p g before [] = false
 first_fits p g before (s ∷ ss) = part_matches p (before ++ s) && g ss
 
 first-onto_first : (p : List ℕ) (g : List (List ℕ) → Bool) → g [] ≡ false → (before : List ℕ) (b : ℕ) (ss : List (List ℕ)) → first_fits p g (before ++ b ∷ []) ss ≡ first_fits p g before (onto_first b ss)
-first-onto_first p g none before b [] = sym (ap (λ x. part_matches p (before ++ b ∷ []) && x) none ∙ and_false (part_matches p (before ++ b ∷ [])))
+first-onto_first p g none before b [] = sym (ap (λ x. part_matches p (before ++ b ∷ []) && x) none ∙ and-false (part_matches p (before ++ b ∷ [])))
 first-onto_first p g none before b (s ∷ ss) = ap (λ u. part_matches p u && g ss) (append_assoc before (b ∷ []) s)
 
 one-cuts : (p : List ℕ) → is_any p ≡ false → list_any is_dot p ≡ false → (g : List (List ℕ) → Bool) → g [] ≡ false → (before text : List ℕ) → some_cut (λ u v. part_matches p u && g (segments v)) before text ≡ first_fits p g before (segments text)
-one-cuts p not_any plain g none before [] = sym (ap (λ x. part_matches p (before ++ []) && x) none ∙ and_false (part_matches p (before ++ [])))
+one-cuts p not_any plain g none before [] = sym (ap (λ x. part_matches p (before ++ []) && x) none ∙ and-false (part_matches p (before ++ [])))
 one-cuts p not_any plain g none before (b ∷ bs) = by_byte (is_dot b) refl (one-cuts p not_any plain g none (before ++ b ∷ []) bs)
   where
     by_byte : (d : Bool) → is_dot b ≡ d → some_cut (λ u v. part_matches p u && g (segments v)) (before ++ b ∷ []) bs ≡ first_fits p g (before ++ b ∷ []) (segments bs) → ((d && (part_matches p before && g (segments bs))) || some_cut (λ u v. part_matches p u && g (segments v)) (before ++ b ∷ []) bs) ≡ first_fits p g before (cond d ([] ∷ segments bs) (onto_first b (segments bs)))
     by_byte true is ih =
-        ap (λ x. (part_matches p before && g (segments bs)) || x) (dotted-cuts p not_any plain (λ v. g (segments v)) (before ++ b ∷ []) bs (any-push before b ∙ ap (λ x. list_any is_dot before || x) is ∙ or_true (list_any is_dot before)))
-        ∙ or_false (part_matches p before && g (segments bs))
+        ap (λ x. (part_matches p before && g (segments bs)) || x) (dotted-cuts p not_any plain (λ v. g (segments v)) (before ++ b ∷ []) bs (any-push before b ∙ ap (λ x. list_any is_dot before || x) is ∙ or-true (list_any is_dot before)))
+        ∙ or-false (part_matches p before && g (segments bs))
         ∙ ap (λ u. part_matches p u && g (segments bs)) (sym (append-none before))
     by_byte false is ih = ih ∙ first-onto_first p g none before b (segments bs)
 
@@ -147,13 +129,13 @@ last-onto_first p before b bs = by_segments (segments bs) (some_segment bs)
     by_segments (s ∷ ss) h = ap (λ u. part_matches p u && segments_match [] ss) (append_assoc before (b ∷ []) s)
 
 one-last : (p : List ℕ) → is_any p ≡ false → list_any is_dot p ≡ false → (before text : List ℕ) → part_matches p (before ++ text) ≡ first_fits p (segments_match []) before (segments text)
-one-last p not_any plain before [] = sym (and_true (part_matches p (before ++ [])))
+one-last p not_any plain before [] = sym (and-true (part_matches p (before ++ [])))
 one-last p not_any plain before (b ∷ bs) = by_byte (is_dot b) refl (one-last p not_any plain (before ++ b ∷ []) bs)
   where
     by_byte : (d : Bool) → is_dot b ≡ d → part_matches p ((before ++ b ∷ []) ++ bs) ≡ first_fits p (segments_match []) (before ++ b ∷ []) (segments bs) → part_matches p (before ++ b ∷ bs) ≡ first_fits p (segments_match []) before (cond d ([] ∷ segments bs) (onto_first b (segments bs)))
     by_byte true is ih =
-        one-dotted p (before ++ b ∷ bs) not_any plain (any-append before (b ∷ bs) ∙ ap (λ x. list_any is_dot before || (x || list_any is_dot bs)) is ∙ or_true (list_any is_dot before))
-        ∙ sym (ap (λ x. part_matches p (before ++ []) && x) (ended bs) ∙ and_false (part_matches p (before ++ [])))
+        one-dotted p (before ++ b ∷ bs) not_any plain (any-append before (b ∷ bs) ∙ ap (λ x. list_any is_dot before || (x || list_any is_dot bs)) is ∙ or-true (list_any is_dot before))
+        ∙ sym (ap (λ x. part_matches p (before ++ []) && x) (ended bs) ∙ and-false (part_matches p (before ++ [])))
     by_byte false is ih =
         ap (part_matches p) (sym (append_assoc before (b ∷ []) bs)) ∙ ih ∙ last-onto_first p before b bs
 
@@ -170,7 +152,7 @@ segments-no_dots [] = (refl, tt)
 segments-no_dots (b ∷ bs) = by_byte (is_dot b) refl (segments-no_dots bs)
   where
     onto : (ss : List (List ℕ)) → is_dot b ≡ false → NoDots ss → NoDots (onto_first b ss)
-    onto [] is h = (or_false (is_dot b) ∙ is, tt)
+    onto [] is h = (or-false (is_dot b) ∙ is, tt)
     onto (s ∷ ss) is h = (ap (λ x. x || list_any is_dot s) is ∙ h.0, h.1)
 
     by_byte : (d : Bool) → is_dot b ≡ d → NoDots (segments bs) → NoDots (cond d ([] ∷ segments bs) (onto_first b (segments bs)))

@@ -1,6 +1,7 @@
 -- One walk for several targets finds what a walk for each finds.
 use Rattle.std.proofs.Common.{◌≡◌, ℕ, List, [], ◌∷◌, Bool, true, false, ◌||◌, refl, sym, ap, ◌∙◌, codes, Option, Some, None, option_and_then}
 use Rattle.std.specs.List.{list_any}
+use Rattle.std.proofs.Math.Bool.{or-false}
 use Rattle.cs_value.specs.Tree.{Tree, null, boolean, integer, text, list, object, Trees, no_trees, more_trees, Pairs, no_pairs, more_pairs}
 use Rattle.cs_value.specs.Pairs.{find}
 use Rattle.cs_value.specs.Words.{as_text}
@@ -49,9 +50,5 @@ mutual
 pub one_of_targets : (targets : List (List ℕ)) (v : Tree) → refers_to_one targets v ≡ list_any (λ target. refers target v) targets
 one_of_targets targets v = one_of_each targets v
 
-alone : (b : Bool) → (b || false) ≡ b
-alone true = refl
-alone false = refl
-
 pub only_target : (target : List ℕ) (v : Tree) → refers_to_one (target ∷ []) v ≡ refers target v
-only_target target v = one_of_each (target ∷ []) v ∙ alone (refers target v)
+only_target target v = one_of_each (target ∷ []) v ∙ or-false (refers target v)

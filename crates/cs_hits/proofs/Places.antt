@@ -12,15 +12,8 @@ use Rattle.cs_value.specs.Tree.{Tree}
 use Rattle.cs_view.specs.Dataset.{id_cmp, same_id, keyed, ascending, with_doc, without}
 use Rattle.cs_view.specs.Document.{id_of}
 use Rattle.cs_view.proofs.Booleans.{and-left, and-right}
+use Rattle.cs_view.proofs.Datasets.{is_lt-Less, id_cmp-flipped}
 use Rattle.cs_hits.specs.Held.{IsPlaceOf, IsPut, IsTaken}
-
-flip : (a b : List ℕ) (o : Ordering) → id_cmp a b ≡ o → id_cmp b a ≡ ordering_reverse o
-flip a b o h = nat_list_cmp_total.antisymm b a ∙ ap ordering_reverse h
-
-is_less : (o : Ordering) → is_lt o ≡ true → o ≡ Less
-is_less Less h = refl
-is_less Equal h = cc
-is_less Greater h = cc
 
 differs : (k : List ℕ) (d : Tree) (o : Ordering) → id_cmp k (id_of d) ≡ o → is_eq o ≡ false → not (same_id k (id_of d)) ≡ true
 differs k d o h apart = ap not (ap is_eq h ∙ apart)
@@ -29,7 +22,7 @@ module _ {T : Type 0} (doc : T → Tree) where
   -- each later document is above
   below_at : (k : List ℕ) (ds : List T) (j : ℕ) (x : T) → below_all id_cmp k (keyed (map doc ds)) ≡ true → j < length ds → id_cmp k (id_of (doc (get_or ds j x))) ≡ Less
   below_at k [] j x h l = absurd (omega arith)
-  below_at k (d ∷ ds) zero x h l = is_less _ (and-left _ _ h)
+  below_at k (d ∷ ds) zero x h l = is_lt-Less _ (and-left _ _ h)
   below_at k (d ∷ ds) (suc j) x h l = below_at k ds j x (and-right (is_lt (id_cmp k (id_of (doc d)))) _ h) (omega arith)
 
   -- the comparisons with an id rise along the ids
@@ -37,8 +30,8 @@ module _ {T : Type 0} (doc : T → Tree) where
   rank_rises a b k h =
       elim (id_cmp a k) as (λ o. id_cmp a k ≡ o → ordering_index o ≤ ordering_index (id_cmp b k)) [
         | Less ↦ λ e. omega arith
-        | Equal ↦ λ e. let above : id_cmp b k ≡ Greater = subst (λ x. id_cmp b x ≡ Greater) (exact_bytes a k e) (flip a b Less h) in rw above (omega arith)
-        | Greater ↦ λ e. let above : id_cmp b k ≡ Greater = flip k b Less (nat_list_cmp_total.trans k a b (flip a k Greater e) h) in rw above (omega arith)
+        | Equal ↦ λ e. let above : id_cmp b k ≡ Greater = subst (λ x. id_cmp b x ≡ Greater) (exact_bytes a k e) (id_cmp-flipped a b Less h) in rw above (omega arith)
+        | Greater ↦ λ e. let above : id_cmp b k ≡ Greater = id_cmp-flipped k b Less (nat_list_cmp_total.trans k a b (id_cmp-flipped a k Greater e) h) in rw above (omega arith)
       ] refl
 
   rises : (k : List ℕ) (ds : List T) → ascending (map doc ds) ≡ true → (i j : ℕ) (x : T) → i ≤ j → j < length ds → ordering_index (id_cmp (id_of (doc (get_or ds i x))) k) ≤ ordering_index (id_cmp (id_of (doc (get_or ds j x))) k)
@@ -50,7 +43,7 @@ module _ {T : Type 0} (doc : T → Tree) where
 
   -- the first document is below one that has the id of a later one
   first_below : (k : List ℕ) (d : T) (ds : List T) (i : ℕ) (x : T) → ascending (map doc (d ∷ ds)) ≡ true → i < length ds → id_of (doc (get_or ds i x)) ≡ k → id_cmp k (id_of (doc d)) ≡ Greater
-  first_below k d ds i x h l is = flip (id_of (doc d)) k Less (subst (λ y. id_cmp (id_of (doc d)) y ≡ Less) is (below_at (id_of (doc d)) ds i x (and-left _ _ h) l))
+  first_below k d ds i x h l is = id_cmp-flipped (id_of (doc d)) k Less (subst (λ y. id_cmp (id_of (doc d)) y ≡ Less) is (below_at (id_of (doc d)) ds i x (and-left _ _ h) l))
 
   later : (d : T) (ds : List T) → ascending (map doc (d ∷ ds)) ≡ true → ascending (map doc ds) ≡ true
   later d ds h = and-right (below_all id_cmp (id_of (doc d)) (keyed (map doc ds))) _ h
@@ -67,7 +60,7 @@ module _ {T : Type 0} (doc : T → Tree) where
   without-above k [] h = refl
   without-above k (t ∷ ts) h =
       let rest = without-above k ts (and-right (is_lt (id_cmp k (id_of t))) _ h) in
-      ap (λ b. cond b (t ∷ without k ts) (without k ts)) (differs k t Less (is_less _ (and-left _ _ h)) refl) ∙ ap (λ l. t ∷ l) rest
+      ap (λ b. cond b (t ∷ without k ts) (without k ts)) (differs k t Less (is_lt-Less _ (and-left _ _ h)) refl) ∙ ap (λ l. t ∷ l) rest
 
   held-without : (k : List ℕ) (ds : List T) (i : ℕ) (x : T) → ascending (map doc ds) ≡ true → i < length ds → id_of (doc (get_or ds i x)) ≡ k → without k (map doc ds) ≡ remove (map doc ds) i
   held-without k [] i x h l is = absurd (omega arith)
@@ -88,18 +81,18 @@ module _ {T : Type 0} (doc : T → Tree) where
   gap-with : (t : Tree) (ds : List T) (i : ℕ) → AllBelow (id_of t) ds i → AllAbove (id_of t) ds i → i ≤ length ds → with_doc t (map doc ds) ≡ insert (map doc ds) i t
   gap-with t [] zero lo hi w = refl
   gap-with t [] (suc i) lo hi w = absurd (omega arith)
-  gap-with t (d ∷ ds) zero lo hi w = ap (λ o. by_order o (t ∷ doc d ∷ map doc ds) (t ∷ map doc ds) (doc d ∷ with_doc t (map doc ds))) (flip (id_of (doc d)) (id_of t) Greater (hi 0 d (omega arith) (omega arith)))
+  gap-with t (d ∷ ds) zero lo hi w = ap (λ o. by_order o (t ∷ doc d ∷ map doc ds) (t ∷ map doc ds) (doc d ∷ with_doc t (map doc ds))) (id_cmp-flipped (id_of (doc d)) (id_of t) Greater (hi 0 d (omega arith) (omega arith)))
   gap-with t (d ∷ ds) (suc i) lo hi w =
-      ap (λ o. by_order o (t ∷ doc d ∷ map doc ds) (t ∷ map doc ds) (doc d ∷ with_doc t (map doc ds))) (flip (id_of (doc d)) (id_of t) Less (lo 0 d (omega arith) (omega arith)))
+      ap (λ o. by_order o (t ∷ doc d ∷ map doc ds) (t ∷ map doc ds) (doc d ∷ with_doc t (map doc ds))) (id_cmp-flipped (id_of (doc d)) (id_of t) Less (lo 0 d (omega arith) (omega arith)))
       ∙ ap (λ ts. doc d ∷ ts) (gap-with t ds i (λ j x a b. lo (suc j) x (omega arith) (omega arith)) (λ j x a b. hi (suc j) x (omega arith) (omega arith)) (omega arith))
 
   gap-without : (k : List ℕ) (ds : List T) (i : ℕ) → AllBelow k ds i → AllAbove k ds i → i ≤ length ds → without k (map doc ds) ≡ map doc ds
   gap-without k [] i lo hi w = refl
   gap-without k (d ∷ ds) zero lo hi w =
-      ap (λ b. cond b (doc d ∷ without k (map doc ds)) (without k (map doc ds))) (differs k (doc d) Less (flip (id_of (doc d)) k Greater (hi 0 d (omega arith) (omega arith))) refl)
+      ap (λ b. cond b (doc d ∷ without k (map doc ds)) (without k (map doc ds))) (differs k (doc d) Less (id_cmp-flipped (id_of (doc d)) k Greater (hi 0 d (omega arith) (omega arith))) refl)
       ∙ ap (λ ts. doc d ∷ ts) (gap-without k ds zero (λ j x a b. absurd (omega arith)) (λ j x a b. hi (suc j) x (omega arith) (omega arith)) (omega arith))
   gap-without k (d ∷ ds) (suc i) lo hi w =
-      ap (λ b. cond b (doc d ∷ without k (map doc ds)) (without k (map doc ds))) (differs k (doc d) Greater (flip (id_of (doc d)) k Less (lo 0 d (omega arith) (omega arith))) refl)
+      ap (λ b. cond b (doc d ∷ without k (map doc ds)) (without k (map doc ds))) (differs k (doc d) Greater (id_cmp-flipped (id_of (doc d)) k Less (lo 0 d (omega arith) (omega arith))) refl)
       ∙ ap (λ ts. doc d ∷ ts) (gap-without k ds i (λ j x a b. lo (suc j) x (omega arith) (omega arith)) (λ j x a b. hi (suc j) x (omega arith) (omega arith)) (omega arith))
 
   -- what a binary search by the ids answers

@@ -6,6 +6,7 @@ use Rattle.std.proofs.lemmas.List.{append-nil, map-append, length-map, at_drop_m
 use Rattle.std.proofs.Math.Seq.{take-append_seam}
 use Rattle.std.specs.Result.{OnOk}
 use Rattle.std.proofs.lemmas.List.Elements.{filter-append}
+use Rattle.std.proofs.Math.Bool.{and-false, or-false}
 use Rattle.cs_value.specs.Tree.{Tree, null, boolean, integer, text, list, object, trees, Trees, no_trees, more_trees, Pairs, no_pairs, more_pairs}
 use Rattle.cs_value.specs.View.{tree, fields, list_tree, entries_tree}
 use Rattle.cs_value.specs.declared.val.Val.{Val, the_lemmas}
@@ -93,15 +94,11 @@ none_left true true = refl
 none_left true false = refl
 none_left false b = refl
 
-nothing : (a : Bool) → (a && false) ≡ false
-nothing true = refl
-nothing false = refl
-
 pub some_below : (v t : Tree) (x : Part) (h : Bool) (ws : List Bool) (ms : Path) (l : Trail)
     → some_leads (next (selects (size v) x t) h ws ms) ms t l ≡ ((h && leads ms t l) || some_leads ws ms v ((x, t) ∷ l))
 some_below v t x h [] [] l = none_left h (leads [] t l)
 some_below v t x h [] (m ∷ ms) l = refl
-some_below v t x h (a ∷ ws) [] l = rw (nothing a) (none_left h (leads [] t l))
+some_below v t x h (a ∷ ws) [] l = rw (and-false a) (none_left h (leads [] t l))
 some_below v t x h (a ∷ ws) (m ∷ ms) l =
     let s = list_any (selects (size v) x t) m.items in
     ap (λ b. ((h || (a && m.deep)) && leads (m ∷ ms) t l) || b) (some_below v t x (a && s) ws ms l)
@@ -167,7 +164,7 @@ reached_pair above ws ms v n t ps =
 -- behind no more than the value itself nothing is reached where no rest with a step waits
 none_behind : (ws : List Bool) (ms : Path) (v : Tree) (e : Part × Tree) (l : Trail) → list_any (λ b. b) (take (length ms) ws) ≡ false → some_leads ws ms v (e ∷ l) ≡ false
 none_behind [] ms v e l h = refl
-none_behind (a ∷ ws) [] v e l h = nothing a
+none_behind (a ∷ ws) [] v e l h = and-false a
 none_behind (true ∷ ws) (m ∷ ms) v e l h = absurd (cc)
 none_behind (false ∷ ws) (m ∷ ms) v e l h = none_behind ws ms v e l h
 
@@ -193,13 +190,9 @@ module _ (above : Location) (ws : List Bool) (ms : Path) (v : Tree) (none : list
   none_inside (object ps) = (pair_trails ps, refl, none_of_pairs ps)
 
 -- only the whole path waits at the start
-first_leads : (b : Bool) → (b || false) ≡ b
-first_leads true = refl
-first_leads false = refl
-
 at_start : (ms : Path) (v : Tree) (l : Trail) → some_leads (true ∷ []) ms v l ≡ leads ms v l
 at_start [] v l = refl
-at_start (m ∷ ms) v l = first_leads (leads (m ∷ ms) v l)
+at_start (m ∷ ms) v l = or-false (leads (m ∷ ms) v l)
 
 kept_start : (b : Bool) (l : Trail) (ls ks : List Trail) → map (λ k. [] ++ parts k) ls ≡ map parts ks → map (λ k. [] ++ parts k) (cond b (l ∷ ls) ls) ≡ map parts (cond b (l ∷ ks) ks)
 kept_start true l ls ks h = ap (λ r. parts l ∷ r) h

@@ -4,6 +4,7 @@ use Rattle.std.proofs.lemmas.Grind.{common_steps}
 use Rattle.std.proofs.lemmas.List.Folds.{list_any-append}
 use Rattle.std.specs.Prelude.{filter_map, option_map}
 use Rattle.std.specs.List.{cons_option}
+use Rattle.std.proofs.lemmas.Bool.{or_right, or_left}
 use Rattle.cs_value.specs.Tree.{Tree}
 use Rattle.cs_value.specs.View.{fields}
 use Rattle.cs_view.specs.Changes.{Edit}
@@ -30,10 +31,6 @@ use Rattle.cs_listen.specs.Events.{Listener, sees, turned, event_of, heard, even
 use Rattle.cs_listen.specs.Listeners.{listener}
 use Rattle.cs_listen.specs.Told.{told, all_told}
 use Rattle.cs_listen.specs.declared.listening.Listening.{Listening}
-use Rattle.cs_listen.proofs.Keeping.{or-second}
-
-or-first : (a b : Bool) → a ≡ true → (a || b) ≡ true
-or-first a b h = ap (λ c. c || b) h
 
 few : (ns : List (List ℕ)) → are_few ns ≡ true → (0 < length ns) × (length ns ≤ most_names)
 few ns h = (grind (arith, common_steps, and-left (nat_lt 0 (length ns)) _ h), grind (arith, common_steps, and-right (nat_lt 0 (length ns)) _ h))
@@ -44,10 +41,10 @@ module _ (listed : KeysAreListed) (seed : Seed) (d : Tree) where
   Sought c = is_sought c (side_codes seed (Some d)) ≡ true
 
   among_keys : (c : ℕ) → is_among c (codes seed d) ≡ true → Sought c
-  among_keys c h = or-second (nat_eq c 0) _ (or-second (nat_eq c (id_code seed (id_of d))) (is_among c (codes seed d)) h)
+  among_keys c h = or_right (nat_eq c 0) _ (or_right (nat_eq c (id_code seed (id_of d))) (is_among c (codes seed d)) h)
 
   own_id : (t : List ℕ) → t ≡ id_of d → Sought (id_code seed t)
-  own_id t is = or-second (nat_eq (id_code seed t) 0) _ (or-first (nat_eq (id_code seed t) (id_code seed (id_of d))) (is_among (id_code seed t) (codes seed d)) (eq-eqb _ _ (ap (id_code seed) is)))
+  own_id t is = or_right (nat_eq (id_code seed t) 0) _ (or_left (nat_eq (id_code seed t) (id_code seed (id_of d))) (is_among (id_code seed t) (codes seed d)) (eq-eqb _ _ (ap (id_code seed) is)))
 
   by_names : (k : Key) (b : Bool) → (b ≡ true → IsKept k) → has k d ≡ true → Sought (cond b (key_code seed k) 0)
   by_names k true kept h = among_keys (key_code seed k) (listed seed k d (kept refl) h)

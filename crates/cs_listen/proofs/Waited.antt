@@ -1,10 +1,7 @@
 -- The codes that are left of some, where those that no one waits for are left out.
 use Rattle.std.proofs.Common.{◌≡◌, ◌∙◌, ℕ, List, [], ◌∷◌, Bool, true, false, cond, ◌&&◌, ◌||◌, refl, sym, ap, nat_eq, eqb-true, filter}
+use Rattle.std.proofs.Math.Bool.{and-false}
 use Rattle.cs_codes.specs.Codes.{is_among}
-
-never : (b : Bool) → (b && false) ≡ false
-never true = refl
-never false = refl
 
 module _ (waiting : List ℕ) (x : ℕ) where
   abbrev waits : ℕ → Bool
@@ -27,7 +24,7 @@ module _ (waiting : List ℕ) (x : ℕ) where
 
   pub waited_among : (cs : List ℕ)
       → is_among x (filter waits cs) ≡ (waits x && is_among x cs)
-  waited_among [] = sym (never (waits x))
+  waited_among [] = sym (and-false (waits x))
   waited_among (c ∷ cs) =
       test_out (waits c) c (filter waits cs)
       ∙ one_code c (is_among x (filter waits cs)) (is_among x cs) (waits c) (nat_eq x c) refl

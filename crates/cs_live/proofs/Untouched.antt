@@ -1,6 +1,7 @@
 -- An entry that is not asked stays as it is.
 use Rattle.std.proofs.Common.{◌≡◌, ◌∙◌, ℕ, ◌<◌, get_or, arith, List, [], ◌∷◌, Bool, true, false, cond, ◌||◌, refl, sym, ap, true≢false, nat_eq, eq-eqb}
 use Rattle.std.proofs.lemmas.List.Elements.{Contains-push}
+use Rattle.std.proofs.lemmas.Bool.{or_right}
 use Rattle.cs_value.specs.Tree.{Tree, null, Pairs}
 use Rattle.cs_value.specs.View.{fields}
 use Rattle.cs_syntax.specs.Expression.{Expression}
@@ -36,14 +37,10 @@ use Rattle.cs_kept.proofs.Windowed.{untouched-refreshed}
 use Rattle.cs_kept.proofs.Sames.{not_another}
 
 -- ---- no key of a number that is not asked is touched
-or-second : (a b : Bool) → b ≡ true → (a || b) ≡ true
-or-second true b h = refl
-or-second false b h = h
-
 module _ (asks : TouchedIsAsked) (i : Interest) (cs : List Edit) (changes : are_changes cs ≡ true) (n : ℕ) (quiet : is_asked i cs n ≡ false) where
   none_touched : (ks : List Key) → ((c : ℕ) → has_code i.seed c ks ≡ true → holds i c n ≡ true) → touched ks cs ≡ false
   none_touched [] all = refl
-  none_touched (k ∷ ks) all = by_test (none_touched ks (λ c h. all c (or-second (nat_eq c (interest_code i.seed k)) (has_code i.seed c ks) h))) (is_touched cs k) refl where
+  none_touched (k ∷ ks) all = by_test (none_touched ks (λ c h. all c (or_right (nat_eq c (interest_code i.seed k)) (has_code i.seed c ks) h))) (is_touched cs k) refl where
     own : has_code i.seed (interest_code i.seed k) (k ∷ ks) ≡ true
     own = ap (λ b. b || has_code i.seed (interest_code i.seed k) ks) (eq-eqb (interest_code i.seed k) (interest_code i.seed k) refl)
 

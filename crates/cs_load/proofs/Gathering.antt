@@ -13,6 +13,8 @@ use Rattle.cs_view.specs.Document.{id_of}
 use Rattle.cs_view.specs.Dataset.{id_cmp, keyed, At, stands, with_doc, ascending}
 use Rattle.cs_view.specs.View.{doc}
 use Rattle.cs_view.specs.declared.doc.Doc.{Doc}
+use Rattle.cs_view.proofs.Datasets.{is_lt-Less, id_cmp-flipped}
+use Rattle.cs_view.proofs.Booleans.{and-left, and-right}
 use Rattle.cs_docs.specs.Limits.{most_documents}
 use Rattle.cs_load.specs.Gathered.{gathered, AreById, IsGapFor}
 use Rattle.cs_load.proofs.Placing.{same, ascending-with_doc}
@@ -86,32 +88,16 @@ kept_after (Err x) es new d ok err h room = (ap (λ fs. ascending (gathered fs))
 
 -- ---- documents in order, and an id above theirs
 
-and_left : (a b : Bool) → (a && b) ≡ true → a ≡ true
-and_left true b h = refl
-and_left false b h = h
-
-and_right : (a b : Bool) → (a && b) ≡ true → b ≡ true
-and_right true b h = h
-and_right false b h = cc
-
-is_less : (o : Ordering) → is_lt o ≡ true → o ≡ Less
-is_less Less h = refl
-is_less Equal h = cc
-is_less Greater h = cc
-
-flip : (a b : List ℕ) (o : Ordering) → id_cmp a b ≡ o → id_cmp b a ≡ ordering_reverse o
-flip a b o h = nat_list_cmp_total.antisymm b a ∙ ap ordering_reverse h
-
 below_in : (k : List ℕ) (done : List Tree) (d : Tree) (more : List Tree) → below_all id_cmp k (keyed (done ++ d ∷ more)) ≡ true → id_cmp k (id_of d) ≡ Less
-below_in k [] d more h = is_less (id_cmp k (id_of d)) (and_left _ _ h)
-below_in k (e ∷ done) d more h = below_in k done d more (and_right (is_lt (id_cmp k (id_of e))) _ h)
+below_in k [] d more h = is_lt-Less (id_cmp k (id_of d)) (and-left _ _ h)
+below_in k (e ∷ done) d more h = below_in k done d more (and-right (is_lt (id_cmp k (id_of e))) _ h)
 
 -- the id of a document is above those before it
 past_prefix : (done : List Tree) (d : Tree) (more : List Tree) → ascending (done ++ d ∷ more) ≡ true → IsGapFor (id_of d) done (length done)
 past_prefix [] d more h = tt
 past_prefix (e ∷ done) d more h = (
-  flip (id_of e) (id_of d) Less (below_in (id_of e) done d more (and_left _ _ h)),
-  past_prefix done d more (and_right (below_all id_cmp (id_of e) (keyed (done ++ d ∷ more))) _ h),
+  id_cmp-flipped (id_of e) (id_of d) Less (below_in (id_of e) done d more (and-left _ _ h)),
+  past_prefix done d more (and-right (below_all id_cmp (id_of e) (keyed (done ++ d ∷ more))) _ h),
 )
 
 put_last : (d : Tree) (es : List Tree) → IsGapFor (id_of d) es (length es) → with_doc d es ≡ es ++ d ∷ []
@@ -135,9 +121,9 @@ above_at id d [] zero last len h is above =
 above_at id d [] (suc i) last len h is above = absurd (omega arith)
 above_at id d (e ∷ ds) zero last len h is above = absurd (omega arith)
 above_at id d (e ∷ ds) (suc i) last len h is above =
-    let rest = above_at id e ds i last (omega arith) (and_right (below_all id_cmp (id_of (doc d)) (keyed (map doc (e ∷ ds)))) _ h) is above in
-    let first = below_in (id_of (doc d)) [] (doc e) (map doc ds) (and_left _ _ h) in
-    (flip (id_of (doc d)) id Less (nat_list_cmp_total.trans (id_of (doc d)) (id_of (doc e)) id first (flip id (id_of (doc e)) Greater rest.0)), rest)
+    let rest = above_at id e ds i last (omega arith) (and-right (below_all id_cmp (id_of (doc d)) (keyed (map doc (e ∷ ds)))) _ h) is above in
+    let first = below_in (id_of (doc d)) [] (doc e) (map doc ds) (and-left _ _ h) in
+    (id_cmp-flipped (id_of (doc d)) id Less (nat_list_cmp_total.trans (id_of (doc d)) (id_of (doc e)) id first (id_cmp-flipped id (id_of (doc e)) Greater rest.0)), rest)
 
 -- an id above that of the last document is above all
 pub above_last : (id : List ℕ) (ds : List Doc) (last : Doc) → ascending (map doc ds) ≡ true → Some last ≡ slice_get ds (length ds - 1) → id_cmp id (id_of (doc last)) ≡ Greater → IsGapFor id (map doc ds) (length ds)

@@ -2,6 +2,7 @@
 use Rattle.std.proofs.Common.{◌≡◌, ℕ, List, [], ◌∷◌, ◌++◌, map, reverse, filter, Bool, true, false, ◌&&◌, ◌||◌, not, cond, Some, None, refl, sym, ap, subst, ◌∙◌}
 use Rattle.std.proofs.lemmas.List.{reverse-reverse}
 use Rattle.std.specs.List.{list_any, list_all}
+use Rattle.std.proofs.lemmas.Bool.{and_from}
 use Rattle.cs_value.specs.Tree.{Tree}
 use Rattle.cs_jsonmatch.specs.Path.{Path}
 use Rattle.cs_jsonmatch.specs.Grammar.{IsPath, first_name, first_bracket, first_deep_name, first_deep_bracket, next_name, next_bracket, next_deep_name, next_deep_bracket}
@@ -10,7 +11,7 @@ use Rattle.cs_jsonmatch.specs.Verdict.{spelled, IsPathRead, path_verdict}
 use Rattle.cs_jsonmatch.specs.declared.places.Part.TheVariants.{Name}
 use Rattle.cs_alter.specs.Within.{at, Reach, present, absent, blocked, reach, is_inside}
 use Rattle.cs_patch.specs.Targets.{if_some, plain_name, cut, run_of, prefix_of, Target, location, target_by, targets_from, made_targets, place_targets}
-use Rattle.cs_view.proofs.Booleans.{and-left, and-right, both}
+use Rattle.cs_view.proofs.Booleans.{and-left, and-right}
 use Rattle.cs_patch.proofs.Kept.{is_below}
 
 abbrev pub starts : {A : Type 0} → List A → Bool
@@ -59,7 +60,7 @@ pub all-both : {A : Type 0} (p : A → Bool) (xs ys : List A)
     → list_all p xs ≡ true → list_all p ys ≡ true → list_all p (xs ++ ys) ≡ true
 all-both p [] ys g h = h
 all-both p (x ∷ xs) ys g h =
-    both (p x) (list_all p (xs ++ ys)) (and-left (p x) (list_all p xs) g)
+    and_from (p x) (list_all p (xs ++ ys)) (and-left (p x) (list_all p xs) g)
     (all-both p xs ys (and-right (p x) (list_all p xs) g) h)
 
 pub all-filtered : {A : Type 0} (p q : A → Bool) (xs : List A)
@@ -68,7 +69,7 @@ all-filtered p q [] h = refl
 all-filtered p q (x ∷ xs) h =
     let rest = all-filtered p q xs (and-right (p x) (list_all p xs) h) in
     elim (q x) as (λ b. list_all p (cond b (x ∷ filter q xs) (filter q xs)) ≡ true) [
-      | true ↦ both (p x) (list_all p (filter q xs)) (and-left (p x) (list_all p xs) h) rest
+      | true ↦ and_from (p x) (list_all p (filter q xs)) (and-left (p x) (list_all p xs) h) rest
       | false ↦ rest
     ]
 

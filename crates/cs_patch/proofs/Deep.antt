@@ -4,9 +4,10 @@ use Rattle.std.proofs.lemmas.Grind.{common_steps}
 use Rattle.std.specs.Cmp.Lexicographic.{slice_cmp}
 use Rattle.std.specs.Ordering.{match_ordering}
 use Rattle.std.specs.List.{list_all, list_any}
+use Rattle.std.proofs.lemmas.Bool.{and_from}
 use Rattle.cs_value.specs.Tree.{Tree, null, boolean, integer, text, list, object, Trees, no_trees, more_trees, Pairs, no_pairs, more_pairs, depth, trees_depth, pairs_depth}
 use Rattle.cs_value.specs.Pairs.{find, put}
-use Rattle.cs_view.proofs.Booleans.{and-left, and-right, both}
+use Rattle.cs_view.proofs.Booleans.{and-left, and-right}
 use Rattle.cs_jsonmatch.specs.Places.{Location}
 use Rattle.cs_jsonmatch.specs.declared.places.Part.TheVariants.{Name, Pos}
 use Rattle.cs_alter.specs.Within.{at, nth, update_pair, update_item, changed, given, at_name, object_pairs, is_inside, Reach, present, absent, blocked, reach}
@@ -197,7 +198,7 @@ module _ (v : Tree) where
   seen_standing : (ts : List Target) → list_all stands ts ≡ true → are_standing v (map seen_of ts) ≡ true
   seen_standing [] h = refl
   seen_standing (t ∷ ts) h =
-      both (stands t) (are_standing v (map seen_of ts)) (and-left (stands t) (list_all stands ts) h)
+      and_from (stands t) (are_standing v (map seen_of ts)) (and-left (stands t) (list_all stands ts) h)
       (seen_standing ts (and-right (stands t) (list_all stands ts) h))
 
   pub outer_standing : (ns : List (List ℕ)) (ls : List Location)

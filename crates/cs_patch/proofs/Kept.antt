@@ -2,6 +2,7 @@
 use Rattle.std.proofs.Common.{◌≡◌, ℕ, List, [], ◌∷◌, ◌++◌, map, Bool, true, false, cond, Some, None, bytes_eq, refl, sym, ap, ◌∙◌}
 use Rattle.std.proofs.lemmas.Slice.Eq.{bytes_eq-Decides}
 use Rattle.std.specs.List.{list_any}
+use Rattle.std.proofs.lemmas.Bool.{false_from_ne_true}
 use Rattle.cs_value.specs.Tree.{Tree, null, boolean, integer, text, list, object}
 use Rattle.cs_value.specs.Pairs.{attribute, find}
 use Rattle.cs_value.specs.Words.{is_object}
@@ -28,10 +29,6 @@ keeps_on u v w a b = record {
   same = λ n h. b.same n h ∙ a.same n h;
 }
 
-differ : (b : Bool) → (b ≡ true → ⊥) → b ≡ false
-differ true h = absurd (h refl)
-differ false h = refl
-
 clash : (b : Bool) → b ≡ true → b ≡ false → ⊥
 clash true g h = cc
 clash false g h = cc
@@ -40,7 +37,7 @@ clash false g h = cc
 free : (m n : List ℕ) → list_any (bytes_eq m) fixed ≡ true → list_any (bytes_eq n) fixed ≡ false
     → bytes_eq m n ≡ false
 free m n h g =
-    differ (bytes_eq m n) (λ e.
+    false_from_ne_true (bytes_eq m n) (λ e.
     let same : m ≡ n = (bytes_eq-Decides m n).0 e in
     clash (list_any (bytes_eq n) fixed) (ap (λ k. list_any (bytes_eq k) fixed) (sym same) ∙ h) g)
 

@@ -1,6 +1,7 @@
 -- A plain predicate has neither `*` nor `->`.
 use Rattle.std.proofs.Common.{◌≡◌, Bool, true, false, cond, ◌&&◌, List, [], ◌∷◌, refl, ap, sym, ◌∙◌, Option, Some, None, option_map}
 use Rattle.std.specs.Prelude.{is_some, ◌||◌, ℕ}
+use Rattle.std.proofs.lemmas.Bool.{and_from}
 use Rattle.cs_syntax.specs.Expression.{Expression, null_literal, bool_literal, number_literal, text_literal, param, word, this, everything, round, call, array, chain, prefix, run, within, between, Operands, no_operands, more_operands, attr, bracket, Steps, no_steps, more_steps, element, spread_element, Elements, no_elements, more_elements, Arguments, no_arguments, more_arguments, argument, when_argument}
 use Rattle.cs_syntax.specs.Faults.{is_path}
 use Rattle.cs_syntax.specs.declared.tree.PreSign.{PreSign}
@@ -11,9 +12,6 @@ use Rattle.cs_func.specs.declared.function.Function.TheVariants.{Count, Length, 
 use Rattle.cs_meaning.specs.Operators.{Callee, referring, applying, callee}
 use Rattle.cs_meaning.proofs.Silent.{both-true}
 use Rattle.cs_plain.specs.Plain.{is_word, is_negative, is_measure, is_operand, is_one, are_operands, are_some, are_two, is_test, are_elements, are_some_elements, is_container, is_compared, is_comparison, is_junction, all_not, is_plain, are_joined, filter_alone, listened_filter}
-
-pub both : (a b : Bool) → a ≡ true → b ≡ true → (a && b) ≡ true
-both a b h g = rw (h, g) refl
 
 pub either-way : {P : Type 0} (a b : Bool) → (a || b) ≡ true → (a ≡ true → P) → (b ≡ true → P) → P
 either-way true b h f g = f refl
@@ -61,7 +59,7 @@ mutual
   quiet-operand _ h = absurd (cc)
 
   pub quiet-one : (xs : Arguments) → is_one xs ≡ true → quiet_arguments xs ≡ true
-  quiet-one (more_arguments (argument e) no_arguments) h = both (is_quiet e) true (quiet-operand
+  quiet-one (more_arguments (argument e) no_arguments) h = and_from (is_quiet e) true (quiet-operand
       e h) refl
   quiet-one _ h = absurd (cc)
 
@@ -69,7 +67,7 @@ quiet-all : (xs : Arguments) → are_operands xs ≡ true → quiet_arguments xs
 quiet-all no_arguments h = refl
 quiet-all (more_arguments (argument e) xs) h =
     let p = both-true (is_operand e) (are_operands xs) h in
-    both (is_quiet e) (quiet_arguments xs) (quiet-operand e p.0) (quiet-all xs p.1)
+    and_from (is_quiet e) (quiet_arguments xs) (quiet-operand e p.0) (quiet-all xs p.1)
 quiet-all (more_arguments (when_argument c e) xs) h = absurd (cc)
 
 quiet-some : (xs : Arguments) → are_some xs ≡ true → quiet_arguments xs ≡ true
@@ -93,7 +91,7 @@ quiet-each : (xs : Elements) → are_elements xs ≡ true → quiet_elements xs 
 quiet-each no_elements h = refl
 quiet-each (more_elements (element e) xs) h =
     let p = both-true (is_operand e) (are_elements xs) h in
-    both (is_quiet e) (quiet_elements xs) (quiet-operand e p.0) (quiet-each xs p.1)
+    and_from (is_quiet e) (quiet_elements xs) (quiet-operand e p.0) (quiet-each xs p.1)
 quiet-each (more_elements (spread_element e) xs) h = absurd (cc)
 
 quiet-array : (xs : Elements) → are_some_elements xs ≡ true → quiet_elements xs ≡ true
@@ -111,7 +109,7 @@ quiet-container (call name xs) h = quiet-call name xs (is_path name) h
 quiet-container e h = quiet-operand e h
 
 quiet-compared : (rest : Operands) → is_compared rest ≡ true → quiet_operands rest ≡ true
-quiet-compared (more_operands s e no_operands) h = both (is_quiet e) true (quiet-operand e
+quiet-compared (more_operands s e no_operands) h = and_from (is_quiet e) true (quiet-operand e
     (both-true (is_comparison s) (is_operand e) h).1) refl
 quiet-compared _ h = absurd (cc)
 
@@ -120,9 +118,9 @@ mutual
   quiet-plain (round e) h = quiet-plain e h
   quiet-plain (run e rest) h =
       either-way (is_plain e && are_joined rest) (is_operand e && is_compared rest) h
-      (λ g. let p = both-true (is_plain e) (are_joined rest) g in both (is_quiet e)
+      (λ g. let p = both-true (is_plain e) (are_joined rest) g in and_from (is_quiet e)
       (quiet_operands rest) (quiet-plain e p.0) (quiet-joined rest p.1))
-      (λ g. let p = both-true (is_operand e) (is_compared rest) g in both (is_quiet e)
+      (λ g. let p = both-true (is_operand e) (is_compared rest) g in and_from (is_quiet e)
       (quiet_operands rest) (quiet-operand e p.0) (quiet-compared rest p.1))
   quiet-plain (prefix signs e) h =
       either-way (all_not signs && is_plain e) (is_negative signs e) h
@@ -130,11 +128,11 @@ mutual
       (λ g. quiet-negative signs e g)
   quiet-plain (within e right) h =
       let p = both-true (is_operand e) (is_container right) h in
-      both (is_quiet e) (is_quiet right) (quiet-operand e p.0) (quiet-container right p.1)
+      and_from (is_quiet e) (is_quiet right) (quiet-operand e p.0) (quiet-container right p.1)
   quiet-plain (between e from to closed) h =
       let p = both-true (is_operand e) (is_operand from && is_operand to) h in
       let r = both-true (is_operand from) (is_operand to) p.1 in
-      both (is_quiet e) (is_quiet from && is_quiet to) (quiet-operand e p.0) (both (is_quiet
+      and_from (is_quiet e) (is_quiet from && is_quiet to) (quiet-operand e p.0) (and_from (is_quiet
       from) (is_quiet to) (quiet-operand from r.0) (quiet-operand to r.1))
   quiet-plain (call name xs) h = quiet-test (callee name) xs h
   quiet-plain e h = quiet-operand e h
@@ -144,7 +142,7 @@ mutual
   quiet-joined (more_operands s e rest) h =
       let p = both-true (is_junction s) (is_plain e && are_joined rest) h in
       let r = both-true (is_plain e) (are_joined rest) p.1 in
-      both (is_quiet e) (quiet_operands rest) (quiet-plain e r.0) (quiet-joined rest r.1)
+      and_from (is_quiet e) (quiet_operands rest) (quiet-plain e r.0) (quiet-joined rest r.1)
 
 kept : (b : Bool) (e filter : Expression) → cond b (Some e) None ≡ Some filter → (b ≡ true) × (e
     ≡ filter)

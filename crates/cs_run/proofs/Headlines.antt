@@ -4,6 +4,7 @@ use Rattle.std.proofs.Math.Seq.{drop-append_seam}
 use Rattle.std.proofs.lemmas.List.{append-nil}
 use Rattle.std.proofs.lemmas.Bool.Decides.{nat_tests}
 use Rattle.std.specs.Io.KnownBytes.{Appends}
+use Rattle.std.proofs.Math.Bool.{or-true}
 use Rattle.cs_io.specs.Bytes.{AppendsPartOf}
 use Rattle.cs_io.specs.Names.{Files, told_bytes, is_open, number_is}
 use Rattle.cs_io.specs.declared.library.Asked.{Asked}
@@ -20,13 +21,9 @@ use Rattle.cs_run.specs.declared.status.Status.{Status}
 use Rattle.cs_run.specs.declared.status.Status.TheVariants.{Done, ReadFault, Usage, Data, Input, WriteFault, NoMemory, OpenFault}
 use Rattle.cs_run.proofs.Playing.{front_replies, part_of}
 
-or_true : (b : Bool) → (b || true) ≡ true
-or_true true = refl
-or_true false = refl
-
 pub is_open-added : (asked : List Asked) (a : Asked) (n : ℕ) → a.number ≡ Some n → is_open (asked ++ a ∷ []) n ≡ true
 is_open-added [] a n e = rw e (grind (arith, nat_tests))
-is_open-added (b ∷ asked) a n e = rw (is_open-added asked a n e) (or_true (number_is b.number n))
+is_open-added (b ∷ asked) a n e = rw (is_open-added asked a n e) (or-true (number_is b.number n))
 
 -- what was asked for in the call: the data file's name, where there is one, and then the script's
 pub number_from : (name : Option (List ℕ)) (script : List ℕ) (d : Docs) (old mid new : List Asked) (number : ℕ) → AsksNamed name (Ok d) old mid → new ≡ mid ++ record { name = script; number = Some number } ∷ []

@@ -4,6 +4,7 @@ use Rattle.std.specs.Prelude.{◌==◌, ◌&&◌, option_and_then}
 use Rattle.std.specs.Char.{is_digit, digit_value}
 use Rattle.std.specs.Char.Utf16.{is_high_surrogate, is_low_surrogate, surrogate_pair_char}
 use Rattle.std.proofs.lemmas.List.{drop-drop}
+use Rattle.std.proofs.lemmas.Bool.{and_right}
 use Rattle.cs_syntax.specs.Escapes.{letter, four_digits, unit, by_unit, braced, unicode, escape}
 use Rattle.cs_syntax.specs.Ends.{placed, four_at, unit_at, by_unit_at, unicode_at, escape_at}
 
@@ -22,16 +23,12 @@ none-when : {A : Type 0} (t : Bool) (x : Option A) → t ≡ false → None ≡ 
 none-when false x h = refl
 none-when true x h = absurd cc
 
-and-false : (a b : Bool) → b ≡ false → (a && b) ≡ false
-and-false true b h = h
-and-false false b h = refl
-
 four-bytes : (t : List ℕ) →
     four_digits t ≡ four_of (get_or t 0 0) (get_or t 1 0) (get_or t 2 0) (get_or t 3 0)
 four-bytes [] = refl
-four-bytes (a ∷ []) = search (none-when, and-false, rules)
-four-bytes (a ∷ b ∷ []) = search (none-when, and-false, rules)
-four-bytes (a ∷ b ∷ c ∷ []) = search (none-when, and-false, rules)
+four-bytes (a ∷ []) = search (none-when, and_right, rules)
+four-bytes (a ∷ b ∷ []) = search (none-when, and_right, rules)
+four-bytes (a ∷ b ∷ c ∷ []) = search (none-when, and_right, rules)
 four-bytes (a ∷ b ∷ c ∷ d ∷ t) = refl
 
 four-is : (s : List ℕ) (at : ℕ) → four_digits (drop at s) ≡ four_at s at
@@ -43,7 +40,7 @@ four-is s at =
 unit-bytes : (t : List ℕ) →
     unit t ≡ cond (get_or t 0 0 == 92 && get_or t 1 0 == 117) (four_digits (drop 2 t)) None
 unit-bytes [] = refl
-unit-bytes (a ∷ []) = search (none-when, and-false, rules)
+unit-bytes (a ∷ []) = search (none-when, and_right, rules)
 unit-bytes (a ∷ b ∷ t) = refl
 
 unit-is : (s : List ℕ) (at : ℕ) → unit (drop at s) ≡ unit_at s at

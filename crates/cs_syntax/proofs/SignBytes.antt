@@ -4,11 +4,12 @@ use Rattle.std.specs.Prelude.{◌==◌, find}
 use Rattle.std.specs.Ordering.{is_eq}
 use Rattle.std.specs.Cmp.Lexicographic.{slice_cmp}
 use Rattle.std.proofs.lemmas.Map.Text.{is_eq-slice_cmp}
+use Rattle.std.proofs.Math.Bool.{and-false, and-true}
 use Rattle.cs_syntax.specs.declared.sign.Sign.{Sign}
 use Rattle.cs_syntax.specs.declared.sign.Sign.TheVariants as sign
 use Rattle.cs_syntax.specs.Signs.{signs, sign_of}
 use Rattle.cs_syntax.specs.Ends.{three_of, two_of}
-use Rattle.cs_syntax.proofs.Signed.{and-false, and-true, and-assoc}
+use Rattle.cs_syntax.proofs.Signed.{and-assoc}
 
 abbrev by_bytes : List ℕ → List (List ℕ × Sign) → Option Sign
 by_bytes s rows =

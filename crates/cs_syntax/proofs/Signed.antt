@@ -7,6 +7,7 @@ use Rattle.std.specs.Cmp.Lexicographic.{slice_cmp}
 use Rattle.std.proofs.lemmas.Map.Text.{is_eq-slice_cmp}
 use Rattle.std.proofs.lemmas.Slice.Eq.{bytes_eq-Decides}
 use Rattle.std.proofs.lemmas.Bool.{cases_lt, true≢false, or_cases, and_parts}
+use Rattle.std.proofs.Math.Bool.{and-false, and-true, or-false}
 use Rattle.cs_table.specs.Row.{row_of}
 use Rattle.cs_syntax.specs.declared.sign.Sign.{Sign}
 use Rattle.cs_syntax.specs.Signs.{signs, sign_of}
@@ -32,18 +33,6 @@ rows-any (r ∷ rows) s =
         ap (λ b. b || list_any (λ x. bytes_eq x s) (map (λ (x : List ℕ × Sign). x.0) rows)) is
     by_name false is h =
         h ∙ ap (λ b. b || list_any (λ x. bytes_eq x s) (map (λ (x : List ℕ × Sign). x.0) rows)) is
-
-pub and-false : (a : Bool) → (a && false) ≡ false
-and-false true = refl
-and-false false = refl
-
-pub and-true : (a : Bool) → (a && true) ≡ a
-and-true true = refl
-and-true false = refl
-
-pub or-false : (a : Bool) → (a || false) ≡ a
-or-false true = refl
-or-false false = refl
 
 pub and-assoc : (a b c : Bool) → (a && (b && c)) ≡ (a && b && c)
 and-assoc true b c = refl

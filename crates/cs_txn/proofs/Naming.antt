@@ -19,15 +19,10 @@ use Rattle.cs_value.proofs.Views.{tree-List, members-trees}
 use Rattle.cs_view.specs.Document.{id_of, passes}
 use Rattle.cs_view.specs.Dataset.{id_cmp, same_id, keyed, At, ascending, stands, kept_if}
 use Rattle.cs_view.proofs.Booleans.{and-left, and-right}
-use Rattle.cs_view.proofs.Datasets.{At-id, At-filter, ascending-filter, same_id-sym}
+use Rattle.cs_view.proofs.Datasets.{At-id, At-filter, ascending-filter, same_id-sym, is_lt-Less}
 use Rattle.cs_txn.specs.Mutated.{elements, names, names_one, named_ids}
 
 -- ---- the ids of documents in order
-is_lt-Less : (o : Ordering) → is_lt o ≡ true → o ≡ Less
-is_lt-Less Less h = refl
-is_lt-Less Equal h = cc
-is_lt-Less Greater h = cc
-
 below_ids : (k : List ℕ) (ds : List Tree) → below_all id_cmp k (keyed ds) ≡ true
     → AllByRecursion (λ y. id_cmp k y ≡ Less) (map id_of ds)
 below_ids k [] h = tt

@@ -5,10 +5,11 @@ use Rattle.std.specs.Ordering.{is_lt}
 use Rattle.std.proofs.lemmas.Cmp.{nat_list_cmp_total}
 use Rattle.std.proofs.lemmas.Map.Lookups.{exact_bytes}
 use Rattle.std.specs.FinMap.Entries.{find, below_all, same_entries}
+use Rattle.std.proofs.lemmas.Bool.{and_from}
 use Rattle.cs_value.specs.Tree.{Tree}
 use Rattle.cs_view.specs.Dataset.{id_cmp, same_id, At, ascending, is_dataset}
 use Rattle.cs_view.specs.Changes.{Edit, ids_ascend, is_of_id, are_changes, is_document_or_none, are_documents, LeadFrom, LeadTo, Before, After, before_of, after_of, IsChangeAt, AreChangesBetween}
-use Rattle.cs_view.proofs.Booleans.{and-left, and-right, both, to_T}
+use Rattle.cs_view.proofs.Booleans.{and-left, and-right, to_T}
 use Rattle.cs_view.proofs.Datasets.{same_id-same, same_id-refl, same_id-sym, lower-differs, At-placed, ascending-placed, dataset-placed, same_docs, At-is_of_id}
 
 abbrev pub OwnIds : List Edit → Type 0
@@ -25,7 +26,7 @@ own_ids cs h = own_list cs (and-right (ids_ascend cs) _ h)
 
 list_own : (cs : List Edit) → OwnIds cs → list_all (λ c. is_of_id c.0 c.1.0 && is_of_id c.0 c.1.1) cs ≡ true
 list_own [] h = refl
-list_own (c ∷ cs) h = both _ _ (both _ _ h.0.0 h.0.1) (list_own cs h.1)
+list_own (c ∷ cs) h = and_from _ _ (and_from _ _ h.0.0 h.0.1) (list_own cs h.1)
 
 before_step : (b : Bool) (s : Option Tree × Option Tree) (f : Option (Option Tree × Option Tree)) (x o : Option Tree) → x ≡ before_of f o → cond b s.0 x ≡ before_of (cond b (Some s) f) o
 before_step true s f x o h = refl
@@ -183,7 +184,7 @@ pub between-lead : (one other : List Tree) (cs : List Edit) → ascending one �
 between-lead one other cs g h between =
     let sides : Sides one other cs = between_sides one other cs cs between.1 (each_found cs between.0) in
     let own : OwnIds cs = sides_own one other cs sides in (
-      both _ _ between.0 (list_own cs own),
+      and_from _ _ between.0 (list_own cs own),
       sides_lead one other cs sides,
       same_docs (After one cs) other (ascending-After one cs g) h (λ q. At-After q one cs own ∙ between_after (At q one) (At q other) (find id_cmp q cs) (between.1 q)),
     )

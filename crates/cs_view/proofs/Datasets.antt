@@ -5,18 +5,19 @@ use Rattle.std.specs.Ordering.{is_eq, is_lt, ordering_reverse}
 use Rattle.std.proofs.lemmas.Cmp.{nat_list_cmp_total, tied_itself}
 use Rattle.std.proofs.lemmas.Map.Lookups.{exact_bytes}
 use Rattle.std.specs.FinMap.Entries.{by_order, find, put, where_key, is_sorted, below_all, find-put, is_sorted-put, find-where_key, is_sorted-where_key, same_entries}
+use Rattle.std.proofs.lemmas.Bool.{and_from}
 use Rattle.cs_value.specs.Tree.{Tree}
 use Rattle.cs_view.specs.Document.{id_of, is_document}
 use Rattle.cs_view.specs.Dataset.{id_cmp, same_id, keyed, At, ascending, is_dataset, with_doc, without, placed, kept_if}
 use Rattle.cs_view.specs.Changes.{is_of_id, is_document_or_none}
-use Rattle.cs_view.proofs.Booleans.{and-left, and-right, both, to_T, from_T}
+use Rattle.cs_view.proofs.Booleans.{and-left, and-right, to_T, from_T}
 
 is_eq-Equal : (o : Ordering) → is_eq o ≡ true → o ≡ Equal
 is_eq-Equal Equal h = refl
 is_eq-Equal Less h = cc
 is_eq-Equal Greater h = cc
 
-is_lt-Less : (o : Ordering) → is_lt o ≡ true → o ≡ Less
+pub is_lt-Less : (o : Ordering) → is_lt o ≡ true → o ≡ Less
 is_lt-Less Less h = refl
 is_lt-Less Equal h = cc
 is_lt-Less Greater h = cc
@@ -25,6 +26,10 @@ is_eq-reverse : (o : Ordering) → is_eq (ordering_reverse o) ≡ is_eq o
 is_eq-reverse Less = refl
 is_eq-reverse Equal = refl
 is_eq-reverse Greater = refl
+
+-- two ids compared the other way round
+pub id_cmp-flipped : (a b : List ℕ) (o : Ordering) → id_cmp a b ≡ o → id_cmp b a ≡ ordering_reverse o
+id_cmp-flipped a b o h = nat_list_cmp_total.antisymm b a ∙ ap ordering_reverse h
 
 pub same_id-same : (a b : List ℕ) → same_id a b ≡ true → a ≡ b
 same_id-same a b h = exact_bytes a b (is_eq-Equal (id_cmp a b) h)
@@ -93,16 +98,16 @@ all-filter : (p f : Tree → Bool) (es : List Tree) → list_all p es ≡ true �
 all-filter p f [] h = refl
 all-filter p f (e ∷ es) h =
     let rest = all-filter p f es (and-right (p e) _ h) in
-    elim (f e) as (λ b. list_all p (cond b (e ∷ filter f es) (filter f es)) ≡ true) [ true ↦ both _ _ (and-left _ _ h) rest | false ↦ rest ]
+    elim (f e) as (λ b. list_all p (cond b (e ∷ filter f es) (filter f es)) ≡ true) [ true ↦ and_from _ _ (and-left _ _ h) rest | false ↦ rest ]
 
 all-with_doc : (p : Tree → Bool) (d : Tree) (es : List Tree) → p d ≡ true → list_all p es ≡ true → list_all p (with_doc d es) ≡ true
-all-with_doc p d [] g h = both _ _ g refl
+all-with_doc p d [] g h = and_from _ _ g refl
 all-with_doc p d (e ∷ es) g h =
     let rest = and-right (p e) _ h in
     elim (id_cmp (id_of d) (id_of e)) as (λ o. list_all p (by_order o (d ∷ e ∷ es) (d ∷ es) (e ∷ with_doc d es)) ≡ true) [
-      | Less ↦ both _ _ g h
-      | Equal ↦ both _ _ g rest
-      | Greater ↦ both _ _ (and-left _ _ h) (all-with_doc p d es g rest)
+      | Less ↦ and_from _ _ g h
+      | Equal ↦ and_from _ _ g rest
+      | Greater ↦ and_from _ _ (and-left _ _ h) (all-with_doc p d es g rest)
     ]
 
 pub documents-placed : (id : List ℕ) (o : Option Tree) (es : List Tree) → is_document_or_none o ≡ true → list_all is_document es ≡ true → list_all is_document (placed id o es) ≡ true
@@ -110,7 +115,7 @@ documents-placed id None es g h = all-filter is_document (λ d. not (same_id id 
 documents-placed id (Some d) es g h = all-with_doc is_document d es g h
 
 pub dataset-placed : (id : List ℕ) (o : Option Tree) (es : List Tree) → is_document_or_none o ≡ true → is_dataset es ≡ true → is_dataset (placed id o es) ≡ true
-dataset-placed id o es g h = both _ _ (ascending-placed id o es (and-left _ _ h)) (documents-placed id o es g (and-right (ascending es) _ h))
+dataset-placed id o es g h = and_from _ _ (ascending-placed id o es (and-left _ _ h)) (documents-placed id o es g (and-right (ascending es) _ h))
 
 unkeyed : (docs : List Tree) → map (λ (p : List ℕ × Tree). p.1) (keyed docs) ≡ docs
 unkeyed [] = refl
@@ -139,13 +144,13 @@ below-filter : (p : Tree → Bool) (k : List ℕ) (ds : List Tree) → below_all
 below-filter p k [] h = refl
 below-filter p k (d ∷ ds) h =
     let rest = below-filter p k ds (and-right (is_lt (id_cmp k (id_of d))) _ h) in
-    elim (p d) as (λ b. below_all id_cmp k (keyed (cond b (d ∷ filter p ds) (filter p ds))) ≡ true) [ true ↦ both _ _ (and-left _ _ h) rest | false ↦ rest ]
+    elim (p d) as (λ b. below_all id_cmp k (keyed (cond b (d ∷ filter p ds) (filter p ds))) ≡ true) [ true ↦ and_from _ _ (and-left _ _ h) rest | false ↦ rest ]
 
 pub ascending-filter : (p : Tree → Bool) (ds : List Tree) → ascending ds ≡ true → ascending (filter p ds) ≡ true
 ascending-filter p [] h = refl
 ascending-filter p (d ∷ ds) h =
     let rest = ascending-filter p ds (and-right (below_all id_cmp (id_of d) (keyed ds)) _ h) in
-    elim (p d) as (λ b. ascending (cond b (d ∷ filter p ds) (filter p ds)) ≡ true) [ true ↦ both _ _ (below-filter p (id_of d) ds (and-left _ _ h)) rest | false ↦ rest ]
+    elim (p d) as (λ b. ascending (cond b (d ∷ filter p ds) (filter p ds)) ≡ true) [ true ↦ and_from _ _ (below-filter p (id_of d) ds (and-left _ _ h)) rest | false ↦ rest ]
 
 pub At-filter : (p : Tree → Bool) (q : List ℕ) (ds : List Tree) → ascending ds ≡ true → At q (filter p ds) ≡ kept_if p (At q ds)
 At-filter p q [] h = refl

@@ -2,6 +2,7 @@
 use Rattle.std.proofs.Common.{◌≡◌, ℕ, List, [], ◌∷◌, Vec, Global, Bool, true, false, cond, ◌&&◌, bytes_eq, refl, ap, ◌∙◌}
 use Rattle.std.proofs.lemmas.Map.Text.{is_eq-slice_cmp}
 use Rattle.std.specs.List.{list_any}
+use Rattle.std.proofs.Math.Bool.{and-true}
 use Rattle.cs_value.proofs.Views.{tree-List, members-trees}
 use Rattle.cs_value.specs.Tree.{Tree}
 use Rattle.cs_value.specs.View.{tree, list_tree}
@@ -19,14 +20,10 @@ pub element_of_list : (s : Scalar) (v : Vec Val Global) → has_element s (tree 
 element_of_list s v = ap (has_element s) (tree-List v) ∙ ap (list_any (equals s)) (members-trees (list_tree v.items))
 
 -- the documents that have the one key of a list are those that have it
-and_true : (b : Bool) → (b && true) ≡ b
-and_true true = refl
-and_true false = refl
-
 pub selected_one : (k : Key) (ds : List Tree) → selected (k ∷ []) ds ≡ Sel k ds
 selected_one k [] = refl
 selected_one k (d ∷ ds) =
-    ap (λ b. cond b (d ∷ selected (k ∷ []) ds) (selected (k ∷ []) ds)) (and_true (has k d))
+    ap (λ b. cond b (d ∷ selected (k ∷ []) ds) (selected (k ∷ []) ds)) (and-true (has k d))
     ∙ ap (λ es. cond (has k d) (d ∷ es) es) (selected_one k ds)
 
 -- without a key they are all

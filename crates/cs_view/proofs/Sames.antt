@@ -4,8 +4,9 @@ use Rattle.std.specs.Ordering.{is_eq, bool_cmp}
 use Rattle.std.specs.Str.{bytes_eq}
 use Rattle.std.proofs.lemmas.Bool.Decides.{Decides-int_eq}
 use Rattle.std.proofs.lemmas.Slice.Eq.{bytes_eq-Decides}
+use Rattle.std.proofs.lemmas.Bool.{and_from}
 use Rattle.cs_value.specs.Tree.{Tree, null, boolean, integer, text, list, object, Trees, no_trees, more_trees, Pairs, no_pairs, more_pairs}
-use Rattle.cs_view.proofs.Booleans.{and-left, and-right, both}
+use Rattle.cs_view.proofs.Booleans.{and-left, and-right}
 use Rattle.cs_value.specs.Same.{same_tree, same_trees, same_pairs}
 
 same-bools : (a b : Bool) → is_eq (bool_cmp a b) ≡ true → a ≡ b
@@ -87,10 +88,10 @@ mutual
 
   trees-same : (a : Trees) → same_trees a a ≡ true
   trees-same no_trees = refl
-  trees-same (more_trees t ts) = both (same_tree t t) (same_trees ts ts) (one-same t) (trees-same ts)
+  trees-same (more_trees t ts) = and_from (same_tree t t) (same_trees ts ts) (one-same t) (trees-same ts)
 
   pairs-same : (a : Pairs) → same_pairs a a ≡ true
   pairs-same no_pairs = refl
   pairs-same (more_pairs k t ps) =
-      both (bytes_eq k k) (same_tree t t && same_pairs ps ps) ((bytes_eq-Decides k k).1 refl)
-      (both (same_tree t t) (same_pairs ps ps) (one-same t) (pairs-same ps))
+      and_from (bytes_eq k k) (same_tree t t && same_pairs ps ps) ((bytes_eq-Decides k k).1 refl)
+      (and_from (same_tree t t) (same_pairs ps ps) (one-same t) (pairs-same ps))

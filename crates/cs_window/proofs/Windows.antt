@@ -5,6 +5,7 @@ use Rattle.std.specs.Option.{option_map, option_map_or}
 use Rattle.std.proofs.lemmas.Cmp.{upto}
 use Rattle.std.proofs.lemmas.List.{take-map}
 use Rattle.std.proofs.lemmas.Option.{get_or_from_slice_get, slice_get_within}
+use Rattle.std.proofs.lemmas.Bool.{not-true}
 use Rattle.cs_value.specs.Words.{list_of}
 use Rattle.cs_value.specs.Tree.{Tree, null, Pairs}
 use Rattle.cs_value.proofs.Views.{members-trees}
@@ -77,10 +78,6 @@ pub tail-first : (e : Expression) (params : Pairs) (w : Window) (ts : List Tree)
 tail-first e params w ts h = steps-first params (tail_of (steps_behind e)) w ts h
 
 -- one that is not behind a bound passes with each that does not rank behind it
-not-true : (b : Bool) → not b ≡ true → b ≡ false
-not-true true h = cc
-not-true false h = refl
-
 closed-near : (ks : OrderKeys) (bound : List Tree) → IsClosed (directions ks) (λ x. not_behind ks bound x.by)
 closed-near ks bound x y h below =
     let ds = directions ks in

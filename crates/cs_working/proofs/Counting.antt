@@ -3,10 +3,10 @@ use Rattle.std.proofs.Common.{◌≡◌, ℕ, ◌+◌, ◌≤◌, List, [], ◌�
 use Rattle.std.specs.BTreeSet.{BTreeSet, IsOrdered}
 use Rattle.std.specs.List.{list_all}
 use Rattle.std.specs.List.Sorted.{IsStrictlySortedBy}
+use Rattle.std.proofs.lemmas.Bool.{and_from}
 use Rattle.cs_value.specs.Tree.{Tree}
 use Rattle.cs_view.specs.Dataset.{id_cmp, At, ascending, stands}
 use Rattle.cs_view.specs.Changes.{is_of_id, LeadFrom, After}
-use Rattle.cs_view.proofs.Booleans.{both}
 use Rattle.cs_view.proofs.Datasets.{At-is_of_id, same_docs}
 use Rattle.cs_view.proofs.Changed.{ascending-After}
 use Rattle.cs_shelf.specs.View.{documents}
@@ -33,13 +33,13 @@ leads-worked ds put (x ∷ ids) = (refl, leads-worked ds put ids)
 
 own-list : (ds put : List Tree) (ids : List (List ℕ)) → list_all (λ c. is_of_id c.0 c.1.0 && is_of_id c.0 c.1.1) (worked ds put ids) ≡ true
 own-list ds put [] = refl
-own-list ds put (x ∷ ids) = both _ _ (both _ _ (At-is_of_id x ds (At x ds) refl) (At-is_of_id x put (At x put) refl)) (own-list ds put ids)
+own-list ds put (x ∷ ids) = and_from _ _ (and_from _ _ (At-is_of_id x ds (At x ds) refl) (At-is_of_id x put (At x put) refl)) (own-list ds put ids)
 
 counted_worked : (ds put : List Tree) (ids : List (List ℕ)) → ascending ds ≡ true → IsStrictlySortedBy id_cmp ids → length (After ds (worked ds put ids)) + standing_among ds ids ≡ length ds + standing_among put ids
 counted_worked ds put ids asc sorted =
     let cs = worked ds put ids in
     ap (λ n. length (After ds cs) + n) (sym (stood-worked ds put ids))
-    ∙ counted ds cs asc (both _ _ (ascend-worked ds put ids sorted) (own-list ds put ids)) (leads-worked ds put ids)
+    ∙ counted ds cs asc (and_from _ _ (ascend-worked ds put ids sorted) (own-list ds put ids)) (leads-worked ds put ids)
     ∙ ap (λ n. length ds + n) (standing-worked ds put ids)
 
 none_among : (ids : List (List ℕ)) → standing_among [] ids ≡ 0

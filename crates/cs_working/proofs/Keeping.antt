@@ -5,10 +5,10 @@ use Rattle.std.specs.List.Sorted.{IsStrictlySortedBy}
 use Rattle.std.specs.Option.{option_to_list}
 use Rattle.std.specs.Ordering.{is_lt}
 use Rattle.std.specs.FinMap.Entries.{find, below_all}
+use Rattle.std.proofs.lemmas.Bool.{and_from}
 use Rattle.cs_value.specs.Tree.{Tree}
 use Rattle.cs_view.specs.Dataset.{id_cmp, same_id, At}
 use Rattle.cs_view.specs.Changes.{Edit, ids_ascend, After, IsChangeAt, AreChangesBetween}
-use Rattle.cs_view.proofs.Booleans.{both}
 use Rattle.cs_view.proofs.Datasets.{same_id-same, same_id-refl, find-above}
 use Rattle.cs_working.specs.Changed.{IsOneChange}
 use Rattle.cs_working.specs.Working.{worked}
@@ -21,7 +21,7 @@ Kept ds put (x ∷ ids) cs = (o : Option Edit) × (rest : List Edit) × IsOneCha
 
 below_side : (k x : List ℕ) (b a : Option Tree) (o : Option Edit) (rest : List Edit) → id_cmp k x ≡ Less → IsOneChange x b a o → below_all id_cmp k rest ≡ true → below_all id_cmp k (option_to_list o ++ rest) ≡ true
 below_side k x b a None rest l one h = h
-below_side k x b a (Some c) rest l one h = both _ _ (ap (λ (e : Edit). is_lt (id_cmp k e.0)) one.1 ∙ ap is_lt l) h
+below_side k x b a (Some c) rest l one h = and_from _ _ (ap (λ (e : Edit). is_lt (id_cmp k e.0)) one.1 ∙ ap is_lt l) h
 
 kept_below : (k : List ℕ) (ds put : List Tree) (ids : List (List ℕ)) (cs : List Edit) → AllByRecursion (λ y. id_cmp k y ≡ Less) ids → Kept ds put ids cs → below_all id_cmp k cs ≡ true
 kept_below k ds put [] cs h kept = ap (below_all id_cmp k) kept
@@ -30,7 +30,7 @@ kept_below k ds put (x ∷ ids) cs h kept =
 
 ascend_side : (x : List ℕ) (b a : Option Tree) (o : Option Edit) (rest : List Edit) → IsOneChange x b a o → below_all id_cmp x rest ≡ true → ids_ascend rest ≡ true → ids_ascend (option_to_list o ++ rest) ≡ true
 ascend_side x b a None rest one l h = h
-ascend_side x b a (Some c) rest one l h = both _ _ (subst (λ (e : Edit). below_all id_cmp e.0 rest ≡ true) (sym one.1) l) h
+ascend_side x b a (Some c) rest one l h = and_from _ _ (subst (λ (e : Edit). below_all id_cmp e.0 rest ≡ true) (sym one.1) l) h
 
 kept_ascend : (ds put : List Tree) (ids : List (List ℕ)) (cs : List Edit) → IsStrictlySortedBy id_cmp ids → Kept ds put ids cs → ids_ascend cs ≡ true
 unfolding IsStrictlySortedBy

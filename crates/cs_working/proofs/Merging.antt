@@ -4,17 +4,17 @@ use Rattle.std.proofs.lemmas.Cmp.{nat_list_cmp_total}
 use Rattle.std.specs.BTreeSet.{contains}
 use Rattle.std.specs.List.{AllByRecursion, filter}
 use Rattle.std.specs.Ordering.{is_eq, is_lt, ordering_reverse}
+use Rattle.std.proofs.lemmas.Bool.{and_from}
 use Rattle.cs_value.specs.Tree.{Tree}
 use Rattle.cs_view.specs.Document.{id_of}
 use Rattle.cs_view.specs.Dataset.{id_cmp, same_id, At, ascending, kept_if}
 use Rattle.cs_view.specs.Keys.{has_all, selected}
 use Rattle.cs_view.specs.declared.key.Key.{Key}
-use Rattle.cs_view.proofs.Booleans.{both}
 use Rattle.cs_view.proofs.Changed.{ascending-After}
-use Rattle.cs_view.proofs.Datasets.{same_id-same, same_docs, ascending-filter, At-filter}
+use Rattle.cs_view.proofs.Datasets.{same_id-same, same_docs, ascending-filter, At-filter, is_lt-Less}
 use Rattle.cs_shelf.specs.View.{documents}
 use Rattle.cs_shelf.proofs.Standing.{ascending-documents}
-use Rattle.cs_docs.proofs.Filters.{is_lt-Less, IsBelow, below-head, below-tail, head-below, tail-ascends, members}
+use Rattle.cs_docs.proofs.Filters.{IsBelow, below-head, below-tail, head-below, tail-ascends, members}
 use Rattle.cs_index.specs.View.{store_of}
 use Rattle.cs_working.specs.Working.{worked, base, working}
 use Rattle.cs_working.specs.declared.working.Working.{Working}
@@ -119,17 +119,17 @@ module _ (touched : List ℕ → Bool) where
 -- ---- the ids ascend
 below-trans : (k j : List ℕ) (ds : List Tree) → id_cmp k j ≡ Less → IsBelow j ds → IsBelow k ds
 below-trans k j [] l h = refl
-below-trans k j (d ∷ ds) l h = both _ _ (ap is_lt (nat_list_cmp_total.trans k j (id_of d) l (below-head j d ds h))) (below-trans k j ds l (below-tail j d ds h))
+below-trans k j (d ∷ ds) l h = and_from _ _ (ap is_lt (nat_list_cmp_total.trans k j (id_of d) l (below-head j d ds h))) (below-trans k j ds l (below-tail j d ds h))
 
 below-append : (k : List ℕ) (xs ys : List Tree) → IsBelow k xs → IsBelow k ys → IsBelow k (xs ++ ys)
 below-append k [] ys g h = h
-below-append k (x ∷ xs) ys g h = both _ _ (ap is_lt (below-head k x xs g)) (below-append k xs ys (below-tail k x xs g) h)
+below-append k (x ∷ xs) ys g h = and_from _ _ (ap is_lt (below-head k x xs g)) (below-append k xs ys (below-tail k x xs g) h)
 
 below-lower : (k id : List ℕ) (ds : List Tree) → IsBelow k ds → IsBelow k (lower_docs id ds)
 below-lower k id [] h = refl
 below-lower k id (d ∷ ds) h =
     let rest = below-lower k id ds (below-tail k d ds h) in
-    elim (is_lt (id_cmp (id_of d) id)) as (λ b. IsBelow k (cond b (d ∷ lower_docs id ds) [])) [ true ↦ both _ _ (ap is_lt (below-head k d ds h)) rest | false ↦ refl ]
+    elim (is_lt (id_cmp (id_of d) id)) as (λ b. IsBelow k (cond b (d ∷ lower_docs id ds) [])) [ true ↦ and_from _ _ (ap is_lt (below-head k d ds h)) rest | false ↦ refl ]
 
 below-upper : (k id : List ℕ) (ds : List Tree) → IsBelow k ds → IsBelow k (upper_docs id ds)
 below-upper k id [] h = refl
@@ -141,7 +141,7 @@ ascending-lower : (id : List ℕ) (ds : List Tree) → ascending ds ≡ true →
 ascending-lower id [] h = refl
 ascending-lower id (d ∷ ds) h =
     let rest = ascending-lower id ds (tail-ascends d ds h) in
-    elim (is_lt (id_cmp (id_of d) id)) as (λ b. ascending (cond b (d ∷ lower_docs id ds) []) ≡ true) [ true ↦ both _ _ (below-lower (id_of d) id ds (head-below d ds h)) rest | false ↦ refl ]
+    elim (is_lt (id_cmp (id_of d) id)) as (λ b. ascending (cond b (d ∷ lower_docs id ds) []) ≡ true) [ true ↦ and_from _ _ (below-lower (id_of d) id ds (head-below d ds h)) rest | false ↦ refl ]
 
 ascending-upper : (id : List ℕ) (ds : List Tree) → ascending ds ≡ true → ascending (upper_docs id ds) ≡ true
 ascending-upper id [] h = refl
@@ -173,12 +173,12 @@ upper-above touched id (d ∷ ds) apart_from all asc = by_test (is_lt (id_cmp (i
 
   by_test : (b : Bool) → is_lt (id_cmp (id_of d) id) ≡ b → IsBelow id (upper_docs id ds) → IsBelow id (cond b (upper_docs id ds) (d ∷ ds))
   by_test true e rest = rest
-  by_test false e rest = both _ _ (ap is_lt (over e)) (below-trans id (id_of d) ds (over e) (head-below d ds asc))
+  by_test false e rest = and_from _ _ (ap is_lt (over e)) (below-trans id (id_of d) ds (over e) (head-below d ds asc))
 
 joined : (xs : List Tree) (d : Tree) (rest : List Tree) → ascending xs ≡ true → AllByRecursion (λ x. id_cmp (id_of x) (id_of d) ≡ Less) xs → ascending (d ∷ rest) ≡ true → ascending (xs ++ d ∷ rest) ≡ true
 joined [] d rest asc less h = h
 joined (x ∷ xs) d rest asc less h =
-    both _ _ (below-append (id_of x) xs (d ∷ rest) (head-below x xs asc) (both _ _ (ap is_lt less.0) (below-trans (id_of x) (id_of d) rest less.0 (head-below d rest h))))
+    and_from _ _ (below-append (id_of x) xs (d ∷ rest) (head-below x xs asc) (and_from _ _ (ap is_lt less.0) (below-trans (id_of x) (id_of d) rest less.0 (head-below d rest h))))
     (joined xs d rest (tail-ascends x xs asc) less.1 h)
 
 below-merged : (touched : List ℕ → Bool) (k : List ℕ) (ds ps : List Tree) → IsBelow k ds → IsBelow k ps → IsBelow k (merged_docs touched ds ps)
@@ -188,7 +188,7 @@ below-merged touched k (d ∷ ds) ps g h =
     let there = below-merged touched k ds (upper_docs (id_of d) ps) (below-tail k d ds g) (below-upper k (id_of d) ps h) in
     elim (touched (id_of d)) as (λ b. IsBelow k (cond b (merged_docs touched ds ps) (lower_docs (id_of d) ps ++ d ∷ merged_docs touched ds (upper_docs (id_of d) ps)))) [
       | true ↦ here
-      | false ↦ below-append k (lower_docs (id_of d) ps) (d ∷ merged_docs touched ds (upper_docs (id_of d) ps)) (below-lower k (id_of d) ps h) (both _ _ (ap is_lt (below-head k d ds g)) there)
+      | false ↦ below-append k (lower_docs (id_of d) ps) (d ∷ merged_docs touched ds (upper_docs (id_of d) ps)) (below-lower k (id_of d) ps h) (and_from _ _ (ap is_lt (below-head k d ds g)) there)
     ]
 
 ascending-merged : (touched : List ℕ → Bool) (ds ps : List Tree) → AreTouched touched ps → ascending ds ≡ true → ascending ps ≡ true → ascending (merged_docs touched ds ps) ≡ true
@@ -204,7 +204,7 @@ ascending-merged touched (d ∷ ds) ps all g h =
       by_test true e here there = here
       by_test false e here there =
           joined (lower_docs (id_of d) ps) d (merged_docs touched ds high) (ascending-lower (id_of d) ps h) (lower-less (id_of d) ps)
-          (both _ _ (below-merged touched (id_of d) ds high (head-below d ds g) (upper-above touched (id_of d) ps e all h)) there)
+          (and_from _ _ (below-merged touched (id_of d) ds high (head-below d ds g) (upper-above touched (id_of d) ps e all h)) there)
 
 -- ---- the documents that have each of some keys
 touched_put : (w : Working) → AreTouched (contains id_cmp w.touched) (documents w.put)

@@ -6,10 +6,10 @@ use Rattle.std.specs.List.Sorted.{IsStrictlySortedBy}
 use Rattle.std.specs.Ordering.{is_lt}
 use Rattle.std.specs.BTreeSet.{contains}
 use Rattle.std.specs.FinMap.Entries.{find, below_all}
+use Rattle.std.proofs.lemmas.Bool.{and_from}
 use Rattle.cs_value.specs.Tree.{Tree}
 use Rattle.cs_view.specs.Dataset.{id_cmp, same_id, At, ascending, placed}
 use Rattle.cs_view.specs.Changes.{ids_ascend, is_of_id, After, after_of}
-use Rattle.cs_view.proofs.Booleans.{both}
 use Rattle.cs_view.proofs.Datasets.{same_id-same, same_id-sym, At-is_of_id, At-placed, ascending-placed, same_docs}
 use Rattle.cs_view.proofs.Changed.{OwnIds, At-After, ascending-After}
 use Rattle.cs_shelf.specs.View.{documents}
@@ -58,12 +58,12 @@ worked_on ds put put' ids ids' id o asc own touched is =
 
 below-worked : (k : List ℕ) (ds put : List Tree) (ids : List (List ℕ)) → AllByRecursion (λ y. id_cmp k y ≡ Less) ids → below_all id_cmp k (worked ds put ids) ≡ true
 below-worked k ds put [] h = refl
-below-worked k ds put (x ∷ ids) h = both _ _ (ap is_lt h.0) (below-worked k ds put ids h.1)
+below-worked k ds put (x ∷ ids) h = and_from _ _ (ap is_lt h.0) (below-worked k ds put ids h.1)
 
 pub ascend-worked : (ds put : List Tree) (ids : List (List ℕ)) → IsStrictlySortedBy id_cmp ids → ids_ascend (worked ds put ids) ≡ true
 unfolding IsStrictlySortedBy
 ascend-worked ds put [] h = refl
-ascend-worked ds put (x ∷ ids) h = both _ _ (below-worked x ds put ids h.0) (ascend-worked ds put ids h.1)
+ascend-worked ds put (x ∷ ids) h = and_from _ _ (below-worked x ds put ids h.0) (ascend-worked ds put ids h.1)
 
 pub on_ok : {A E : Type 0} (r : Result A E) {P Q : Type 0} → OnOk r P → (P → Q) → OnOk r Q
 on_ok (Ok a) h f = f h

@@ -2,11 +2,12 @@
 use Rattle.std.specs.Prelude.{◌≡◌, ℕ, List, [], ◌∷◌, true, false, cond, Some}
 use Rattle.std.specs.List.{list_all}
 use Rattle.std.proofs.Common.{refl}
+use Rattle.std.proofs.lemmas.Bool.{and_from}
 use Rattle.cs_value.specs.Tree.{Tree}
 use Rattle.cs_view.specs.Document.{id_of, is_document}
 use Rattle.cs_view.specs.Dataset.{At, same_id, ascending, is_dataset}
 use Rattle.cs_view.specs.Changes.{is_document_or_none, are_documents}
-use Rattle.cs_view.proofs.Booleans.{and-left, and-right, both}
+use Rattle.cs_view.proofs.Booleans.{and-left, and-right}
 use Rattle.cs_view.proofs.Changed.{dataset-After}
 use Rattle.cs_shelf.specs.View.{documents}
 use Rattle.cs_shelf.proofs.Standing.{dataset}
@@ -30,7 +31,7 @@ are_documents_worked : (docs put : List Tree) (ids : List (List ℕ))
     → are_documents (worked docs put ids) ≡ true
 are_documents_worked docs put [] g h = refl
 are_documents_worked docs put (x ∷ ids) g h =
-    both _ _ (both _ _ (is_document_at x docs g) (is_document_at x put h))
+    and_from _ _ (and_from _ _ (is_document_at x docs g) (is_document_at x put h))
     (are_documents_worked docs put ids g h)
 
 -- it is a dataset
