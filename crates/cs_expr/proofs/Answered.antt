@@ -1,5 +1,5 @@
 -- The longer answers of the evaluator, over plain variables.
-use Rattle.std.proofs.Common.{◌≡◌, ℕ, List, [], ◌∷◌, ◌++◌, map, refl, sym, ap, ◌∙◌, append_assoc, Bool, true, false, true≢false, drop, cond, Vec, Box, Global}
+use Rattle.std.proofs.Common.{◌≡◌, ℕ, List, [], ◌∷◌, ◌++◌, map, refl, sym, ap, ◌∙◌, append_assoc, Bool, true, false, true≢false, Some, None, drop, cond, Vec, Box, Global}
 use Rattle.std.specs.Prelude.{filter, flat_map, OnOk, Result, Ok, Err}
 use Rattle.cs_value.specs.Words.{list_of}
 use Rattle.cs_value.specs.Tree.{Tree, Pairs}
@@ -31,7 +31,7 @@ use Rattle.cs_parts.specs.Kinds.{kinds_of, first_kind}
 use Rattle.cs_parts.specs.Turns.{turn, is_end}
 use Rattle.cs_expr.specs.Starts.{once, once_looked, start_value, start_looked, enter_value, enter_looked}
 use Rattle.cs_expr.proofs.Joins.{onward_looks, first_of_kinds}
-use Rattle.cs_expr.specs.Tried.{tried}
+use Rattle.cs_levels.specs.Tried.{tried}
 use Rattle.cs_syntax.proofs.Views.{expression_run, step_pipe}
 
 -- a run of operators, by the parts that code has at hand
@@ -134,3 +134,7 @@ kind_behind xs x ys ks js is has behind = ap first_kind (kinds_behind xs x ys ks
 pub on_ok : {A E : Type 0} (r : Result A E) {P : Type 0} → P → OnOk r P
 on_ok (Ok x) h = h
 on_ok (Err x) h = tt
+
+-- nothing is not something
+pub no_some : {A : Type 0} {x : A} → None ≡ Some x → ⊥
+no_some h = cc

@@ -12,6 +12,7 @@ use Rattle.cs_parts.specs.Callees.{path_arguments}
 use Rattle.cs_meaning.specs.Operators.{is_true, callee, in_list_or_path, in_path, sole}
 use Rattle.cs_meaning.specs.Values.{value, arguments_values, selected, path_pattern}
 use Rattle.cs_meaning.specs.Looked.{looked, arguments_looked, coalesced_looked, selected_looked, called_looked}
+use Rattle.cs_expr.proofs.Answered.{no_some}
 use Rattle.cs_expr.specs.Choosing.{chosen, chosen_looked}
 use Rattle.cs_expr.specs.Weight.{weight, argument_weight, arguments_weight}
 
@@ -51,7 +52,7 @@ selected_looks_here docs params x xs scope e h = sym (selected_looks_by docs par
 
 chosen_weight_by : (b : Bool) (c e d : Expression) → cond b (Some d) None ≡ Some e → weight e + 9 ≤ argument_weight (when_argument c d)
 chosen_weight_by true c e d h = omega (arith, ap weight (some_is d e h))
-chosen_weight_by false c e d h = cc
+chosen_weight_by false c e d h = absurd (no_some h)
 
 pub chosen_weight : (docs : List Tree) (params : Pairs) (x : Argument) (scope : List Tree) (e : Expression) → chosen docs params x scope ≡ Some e → weight e + 9 ≤ argument_weight x
 chosen_weight docs params (argument d) scope e h = omega (arith, ap weight (some_is d e h))
@@ -85,19 +86,19 @@ path_looked_by : (docs : List Tree) (params : Pairs) (name : List ℕ) (args xs 
     → looked docs params (call name args) scope ≡ arguments_looked docs params xs scope
 path_looked_by docs params name args xs scope true is h =
     path_callee name (coalesced_looked docs params args scope) (selected_looked docs params args scope) (arguments_looked docs params args scope) is ∙ ap (λ (ys : Arguments). arguments_looked docs params ys scope) (some_is args xs h)
-path_looked_by docs params name args xs scope false is h = cc
+path_looked_by docs params name args xs scope false is h = absurd (no_some h)
 
 pub path_looked : (docs : List Tree) (params : Pairs) (e : Expression) (scope : List Tree) (xs : Arguments) → path_arguments e ≡ Some xs → looked docs params e scope ≡ arguments_looked docs params xs scope
 path_looked docs params (call name args) scope xs h = path_looked_by docs params name args xs scope (is_path name) refl h
-path_looked docs params _ scope xs h = cc
+path_looked docs params _ scope xs h = absurd (no_some h)
 
 path_weight_by : (name : List ℕ) (args xs : Arguments) (b : Bool) → cond b (Some args) None ≡ Some xs → weight (call name args) ≡ 9 + arguments_weight xs
 path_weight_by name args xs true h = ap (λ (ys : Arguments). 9 + arguments_weight ys) (some_is args xs h)
-path_weight_by name args xs false h = cc
+path_weight_by name args xs false h = absurd (no_some h)
 
 pub path_weight : (e : Expression) (xs : Arguments) → path_arguments e ≡ Some xs → weight e ≡ 9 + arguments_weight xs
 path_weight (call name args) xs h = path_weight_by name args xs (is_path name) h
-path_weight _ xs h = cc
+path_weight _ xs h = absurd (no_some h)
 
 pub none_left : {A : Type 0} (xs : List A) → length xs ≡ 0 → xs ≡ []
 none_left [] h = refl

@@ -1,5 +1,5 @@
 -- Open levels of a chain, over plain variables.
-use Rattle.std.proofs.Common.{◌≡◌, ℕ, ◌+◌, ◌<◌, ◌≤◌, List, [], ◌∷◌, ◌++◌, length, refl, sym}
+use Rattle.std.proofs.Common.{◌≡◌, ℕ, ◌<◌, ◌≤◌, List, [], ◌∷◌, ◌++◌, length, refl, sym}
 use Rattle.std.proofs.Common.{ap}
 use Rattle.std.proofs.Common.{subst, ◌∙◌, append_assoc, false, Option, Some, None}
 use Rattle.std.proofs.Common.{arith}
@@ -16,7 +16,8 @@ use Rattle.cs_meaning.specs.declared.join.Kind.{Kind}
 use Rattle.cs_meaning.specs.declared.join.Way.{Way}
 use Rattle.cs_meaning.specs.declared.join.Way.TheVariants.{Through, Over, After, Ends}
 use Rattle.cs_meaning.specs.declared.join.Entrance.{Entrance}
-use Rattle.cs_meaning.specs.declared.join.Entrance.TheVariants.{Whole, Mapped, Flat}
+use Rattle.cs_meaning.specs.declared.join.Entrance.TheVariants as entrance_of
+use Rattle.cs_meaning.specs.declared.join.Entrance.TheVariants.{Mapped, Flat}
 use Rattle.cs_meaning.specs.Joining.{mapped, form, kind, way}
 use Rattle.cs_meaning.specs.Joining.{entrance, entered, onward}
 use Rattle.cs_meaning.specs.Looked.{each_looked, rest_looked}
@@ -24,12 +25,13 @@ use Rattle.cs_parts.specs.Parts.{got}
 use Rattle.cs_meaning.specs.Values.{rest_value, step_value}
 use Rattle.cs_parts.specs.Turns.{turn, is_end}
 use Rattle.cs_expr.specs.Starts.{once}
-use Rattle.cs_expr.specs.Fits.{steps_in, Fits}
-use Rattle.cs_levels.specs.Levels.{unwound, reached_value, task_value, Waiting}
+use Rattle.cs_levels.specs.Nodes.{steps_in}
+use Rattle.cs_expr.specs.Fits.{Fits, reached_weight}
+use Rattle.cs_levels.specs.Levels.{entering, unwound, reached_value, task_value, Waiting}
 use Rattle.cs_levels.specs.Levels.{waiting, waiting_of, levels_waiting, reached_waiting}
 use Rattle.cs_levels.specs.Levels.{task_waiting, Ended}
 use Rattle.cs_expr.specs.Fits.{AllFit, ReachedFits}
-use Rattle.cs_expr.specs.Stops.{Stop, at_end, at_each, entered_stop, onward_stop, stop}
+use Rattle.cs_expr.specs.Stops.{Stop, at_end, at_rest, at_each, entered_stop, onward_stop, stop}
 use Rattle.cs_expr.specs.Stops.{stop_value, stop_looked, stopped}
 use Rattle.cs_levels.specs.declared.levels.Remaining.{Remaining}
 use Rattle.cs_expr.specs.Weight.{steps_weight}
@@ -39,7 +41,7 @@ use Rattle.cs_parts.specs.declared.answer.Got.{Got}
 use Rattle.cs_levels.specs.declared.levels.Task.{Task}
 use Rattle.cs_levels.specs.declared.levels.Task.TheVariants.{Done}
 use Rattle.cs_levels.specs.declared.levels.Reached.{Reached}
-use Rattle.cs_levels.specs.declared.levels.Reached.TheVariants.{End, Each}
+use Rattle.cs_levels.specs.declared.levels.Reached.TheVariants.{End, Whole, Each}
 
 -- the readings of what waits
 abbrev pub rest_of : List Tree → Pairs → List Tree → Remaining → Tree → Tree
@@ -48,15 +50,15 @@ rest_of docs params scope r v = rest_value docs params (steps_in r) scope v
 abbrev pub looked_of : List Tree → Pairs → List Tree → Waiting → List Key
 looked_of docs params scope w = rest_looked docs params (steps_in w.rest) scope w.value
 
--- a mark for each value that goes through a rest behind this one
+-- a mark for each step that a value takes in this rest, or behind it
 abbrev entered_tally : Entrance → (Tree → List Key) → Tree → List Key
-entered_tally Whole rest v = rest v
+entered_tally entrance_of.Whole rest v = All ∷ rest v
 entered_tally Mapped rest v = each_looked (λ x. All ∷ rest x) v
 entered_tally Flat rest v = each_looked (λ x. All ∷ rest x) v
 
 abbrev onward_tally : Way → Entrance → (Tree → Tree) → (Tree → List Key) → Tree → List Key
-onward_tally Through enter step rest v = rest (step v)
-onward_tally Over enter step rest v = rest (mapped step v)
+onward_tally Through enter step rest v = All ∷ rest (step v)
+onward_tally Over enter step rest v = All ∷ rest (mapped step v)
 onward_tally After enter step rest v = entered_tally enter rest (step v)
 onward_tally Ends enter step rest v = []
 
@@ -71,92 +73,86 @@ tally_of docs params scope w = All ∷ tally docs params (steps_in w.rest) scope
 
 abbrev stop_tally : List Tree → Pairs → List Tree → Stop → List Key
 stop_tally docs params scope (at_end v) = []
+stop_tally docs params scope (at_rest ss v) = All ∷ tally docs params ss scope v
 stop_tally docs params scope (at_each joins ss v) = each_looked
     (λ x. All ∷ tally docs params ss scope x) v
 
 -- what comes of a stop is what the rest gives
 entered_gives : (docs : List Tree) (params : Pairs) (scope : List Tree) (e : Entrance)
     (ss : Steps) (v : Tree)
-    → stop_value docs params scope (stop docs params ss scope v) ≡ rest_value docs params ss scope
-    v
-    → stop_value docs params scope (entered_stop e ss (stop docs params ss scope) v) ≡ entered e
+    → stop_value docs params scope (entered_stop e ss v) ≡ entered e
     (rest_value docs params ss scope) v
-entered_gives docs params scope Whole ss v h = h
-entered_gives docs params scope Mapped ss v h = refl
-entered_gives docs params scope Flat ss v h = refl
+entered_gives docs params scope entrance_of.Whole ss v = refl
+entered_gives docs params scope Mapped ss v = refl
+entered_gives docs params scope Flat ss v = refl
 
 onward_gives : (docs : List Tree) (params : Pairs) (scope : List Tree) (w : Way) (e : Entrance)
     (ss : Steps) (f : Tree → Tree) (v : Tree)
-    → ((x : Tree)
-    → stop_value docs params scope (stop docs params ss scope x) ≡ rest_value docs params ss
-    scope x)
-    → stop_value docs params scope (onward_stop w e ss f (stop docs params ss scope) v) ≡ onward w
-    e f (rest_value docs params ss scope) v
-onward_gives docs params scope Through e ss f v h = h (f v)
-onward_gives docs params scope Over e ss f v h = h (mapped f v)
-onward_gives docs params scope After e ss f v h = entered_gives docs params scope e ss (f v)
-    (h (f v))
-onward_gives docs params scope Ends e ss f v h = refl
+    → stop_value docs params scope (onward_stop w e ss f v) ≡ onward w e f
+    (rest_value docs params ss scope) v
+onward_gives docs params scope Through e ss f v = refl
+onward_gives docs params scope Over e ss f v = refl
+onward_gives docs params scope After e ss f v = entered_gives docs params scope e ss (f v)
+onward_gives docs params scope Ends e ss f v = refl
 
-pub stop_gives : (docs : List Tree) (params : Pairs) (ss : Steps) (scope : List Tree) (v : Tree)
+stop_gives : (docs : List Tree) (params : Pairs) (ss : Steps) (scope : List Tree) (v : Tree)
     → stop_value docs params scope (stop docs params ss scope v) ≡ rest_value docs params ss scope
     v
 stop_gives docs params no_steps scope v = refl
 stop_gives docs params (more_steps s ss) scope v =
     onward_gives docs params scope (way (form s) (kind ss)) (entrance (kind ss)) ss
-    (step_value docs params s scope) v (stop_gives docs params ss scope)
+    (step_value docs params s scope) v
 
 entered_marks : (docs : List Tree) (params : Pairs) (scope : List Tree) (e : Entrance)
     (ss : Steps) (v : Tree)
-    → stop_tally docs params scope (stop docs params ss scope v) ≡ tally docs params ss scope v
-    → stop_tally docs params scope (entered_stop e ss (stop docs params ss scope) v) ≡
-    entered_tally e (tally docs params ss scope) v
-entered_marks docs params scope Whole ss v h = h
-entered_marks docs params scope Mapped ss v h = refl
-entered_marks docs params scope Flat ss v h = refl
+    → stop_tally docs params scope (entered_stop e ss v) ≡ entered_tally e
+    (tally docs params ss scope) v
+entered_marks docs params scope entrance_of.Whole ss v = refl
+entered_marks docs params scope Mapped ss v = refl
+entered_marks docs params scope Flat ss v = refl
 
 onward_marks : (docs : List Tree) (params : Pairs) (scope : List Tree) (w : Way) (e : Entrance)
     (ss : Steps) (f : Tree → Tree) (v : Tree)
-    → ((x : Tree)
-    → stop_tally docs params scope (stop docs params ss scope x) ≡ tally docs params ss scope
-    x)
-    → stop_tally docs params scope (onward_stop w e ss f (stop docs params ss scope) v) ≡
-    onward_tally w e f (tally docs params ss scope) v
-onward_marks docs params scope Through e ss f v h = h (f v)
-onward_marks docs params scope Over e ss f v h = h (mapped f v)
-onward_marks docs params scope After e ss f v h = entered_marks docs params scope e ss (f v)
-    (h (f v))
-onward_marks docs params scope Ends e ss f v h = refl
+    → stop_tally docs params scope (onward_stop w e ss f v) ≡ onward_tally w e f
+    (tally docs params ss scope) v
+onward_marks docs params scope Through e ss f v = refl
+onward_marks docs params scope Over e ss f v = refl
+onward_marks docs params scope After e ss f v = entered_marks docs params scope e ss (f v)
+onward_marks docs params scope Ends e ss f v = refl
 
 stop_marks : (docs : List Tree) (params : Pairs) (ss : Steps) (scope : List Tree) (v : Tree)
     → stop_tally docs params scope (stop docs params ss scope v) ≡ tally docs params ss scope v
 stop_marks docs params no_steps scope v = refl
 stop_marks docs params (more_steps s ss) scope v =
     onward_marks docs params scope (way (form s) (kind ss)) (entrance (kind ss)) ss
-    (step_value docs params s scope) v (stop_marks docs params ss scope)
+    (step_value docs params s scope) v
 
 -- a step, and what it gives entering the rest behind it
-entered_turns : (w : Way) (e : Entrance) (ss : Steps) (f : Tree → Tree) (r : Tree
-    → Stop) (v : Tree) → is_end w ≡ false
-    → onward_stop w e ss f r v ≡ entered_stop (turn w e) ss r (once w f v)
-entered_turns Through e ss f r v h = refl
-entered_turns Over e ss f r v h = refl
-entered_turns After e ss f r v h = refl
-entered_turns Ends e ss f r v h = cc
+entered_turns : (w : Way) (e : Entrance) (ss : Steps) (f : Tree → Tree) (v : Tree)
+    → is_end w ≡ false → onward_stop w e ss f v ≡ entered_stop (turn w e) ss (once w f v)
+entered_turns Through e ss f v h = refl
+entered_turns Over e ss f v h = refl
+entered_turns After e ss f v h = refl
+entered_turns Ends e ss f v h = cc
 
-pub step_stops : (docs : List Tree) (params : Pairs) (scope : List Tree) (s : Step) (ss : Steps)
-    (k : Kind) (w : Way) (e : Entrance) (v w' : Tree)
-    → k ≡ kind ss → w ≡ way (form s) k → is_end w ≡ false → e ≡ turn w (entrance k)
-    → w' ≡ once w (step_value docs params s scope) v
-    → entered_stop e ss (stop docs params ss scope) w' ≡ stop docs params (more_steps s ss) scope
-    v
-step_stops docs params scope s ss k w e v w' is-k is-w goes is-e is-v =
-    let f = step_value docs params s scope in let r = stop docs params ss scope in
-    ap (entered_stop e ss r) is-v
-    ∙ (ap (λ (x : Entrance). entered_stop x ss r (once w f v)) is-e
-    ∙ (sym (entered_turns w (entrance k) ss f r v goes)
-    ∙ (ap (λ (x : Way). onward_stop x (entrance k) ss f r v) is-w
-    ∙ ap (λ (x : Kind). onward_stop (way (form s) x) (entrance x) ss f r v) is-k)))
+stopped_enters : (e : Entrance) (g : Got) (r : Remaining)
+    → stopped (entering e g r) ≡ entered_stop e (steps_in r) (got g)
+stopped_enters entrance_of.Whole g r = refl
+stopped_enters Mapped g r = refl
+stopped_enters Flat g r = refl
+
+pub step_stops : (docs : List Tree) (params : Pairs) (scope : List Tree) (s : Step)
+    (k : Kind) (w : Way) (e : Entrance) (v : Tree) (g : Got) (r : Remaining) (h : Reached)
+    → k ≡ kind (steps_in r) → w ≡ way (form s) k → is_end w ≡ false → e ≡ turn w (entrance k)
+    → got g ≡ once w (step_value docs params s scope) v → h ≡ entering e g r
+    → stopped h ≡ stop docs params (more_steps s (steps_in r)) scope v
+step_stops docs params scope s k w e v g r h is-k is-w goes is-e is-v is-h =
+    let f = step_value docs params s scope in let ss = steps_in r in
+    ap stopped is-h ∙ (stopped_enters e g r ∙ (ap (entered_stop e ss) is-v
+    ∙ (ap (λ (x : Entrance). entered_stop x ss (once w f v)) is-e
+    ∙ (sym (entered_turns w (entrance k) ss f v goes)
+    ∙ (ap (λ (x : Way). onward_stop x (entrance k) ss f v) is-w
+    ∙ ap (λ (x : Kind). onward_stop (way (form s) x) (entrance x) ss f v) is-k)))))
 
 -- what waits, read one by one
 each_waits : (k : Waiting → List Key) (r : Remaining) (ts : List Tree)
@@ -175,6 +171,7 @@ pub reached_looks : (docs : List Tree) (params : Pairs) (scope : List Tree) (h :
     → flat_map (looked_of docs params scope) (reached_waiting h) ≡ stop_looked docs params scope
     (stopped h)
 reached_looks docs params scope (End g) = refl
+reached_looks docs params scope (Whole g r) = append-nil _
 reached_looks docs params scope (Each g joins r) = list_waits (looked_of docs params scope) r
     (as_list (got g))
 
@@ -182,12 +179,14 @@ reached_marks : (docs : List Tree) (params : Pairs) (scope : List Tree) (h : Rea
     → flat_map (tally_of docs params scope) (reached_waiting h) ≡ stop_tally docs params scope
     (stopped h)
 reached_marks docs params scope (End g) = refl
+reached_marks docs params scope (Whole g r) = append-nil _
 reached_marks docs params scope (Each g joins r) = list_waits (tally_of docs params scope) r
     (as_list (got g))
 
 pub reached_is : (docs : List Tree) (params : Pairs) (scope : List Tree) (h : Reached)
     → reached_value (rest_of docs params scope) h ≡ stop_value docs params scope (stopped h)
 reached_is docs params scope (End g) = refl
+reached_is docs params scope (Whole g r) = refl
 reached_is docs params scope (Each g joins r) = refl
 
 -- what fits
@@ -205,11 +204,24 @@ fit_list n r (Some ts) h = fit_each n r ts h
 
 pub fit_reached : (n : ℕ) (h : Reached) → ReachedFits n h → AllFit n (reached_waiting h)
 fit_reached n (End g) h = tt
+fit_reached n (Whole g r) h = (h, tt)
 fit_reached n (Each g joins r) h = fit_list n r (as_list (got g)) h
 
 pub fits_wider : (n m : ℕ) (h : Reached) → n ≤ m → ReachedFits n h → ReachedFits m h
 fits_wider n m (End g) le h = tt
+fits_wider n m (Whole g r) le h = (h.0, omega (arith, h.1))
 fits_wider n m (Each g joins r) le h = (h.0, omega (arith, h.1))
+
+-- what fits, fits the weight that it has itself
+pub fits_itself : (n : ℕ) (h : Reached) → ReachedFits n h → ReachedFits (reached_weight h) h
+fits_itself n (End g) h = tt
+fits_itself n (Whole g r) h = (h.0, omega arith)
+fits_itself n (Each g joins r) h = (h.0, omega arith)
+
+pub weight_of_fitting : (n : ℕ) (h : Reached) → ReachedFits n h → reached_weight h ≤ n
+weight_of_fitting n (End g) h = omega arith
+weight_of_fitting n (Whole g r) h = h.1
+weight_of_fitting n (Each g joins r) h = h.1
 
 -- one turn of the levels: a value goes through its rest, and what waits is what waited
 pub turn_looks : (docs : List Tree) (params : Pairs) (scope : List Tree) (k0 k1 : List Key)

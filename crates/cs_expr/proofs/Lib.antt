@@ -6,3 +6,4 @@ pub mod Joins
 pub mod Nodes
 pub mod Sets
 pub mod Sorting
+pub mod Starting

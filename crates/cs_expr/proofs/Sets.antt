@@ -2,19 +2,13 @@
 use Rattle.cs_syntax.proofs.Views.{expression_array, expression_call, expression_chain, expression_object, expression_prefix, expression_run, step_pipe, step_project, step_slice}
 use Rattle.cs_parts.proofs.Trees.{tree_of_null}
 use Rattle.cs_expr.proofs.Joins.{once_over, once_other, projected_object, projected_other}
-use Rattle.cs_expr.proofs.Nodes.{elem_one, elem_spread}
-use Rattle.cs_expr.proofs.Sorting.{order_left, order_taken}
 
 pub ruleset nodes = (expression_call, expression_array, expression_object, expression_chain, expression_run, expression_prefix, tree_of_null)
 
 pub ruleset null = (tree_of_null)
 
-pub ruleset element = (elem_one, elem_spread)
-
 pub ruleset step = (step_project, step_pipe, step_slice)
 
 pub ruleset projection = (tree_of_null, projected_object, projected_other)
-
-pub ruleset order = (tree_of_null, order_taken, order_left)
 
 pub ruleset once = (tree_of_null, once_over, once_other)

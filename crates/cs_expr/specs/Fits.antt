@@ -1,17 +1,13 @@
 -- What is left of a chain weighs no more than a chain does.
 use Rattle.std.specs.Prelude.{◌≡◌, ℕ, ◌≤◌, ⊤, List, [], ◌∷◌, map}
-use Rattle.cs_syntax.specs.Expression.{Steps, steps_of}
 use Rattle.cs_syntax.specs.View.{step}
 use Rattle.cs_parts.specs.Kinds.{kinds_of}
 use Rattle.cs_levels.specs.Levels.{Waiting}
+use Rattle.cs_levels.specs.Nodes.{steps_in}
 use Rattle.cs_levels.specs.declared.levels.Remaining.{Remaining}
 use Rattle.cs_levels.specs.declared.levels.Reached.{Reached}
-use Rattle.cs_levels.specs.declared.levels.Reached.TheVariants.{End, Each}
+use Rattle.cs_levels.specs.declared.levels.Reached.TheVariants.{End, Whole, Each}
 use Rattle.cs_expr.specs.Weight.{steps_weight}
-
--- the steps of a rest
-abbrev pub steps_in : Remaining → Steps
-steps_in r = steps_of (map step r.steps.now)
 
 -- the kinds of a rest are those of its steps, and it weighs no more than this
 abbrev pub Fits : ℕ → Remaining → Type 0
@@ -24,8 +20,10 @@ AllFit n (w ∷ ws) = Fits n w.rest × AllFit n ws
 
 abbrev pub reached_weight : Reached → ℕ
 reached_weight (End g) = 0
+reached_weight (Whole g r) = steps_weight (steps_in r)
 reached_weight (Each g joins r) = steps_weight (steps_in r)
 
 abbrev pub ReachedFits : ℕ → Reached → Type 0
 ReachedFits n (End g) = ⊤
+ReachedFits n (Whole g r) = Fits n r
 ReachedFits n (Each g joins r) = Fits n r

@@ -1,13 +1,13 @@
 -- Parts of the value of a chain, and of what it looks up.
-use Rattle.std.specs.Prelude.{◌&&◌, ◌++◌, List, [], if◌then◌else◌}
+use Rattle.std.specs.Prelude.{◌&&◌, ◌++◌, List, if◌then◌else◌}
 use Rattle.cs_value.specs.Tree.{Tree, Pairs}
-use Rattle.cs_syntax.specs.Expression.{Expression, Step, Steps}
+use Rattle.cs_syntax.specs.Expression.{Expression, Steps}
 use Rattle.cs_view.specs.declared.key.Key.{Key}
 use Rattle.cs_meaning.specs.declared.join.Way.{Way}
 use Rattle.cs_meaning.specs.declared.join.Way.TheVariants.{Over}
 use Rattle.cs_meaning.specs.Joining.{mapped, kind, entrance, entered, base_entrance}
-use Rattle.cs_meaning.specs.Values.{value, rest_value, step_value, is_pipe}
-use Rattle.cs_meaning.specs.Looked.{looked, rest_looked, step_looked, filter_looked, entered_looked, each_looked, is_everything, starts_with_filter}
+use Rattle.cs_meaning.specs.Values.{value, rest_value}
+use Rattle.cs_meaning.specs.Looked.{looked, rest_looked, filter_looked, entered_looked, each_looked, is_everything, starts_with_filter}
 
 -- a chain up to its first piped call
 abbrev pub start_value : List Tree → Pairs → Expression → Steps → List Tree → Tree
@@ -39,16 +39,3 @@ once way f v = f v
 abbrev pub once_looked : Way → (Tree → List Key) → Tree → List Key
 once_looked Over f v = each_looked f v
 once_looked way f v = f v
-
--- a step, where it is a piped call, and the rest behind it
-abbrev pub piped_value : List Tree → Pairs → Step → Steps → List Tree → Tree → Tree
-piped_value docs params s ss scope v = if is_pipe s
-    then entered (entrance (kind ss)) (rest_value docs params ss scope)
-    (step_value docs params s scope v) else v
-
-abbrev pub piped_looked : List Tree → Pairs → Step → Steps → List Tree → Tree → List Key
-piped_looked docs params s ss scope v =
-    if is_pipe s
-    then step_looked docs params s scope v
-    ++ entered_looked (entrance (kind ss)) (rest_looked docs params ss scope)
-    (step_value docs params s scope v) else []

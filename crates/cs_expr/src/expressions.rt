@@ -7,19 +7,20 @@ ghost use Rattle.cs_syntax.specs.Expression.{operands_of, entries_of, elements_o
 ghost use Rattle.cs_syntax.specs.View.{expression, operands, entry as entry_of, elem as element_of};
 ghost use Rattle.cs_view.specs.Scopes.{scope};
 ghost use Rattle.cs_meaning.specs.Operators.{operated, decides, operator_of, is_true as is_true_tree};
-ghost use Rattle.cs_meaning.specs.Values.{value as value_of, run_value, element_values, elements_values, entry_pairs, entries_pairs};
-ghost use Rattle.cs_meaning.specs.Looked.{looked, run_looked, element_looked, elements_looked, entry_looked, entries_looked};
+ghost use Rattle.cs_meaning.specs.Values.{value as value_of, run_value, elements_values, entry_pairs, entries_pairs};
+ghost use Rattle.cs_meaning.specs.Looked.{looked, run_looked, elements_looked, entry_looked, entries_looked};
 ghost use Rattle.cs_parts.specs.Parts.{got, item};
 
 use crate::calls::{arguments, call};
 use crate::chains::chain;
 use cs_direct::{direct, direct_part};
 use cs_levels::{
-    is_among, lies_between, matches_path, operated_got, put_keyed, put_named, put_spread,
+    condition_of, element_expr, entry_expr, is_among, lies_between, matches_path, operated_got,
+    put_element, put_entry,
 };
 use cs_parts::{
-    Got, Item, Source, all, append, at_level, decides, field, gather, is_true, items_or_none,
-    one_item, param, path_arguments, prefixed, settle,
+    Got, Item, Source, all, at_level, decides, field, gather, is_true, param, path_arguments,
+    prefixed, settle,
 };
 use cs_plan::literal;
 use cs_syntax::{BinSign, Elem, Entry, Expr};
@@ -275,40 +276,12 @@ fn array<'s, S: Source<C>, C>(
     let mut items = Vec::new(alloc);
     let mut behind = list;
     while let Some((first, later)) = behind.split_first() {
-        let more = one_element(alloc, first, frame, params, source, keys, count)?;
-        append(&mut items, more)?;
+        let expr = element_expr(first);
+        let value = eval(alloc, expr, frame, params, source, keys, count)?;
+        put_element(alloc, &mut items, first, value)?;
         behind = later;
     }
     gather(alloc, items)
-}
-
-// What an element of an array literal adds.
-#[cycle(eval)]
-#[tactic(auto, using(crate::proofs::Sets::element))]
-fn one_element<'s, S: Source<C>, C>(
-    alloc: Global,
-    elem: &'s Elem,
-    frame: &Scope<'s>,
-    params: &'s Fields,
-    source: &'s S,
-    keys: &mut Record,
-    count: &mut C,
-) -> Result<Vec<Item<'s>>, NoMemory>
-    ensures value { IfOk result (λ v. map item v.items ≡ element_values (S.docs source.now)
-        (fields params.now) (element_of elem.now) (scope frame.now)) }
-    ensures keys { OnOk result (keys.new ≡ keys.old ++ element_looked (S.docs source.now) (fields
-        params.now) (element_of elem.now) (scope frame.now)) }
-{
-    match elem {
-        Elem::One(expr) => one_item(
-            alloc,
-            eval(alloc, expr, frame, params, source, keys, count)?,
-        ),
-        Elem::Spread(expr) => items_or_none(
-            alloc,
-            eval(alloc, expr, frame, params, source, keys, count)?,
-        ),
-    }
 }
 
 // An object literal.
@@ -339,7 +312,6 @@ pub(crate) fn object<'s, S: Source<C>, C>(
 
 // An entry's pairs put into those so far.
 #[cycle(eval)]
-#[tactic(auto, unfolding(cs_syntax::specs::View::entry, cs_syntax::specs::View::expression))]
 fn one_entry<S: Source<C>, C>(
     alloc: Global,
     entry: &Entry,
@@ -355,25 +327,12 @@ fn one_entry<S: Source<C>, C>(
     ensures keys { OnOk result (keys.new ≡ keys.old ++ entry_looked (S.docs source.now) (fields
         params.now) (entry_of entry.now) (scope frame.now)) }
 {
-    match entry {
-        Entry::Keyed(name, expr) => {
-            let value = eval(alloc, expr, frame, params, source, keys, count)?;
-            put_named(alloc, pairs, name.as_str(), value)
-        }
-        Entry::Bare(expr) => {
-            let value = eval(alloc, expr, frame, params, source, keys, count)?;
-            put_keyed(alloc, pairs, expr, value)
-        }
-        Entry::When(condition, expr) => {
-            if !is_met(alloc, condition, frame, params, source, keys, count)? {
-                return Ok(());
-            }
-            let value = eval(alloc, expr, frame, params, source, keys, count)?;
-            put_spread(alloc, pairs, value)
-        }
-        Entry::Spread(expr) => {
-            let value = eval(alloc, expr, frame, params, source, keys, count)?;
-            put_spread(alloc, pairs, value)
+    if let Some(condition) = condition_of(entry) {
+        if !is_met(alloc, condition, frame, params, source, keys, count)? {
+            return Ok(());
         }
     }
+    let expr = entry_expr(entry);
+    let value = eval(alloc, expr, frame, params, source, keys, count)?;
+    put_entry(alloc, pairs, entry, value)
 }

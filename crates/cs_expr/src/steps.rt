@@ -8,19 +8,18 @@ ghost use Rattle.cs_syntax.specs.View.{expression, step as step_of, entry as ent
 ghost use Rattle.cs_view.specs.Scopes.{scope};
 ghost use Rattle.cs_plan.specs.Steps.{bracketed};
 ghost use Rattle.cs_meaning.specs.Operators.{is_true as is_true_tree};
-ghost use Rattle.cs_meaning.specs.Values.{value as value_of, entries_pairs, step_value, keys_values, projected, filtered, in_bracket};
-ghost use Rattle.cs_meaning.specs.Looked.{looked, entries_looked, step_looked, each_looked, bracket_looked, keys_looked};
+ghost use Rattle.cs_meaning.specs.Values.{value as value_of, entries_pairs, step_value, keys_values, projected, in_bracket};
+ghost use Rattle.cs_meaning.specs.Looked.{looked, entries_looked, step_looked, bracket_looked, keys_looked};
 ghost use Rattle.cs_meaning.specs.Ordered.{ordered, ranked, directions};
 ghost use Rattle.cs_order.specs.First.{first_elements, all_kept};
 ghost use Rattle.cs_order.specs.Ranked.{ranked as ranked_of};
 ghost use Rattle.cs_parts.specs.Parts.{got, item};
 
 use crate::expressions::{is_met, object, settled};
-use cs_levels::list_in_order;
+use cs_levels::{InBracket, in_bracket, list_in_order, ordered_elements};
 use cs_order::{Ranked, admit, owned};
 use cs_parts::{
-    Bracket, Got, Item, Source, bracket_of, deref, directions, each, element, elements, field,
-    gather, is_object, push, settle, sliced,
+    Got, Item, Source, deref, directions, each, field, gather, is_object, push, settle, sliced,
 };
 use cs_syntax::{Entry, Expr, OrderKey, Step};
 use cs_value::{Fields, NoMemory, Txt, Val};
@@ -77,38 +76,13 @@ fn bracketed<'s, S: Source<C>, C>(
         inner.now)) (λ x. looked (S.docs source.now) (fields params.now) (expression inner.now) (x
         ∷ (scope frame.now))) (got value.entry)) }
 {
-    match bracket_of(inner) {
-        Bracket::Position(place) => Ok(element(value, place)),
-        Bracket::Named(name) => Ok(field(value, name)),
-        Bracket::Condition => filter_list(alloc, inner, frame, params, source, value, keys, count),
+    match in_bracket(alloc, inner, value)? {
+        InBracket::Given(found) => Ok(found),
+        InBracket::Tried(items) => {
+            let kept = keep(alloc, inner, frame, params, source, items, keys, count)?;
+            gather(alloc, kept)
+        }
     }
-}
-
-// The elements that meet the condition, null of anything but a list.
-#[cycle(eval)]
-#[tactic(auto, using(cs_parts::proofs::Trees::tree_of_null))]
-fn filter_list<'s, S: Source<C>, C>(
-    alloc: Global,
-    inner: &'s Expr,
-    frame: &Scope<'s>,
-    params: &'s Fields,
-    source: &'s S,
-    value: Got<'s>,
-    keys: &mut Record,
-    count: &mut C,
-) -> Result<Got<'s>, NoMemory>
-    ensures value { IfOk result (λ g. got g ≡ filtered (λ x. is_true_tree (value_of (S.docs
-        source.now) (fields params.now) (expression inner.now) (x ∷ (scope frame.now)))) (got
-        value.entry)) }
-    ensures keys { OnOk result (keys.new ≡ keys.old ++ each_looked (λ x. looked (S.docs
-        source.now) (fields params.now) (expression inner.now) (x ∷ (scope frame.now))) (got
-        value.entry)) }
-{
-    let Some(items) = elements(alloc, value)? else {
-        return Ok(Got::Whole(Val::Null));
-    };
-    let kept = keep(alloc, inner, frame, params, source, items, keys, count)?;
-    gather(alloc, kept)
 }
 
 // The elements of which the condition is true.
@@ -225,9 +199,10 @@ fn project<'s, S: Source<C>, C>(
     object(alloc, list, &near, params, source, keys, count)
 }
 
-// A piped call, whose first elements are enough where there is a limit.
+// A piped call: a list in the order of its elements' keys, which are found once each. The first
+// elements are enough where there is a limit.
 #[cycle(eval)]
-#[tactic(auto, using(crate::proofs::Sets::order))]
+#[tactic(auto, using(cs_parts::proofs::Trees::tree_of_null, cs_order::proofs::Enters::first_null))]
 pub(crate) fn ordered<'s, S: Source<C>, C>(
     alloc: Global,
     name: &Txt,
@@ -247,38 +222,7 @@ pub(crate) fn ordered<'s, S: Source<C>, C>(
         params.now) (pipe name.now (keys_of (map order_key_of order.now))) (scope frame.now) (got
         value.entry)) }
 {
-    if name.as_str() == "order" {
-        sorted_list(
-            alloc, order, limit, frame, params, source, value, keys, count,
-        )
-    } else {
-        drop(value);
-        Ok(Got::Whole(Val::Null))
-    }
-}
-
-// A list in the order of its elements' keys, which are found once each.
-#[cycle(eval)]
-#[tactic(auto, using(cs_parts::proofs::Trees::tree_of_null, cs_order::proofs::Enters::first_null))]
-fn sorted_list<'s, S: Source<C>, C>(
-    alloc: Global,
-    order: &'s [OrderKey],
-    limit: Option<usize>,
-    frame: &Scope<'s>,
-    params: &'s Fields,
-    source: &'s S,
-    value: Got<'s>,
-    keys: &mut Record,
-    count: &mut C,
-) -> Result<Got<'s>, NoMemory>
-    ensures value { IfOk result (λ g. got g ≡ first_elements limit (ordered (directions (keys_of
-        (map order_key_of order.now))) (λ x. keys_values (S.docs source.now) (fields params.now)
-        (keys_of (map order_key_of order.now)) (x ∷ (scope frame.now))) (got value.entry))) }
-    ensures keys { OnOk result (keys.new ≡ keys.old ++ each_looked (λ x. keys_looked (S.docs
-        source.now) (fields params.now) (keys_of (map order_key_of order.now)) (x ∷ (scope
-        frame.now))) (got value.entry)) }
-{
-    let Some(unsorted) = elements(alloc, value)? else {
+    let Some(unsorted) = ordered_elements(alloc, name.as_str(), value)? else {
         return Ok(Got::Whole(Val::Null));
     };
     let directions = directions(alloc, order)?;

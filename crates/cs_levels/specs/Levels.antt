@@ -5,12 +5,16 @@ use Rattle.std.specs.Prelude.{map, flat_map, Option, Some, None}
 use Rattle.std.specs.Vec.Iter.{into_iter_items}
 use Rattle.cs_value.specs.Words.{as_list, list_of}
 use Rattle.cs_value.specs.Tree.{Tree}
+use Rattle.cs_meaning.specs.declared.join.Entrance.{Entrance}
+use Rattle.cs_meaning.specs.declared.join.Entrance.TheVariants as entrance
+use Rattle.cs_meaning.specs.declared.join.Entrance.TheVariants.{Mapped, Flat}
 use Rattle.cs_meaning.specs.Joining.{mapped, flattened, flat_elements}
 use Rattle.cs_parts.specs.Parts.{got, item}
+use Rattle.cs_parts.specs.declared.answer.Got.{Got}
 use Rattle.cs_levels.specs.declared.levels.Remaining.{Remaining}
 use Rattle.cs_levels.specs.declared.levels.Level.{Level}
 use Rattle.cs_levels.specs.declared.levels.Reached.{Reached}
-use Rattle.cs_levels.specs.declared.levels.Reached.TheVariants.{End, Each}
+use Rattle.cs_levels.specs.declared.levels.Reached.TheVariants.{End, Whole, Each}
 use Rattle.cs_levels.specs.declared.levels.Task.{Task}
 use Rattle.cs_levels.specs.declared.levels.Task.TheVariants.{Done, Go}
 
@@ -43,9 +47,16 @@ abbrev pub unwound : (Remaining → Tree → Tree) → List Level → Tree → T
 unwound rest [] v = v
 unwound rest (l ∷ ls) v = level_given rest l (unwound rest ls v)
 
--- what comes of the place that a rest has reached, and of a task
+-- how far a chain has come where a value enters a rest: "Array postfix"
+abbrev pub entering : Entrance → Got → Remaining → Reached
+entering entrance.Whole g r = Whole g r
+entering Mapped g r = Each g false r
+entering Flat g r = Each g true r
+
+-- what comes of the place that a chain has reached, and of a task
 abbrev pub reached_value : (Remaining → Tree → Tree) → Reached → Tree
 reached_value rest (End g) = got g
+reached_value rest (Whole g r) = rest r (got g)
 reached_value rest (Each g joins r) = one_by_one joins (rest r) (got g)
 
 abbrev pub task_value : (Remaining → Tree → Tree) → Task → Tree
@@ -71,6 +82,7 @@ levels_waiting (l ∷ ls) = levels_waiting ls ++ waiting l.rest (map item (into_
 
 abbrev pub reached_waiting : Reached → List Waiting
 reached_waiting (End g) = []
+reached_waiting (Whole g r) = record { rest = r; value = got g } ∷ []
 reached_waiting (Each g joins r) = waiting_of r (as_list (got g))
 
 abbrev pub task_waiting : Task → List Waiting

@@ -3,10 +3,10 @@
 ghost use Rattle.std.specs.Prelude.{◌≡◌, ◌++◌, IfOk, map};
 ghost use Rattle.cs_value.specs.Words.{as_list};
 ghost use Rattle.cs_parts.specs.Parts.{got, item};
-ghost use Rattle.cs_levels.specs.Levels.{added, one_by_one, level_list, reached_value, task_value, waiting, waiting_of, levels_waiting, reached_waiting, task_waiting, Ended, Kept, SameValue};
+ghost use Rattle.cs_levels.specs.Levels.{added, one_by_one, entering, level_list, reached_value, task_value, waiting, waiting_of, levels_waiting, reached_waiting, task_waiting, Ended, Kept, SameValue};
 ghost use Rattle.std.specs.Vec.Iter.{into_iter_items};
 
-use cs_parts::{Got, Item, Kind, append, elements, flat_elements, gather, push, settle};
+use cs_parts::{Entrance, Got, Item, Kind, append, elements, flat_elements, gather, push, settle};
 use cs_syntax::Step;
 use cs_value::{NoMemory, Val};
 use std::alloc::Global;
@@ -19,11 +19,12 @@ pub struct Remaining<'s, 'k> {
     pub kinds: &'k [Kind],
 }
 
-/// How far a rest goes before a list is mapped: to its end, or to a list whose elements go on one
-/// by one. Lists among their results are joined, or stay elements.
+/// How far a chain has come: to the end of a rest, or to a value that goes through a rest, or to a
+/// list whose elements go on one by one. Lists among their results are joined, or stay elements.
 #[derive(Drop)]
 pub enum Reached<'s, 'k> {
     End(Got<'s>),
+    Whole(Got<'s>, Remaining<'s, 'k>),
     Each(Got<'s>, bool, Remaining<'s, 'k>),
 }
 
@@ -43,7 +44,22 @@ pub struct Level<'s, 'k> {
     pub out: Vec<Item<'s>>,
 }
 
-/// What is to be done next, where a rest has come this far.
+/// How far a chain has come where this value enters a rest.
+pub fn entering<'s, 'k>(
+    entrance: Entrance,
+    value: Got<'s>,
+    rest: Remaining<'s, 'k>,
+) -> Reached<'s, 'k>
+    ensures { result ≡ entering entrance value.entry rest.entry }
+{
+    match entrance {
+        Entrance::Whole => Reached::Whole(value, rest),
+        Entrance::Mapped => Reached::Each(value, false, rest),
+        Entrance::Flat => Reached::Each(value, true, rest),
+    }
+}
+
+/// What is to be done next, where a chain has come this far.
 pub fn next_task<'s, 'k>(
     alloc: Global,
     reached: Reached<'s, 'k>,
@@ -57,6 +73,7 @@ pub fn next_task<'s, 'k>(
 {
     match reached {
         Reached::End(value) => ascend(alloc, value, levels),
+        Reached::Whole(value, rest) => Ok(Task::Go(value, rest)),
         Reached::Each(list, joins, rest) => match descend(alloc, list, joins, rest, levels)? {
             Task::Done(value) => ascend(alloc, value, levels),
             Task::Go(value, rest) => Ok(Task::Go(value, rest)),

@@ -1,26 +1,27 @@
-use Rattle.std.proofs.Common.{◌≡◌, ◌+◌, List, ◌∷◌, ◌++◌, map, refl, sym, ap, subst, ◌∙◌, IfOk, OnOk, arith, false, Some, None, option_map}
-use Rattle.cs_value.specs.Words.{as_list, list_of}
+use Rattle.std.proofs.Common.{◌≡◌, ◌+◌, List, ◌∷◌, ◌++◌, map, refl, sym, ap, subst, ◌∙◌, IfOk, OnOk, arith, cond, ℕ, Some, None, option_map}
+use Rattle.cs_value.specs.Words.{list_of}
 use Rattle.cs_value.specs.Tree.{Tree}
 use Rattle.cs_value.specs.View.{tree, fields}
-use Rattle.cs_syntax.specs.Expression.{Step, more_steps, more_arguments, more_keys, call, pipe, run, operands_of, steps_of, arguments_of, keys_of}
-use Rattle.cs_syntax.specs.View.{expression, operands, step, arg, key}
+use Rattle.cs_value.specs.Words.{as_list}
+use Rattle.cs_plan.specs.Steps.{is_order_name}
+use Rattle.cs_syntax.specs.Expression.{Expression, Step, more_steps, more_arguments, more_keys, call, run, operands_of, steps_of, arguments_of, keys_of}
+use Rattle.cs_syntax.specs.View.{expression, operands, step, entry, arg, key}
 use Rattle.cs_syntax.specs.declared.tree.Arg.{Arg as CodeArg}
 use Rattle.cs_syntax.specs.declared.tree.OrderKey.{OrderKey as CodeKey}
 use Rattle.cs_syntax.specs.declared.tree.Step.{Step as CodeStep}
 use Rattle.cs_view.specs.Scopes.{scope}
 use Rattle.cs_view.specs.declared.key.Key.{Key}
-use Rattle.cs_meaning.specs.declared.join.Entrance.TheVariants.{Whole, Mapped, Flat}
-use Rattle.cs_meaning.specs.Joining.{form, kind, way, entrance}
+use Rattle.cs_meaning.specs.Joining.{kind, way}
 use Rattle.cs_meaning.specs.Ordered.{directions}
 use Rattle.cs_order.specs.First.{in_order}
 use Rattle.cs_order.specs.Ranked.{ranked as ranked_of}
 use Rattle.cs_meaning.specs.Operators.{in_path, is_true, sole}
 use Rattle.cs_expr.proofs.Firsts.{first_of_order}
-use Rattle.cs_meaning.specs.Values.{value, step_value, selected, keys_values}
-use Rattle.cs_meaning.specs.Looked.{looked, run_looked, rest_looked, step_looked, entered_looked, arguments_looked, selected_looked, keys_looked}
+use Rattle.cs_meaning.specs.Values.{step_value, selected, keys_values}
+use Rattle.cs_meaning.specs.Looked.{looked, entry_looked, run_looked, rest_looked, arguments_looked, selected_looked, keys_looked}
 use Rattle.cs_parts.specs.Parts.{got, item}
-use Rattle.cs_parts.specs.Turns.{turn, is_end}
-use Rattle.cs_expr.specs.Starts.{enter_value, enter_looked, once_looked, piped_looked}
+use Rattle.cs_parts.specs.Turns.{turn}
+use Rattle.cs_expr.specs.Starts.{enter_value, enter_looked}
 use Rattle.cs_expr.specs.Weight.{weight, operands_weight, arguments_weight, step_weight, steps_weight, keys_weight}
 use Rattle.cs_parts.specs.Callees.{path_arguments}
 use Rattle.cs_plan.specs.Filters.{key_in}
@@ -28,18 +29,24 @@ use Rattle.cs_syntax.proofs.Views.{expression_call}
 use Rattle.cs_parts.proofs.Trees.{tree_of_null}
 use Rattle.cs_expr.specs.Choosing.{chosen, chosen_looked}
 use Rattle.cs_expr.proofs.Calling.{none_left, selected_here, selected_looks_here, selected_on, selected_looks_on, chosen_weight, within_path, within_list, path_looked, path_weight}
-use Rattle.cs_expr.proofs.Sorting.{keys_values_more, keys_looked_more, keys_weight_more, pushed_values, piped_first, piped_first_looks}
-use Rattle.cs_expr.proofs.Answered.{on_ok, run_parts, run_keys, one_after_another, pipe_parts, kept_docs, kept_keys, star_value, star_looked, is_everything_then, step_looks_on, kind_behind, kinds_behind}
+use Rattle.cs_expr.proofs.Sorting.{keys_values_more, keys_looked_more, keys_weight_more, ordered_list, pushed_values}
+use Rattle.cs_expr.proofs.Starting.{array_enters, array_looks, array_fits, entering_weight, starting_fits, step_looks, base_enters, base_looks, no_pipe_value, no_pipe_looks, pipe_weight, pipe_turn_value, pipe_turn_looks}
+use Rattle.cs_expr.proofs.Nodes.{entry_left_looks, entry_met_looks, entry_taken_looks}
+use Rattle.cs_expr.proofs.Answered.{on_ok, run_parts, run_keys, one_after_another, pipe_parts, kept_docs, kept_keys, star_value, star_looked, is_everything_then, kind_behind, kinds_behind}
 use Rattle.cs_levels.specs.Levels.{unwound, task_value, task_waiting, levels_waiting}
 use Rattle.cs_levels.specs.Levels.{reached_waiting}
+use Rattle.cs_levels.specs.Nodes.{steps_in}
+use Rattle.cs_parts.specs.declared.answer.Got.TheVariants as got_of
 use Rattle.cs_expr.specs.Fits.{reached_weight}
-use Rattle.cs_expr.specs.Stops.{stop, stop_value}
+use Rattle.cs_expr.specs.Stops.{stop}
+use Rattle.cs_levels.specs.declared.levels.Remaining.{Remaining}
 use Rattle.cs_levels.specs.declared.levels.Task.{Task}
 use Rattle.cs_levels.proofs.Climbing.{wait}
-use Rattle.cs_expr.proofs.Climbing.{rest_of, stop_gives, step_stops, first_value}
+use Rattle.cs_expr.proofs.Climbing.{rest_of, step_stops, first_value}
 use Rattle.cs_expr.proofs.Climbing.{first_looks, first_fits, turn_value, turn_looks, turn_fits}
 use Rattle.cs_expr.proofs.Climbing.{turn_marks, done_value, done_order, done_looks}
 use Rattle.cs_expr.proofs.+eval.Goals as goal
+use Rattle.cs_expr.proofs.+eval.Goals.{expressions::one_entry-in-Some+in_ok-is_met+else-not-branch, expressions::one_entry-in_default}
 use Rattle.std.proofs.lemmas.List.{append-nil}
 
 pub expressions::eval-run-requires : goal.expressions::eval-run-requires
@@ -64,38 +71,6 @@ expressions::eval-returns-in_ok-left-in-Run-clause-keys g t c =
     (sym (run_keys docs ps sc (expression c.args.expr.now) b xs v e c.in_ok-left-in-Run.ensures.value)))
     c.run.ensures.keys
 
-pub chains::filtered_all-returns-clause-value : goal.chains::filtered_all-returns-clause-value
-chains::filtered_all-returns-clause-value g t c =
-    let docs = g.S.Source.docs c.args.source.now in
-    let ps = fields c.args.params.now in
-    let sc = scope c.args.frame.now in
-    let found = map (λ r. tree r.now) c.in_ok-found.found.items in
-    let kept = map (λ r. tree r.now) c.in_ok-kept.kept.items in
-    subst (λ (y : Tree). IfOk c.enter.result (λ g'. got g' ≡ y))
-    (ap (enter_value docs ps (steps_of (map step c.args.steps.now)) sc)
-    (kept_docs docs ps (expression c.args.condition.now) sc found found kept
-    c.in_ok-found.ensures.found refl c.in_ok-kept.ensures.value))
-    c.enter.ensures.value
-
-pub chains::filtered_all-returns-clause-keys : goal.chains::filtered_all-returns-clause-keys
-chains::filtered_all-returns-clause-keys g t c =
-    let docs = g.S.Source.docs c.args.source.now in
-    let ps = fields c.args.params.now in
-    let sc = scope c.args.frame.now in
-    let ss = steps_of (map step c.args.steps.now) in
-    let e = expression c.args.condition.now in
-    let found = map (λ r. tree r.now) c.in_ok-found.found.items in
-    let kept = map (λ r. tree r.now) c.in_ok-kept.kept.items in
-    subst (λ (ks : List Key). OnOk c.enter.result (c.enter.new.keys ≡ ks))
-    (kept_keys docs ps e sc (key_in e sc ps) found found c.args.keys.now c.look_up.new.keys
-    c.keep_lent.new.keys (enter_looked docs ps ss sc (list_of kept)) _
-    refl c.in_ok-found.ensures.found refl c.in_ok-found.ensures.keys
-    c.in_ok-kept.ensures.keys
-    (ap (enter_looked docs ps ss sc)
-    (kept_docs docs ps e sc found found kept
-    c.in_ok-found.ensures.found refl c.in_ok-kept.ensures.value)))
-    c.enter.ensures.keys
-
 pub steps::one_step-returns-in-Pipe-clause-value : goal.steps::one_step-returns-in-Pipe-clause-value
 steps::one_step-returns-in-Pipe-clause-value g t c =
     let docs = g.S.Source.docs c.args.source.now in
@@ -104,28 +79,6 @@ steps::one_step-returns-in-Pipe-clause-value g t c =
     subst (λ (y : Tree). IfOk c.ordered.result (λ g'. got g' ≡ y))
     (ap (λ (s : Step). step_value docs ps s sc (got c.args.value)) (pipe_parts c.args.step.now c.in-Pipe.name c.in-Pipe.order c.deref-in-Pipe.result.now c.in-Pipe.is c.deref-in-Pipe.ensures.value))
     c.ordered.ensures.value
-
-pub chains::start-returns-in-Some-clause-value : goal.chains::start-returns-in-Some-clause-value
-chains::start-returns-in-Some-clause-value g t c =
-    let docs = g.S.Source.docs c.args.source.now in
-    let ps = fields c.args.params.now in
-    let sc = scope c.args.frame.now in
-    let b = expression c.args.base.now in
-    subst (λ (y : Tree). IfOk c.filtered_all.result (λ g'. got g' ≡ y))
-    (star_value docs ps b (expression c.in-Some.condition.now) (steps_of (map step c.args.steps.now)) (steps_of (map step c.in-Some.later.now)) sc
-    (is_everything_then b (sym c.is_all.ensures ∙ c.if-is_all.true)) c.in-Some.ensures.some c.in-Some.ensures.condition)
-    c.filtered_all.ensures.value
-
-pub chains::start-returns-in-Some-clause-keys : goal.chains::start-returns-in-Some-clause-keys
-chains::start-returns-in-Some-clause-keys g t c =
-    let docs = g.S.Source.docs c.args.source.now in
-    let ps = fields c.args.params.now in
-    let sc = scope c.args.frame.now in
-    let b = expression c.args.base.now in
-    subst (λ (ks : List Key). OnOk c.filtered_all.result (c.filtered_all.new.keys ≡ ks))
-    (ap (λ (ks : List Key). c.args.keys.now ++ ks) (star_looked docs ps b (expression c.in-Some.condition.now) (steps_of (map step c.args.steps.now)) (steps_of (map step c.in-Some.later.now)) sc
-    (is_everything_then b (sym c.is_all.ensures ∙ c.if-is_all.true)) c.in-Some.ensures.some c.in-Some.ensures.condition))
-    c.filtered_all.ensures.keys
 
 pub calls::select-eval-requires : goal.calls::select-eval-requires
 calls::select-eval-requires g t c κs within =
@@ -262,222 +215,6 @@ steps::one_step-ordered-requires g t c κs within =
     ap step_weight (sym (pipe_parts c.args.step.now c.in-Pipe.name c.in-Pipe.order c.deref-in-Pipe.result.now c.in-Pipe.is c.deref-in-Pipe.ensures.value)) in
     (omega arith, within)
 
-pub steps::order_keys-loop-first-preserved : goal.steps::order_keys-loop-first-preserved
-steps::order_keys-loop-first-preserved g t c =
-    let docs = g.S.Source.docs c.args.source.now in
-    let ps = fields c.args.params.now in
-    let sc = scope c.args.frame.now in
-    let l = c.loop-first in
-    let is = c.in-Some.ensures.cases.0 in
-    let k = c.in-Some.first.now in
-    let ks = keys_of (map key c.in-Some.later.now) in
-    let heavy : keys_weight (keys_of (map key l.behind.now)) ≡ 9 + (weight (expression k.key) + keys_weight ks) = ap (λ (xs : List CodeKey). keys_weight (keys_of (map key xs))) is ∙ keys_weight_more k ks in
-    record {
-      value = pushed_values l.out.items _ c.in_ok-made_if_small.field-0 (keys_values docs ps ks sc) c.in_ok-push.ensures
-          ∙ (ap (λ (x : Tree). map item l.out.items ++ x ∷ keys_values docs ps ks sc) (c.in_ok-made_if_small.ensures ∙ c.in_ok-key.ensures.value) ∙ (ap (λ (xs : List Tree). map item l.out.items ++ xs) (sym (keys_values_more docs ps k ks sc))
-          ∙ (ap (λ (xs : List CodeKey). map item l.out.items ++ keys_values docs ps (keys_of (map key xs)) sc) (sym is) ∙ l.invariant.value)));
-      keys = one_after_another l.keys c.settled.new.keys (keys_looked docs ps (more_keys (key k) ks) sc) (looked docs ps (expression k.key) sc) (keys_looked docs ps ks sc) c.in_ok-key.ensures.keys
-          (keys_looked_more docs ps k ks sc)
-          ∙ (ap (λ (xs : List CodeKey). l.keys ++ keys_looked docs ps (keys_of (map key xs)) sc) (sym is) ∙ l.invariant.keys);
-      lighter = omega (arith, heavy, l.invariant.lighter);
-    }
-
-pub chains::straight-returns-in-Mapped-clause-stop :
-    goal.chains::straight-returns-in-Mapped-clause-stop
-chains::straight-returns-in-Mapped-clause-stop g t c =
-    let docs = g.S.Source.docs c.args.source.now in
-    let ps = fields c.args.params.now in
-    let sc = scope c.args.frame.now in
-    let l = c.loop-first in
-    let is = c.in-Some.ensures.cases.0 in
-    let s = step c.in-Some.first.now in
-    let later = steps_of (map step c.in-Some.later.now) in
-    let k : c.first_kind-kind.result ≡ kind later = c.first_kind-kind.ensures
-    ∙ kind_behind l.left.now c.in-Some.first.now c.in-Some.later.now l.left_kinds.now
-    c.behind-later_kinds.result.now is l.invariant.kinds c.behind-later_kinds.ensures in
-    let w : c.way_of-way.result ≡ way (form s) c.first_kind-kind.result = c.way_of-way.ensures
-    ∙ ap (λ f. way f c.first_kind-kind.result) c.form_of.ensures in
-    let goes : is_end c.way_of-way.result ≡ false = sym c.ends.ensures ∙ c.if-ends.false in
-    let on : Mapped ≡ turn c.way_of-way.result (entrance c.first_kind-kind.result) = sym
-    c.in-Mapped.is ∙ (c.turn.ensures ∙ ap (turn c.way_of-way.result) c.entrance_of.ensures) in
-    step_stops docs ps sc s later c.first_kind-kind.result c.way_of-way.result Mapped (got l.here)
-    (got c.in_ok-here.here) k w goes on c.in_ok-here.ensures.value
-    ∙ (ap (λ (xs : List CodeStep). stop docs ps (steps_of (map step xs)) sc (got l.here)) (sym is)
-    ∙ l.invariant.stop)
-
-pub chains::straight-returns-in-Mapped-clause-keys :
-    goal.chains::straight-returns-in-Mapped-clause-keys
-chains::straight-returns-in-Mapped-clause-keys g t c =
-    let docs = g.S.Source.docs c.args.source.now in
-    let ps = fields c.args.params.now in
-    let sc = scope c.args.frame.now in
-    let l = c.loop-first in
-    let is = c.in-Some.ensures.cases.0 in
-    let s = step c.in-Some.first.now in
-    let later = steps_of (map step c.in-Some.later.now) in
-    let k : c.first_kind-kind.result ≡ kind later = c.first_kind-kind.ensures
-    ∙ kind_behind l.left.now c.in-Some.first.now c.in-Some.later.now l.left_kinds.now
-    c.behind-later_kinds.result.now is l.invariant.kinds c.behind-later_kinds.ensures in
-    let w : c.way_of-way.result ≡ way (form s) c.first_kind-kind.result = c.way_of-way.ensures
-    ∙ ap (λ f. way f c.first_kind-kind.result) c.form_of.ensures in
-    let goes : is_end c.way_of-way.result ≡ false = sym c.ends.ensures ∙ c.if-ends.false in
-    let on : Mapped ≡ turn c.way_of-way.result (entrance c.first_kind-kind.result) = sym
-    c.in-Mapped.is ∙ (c.turn.ensures ∙ ap (turn c.way_of-way.result) c.entrance_of.ensures) in
-    one_after_another l.keys c.once.new.keys
-    (rest_looked docs ps (more_steps s later) sc (got l.here))
-    (once_looked c.way_of-way.result (step_looked docs ps s sc) (got l.here))
-    (entered_looked Mapped (rest_looked docs ps later sc) (got c.in_ok-here.here))
-    c.in_ok-here.ensures.keys
-    (sym (step_looks_on docs ps sc s later c.first_kind-kind.result c.way_of-way.result Mapped
-    (got l.here) (got c.in_ok-here.here) k w goes on c.in_ok-here.ensures.value))
-    ∙ (ap (λ (xs : List CodeStep). l.keys ++ rest_looked docs ps (steps_of (map step xs)) sc
-    (got l.here)) (sym is) ∙ l.invariant.keys)
-
-pub chains::straight-returns-in-Mapped-clause-fits :
-    goal.chains::straight-returns-in-Mapped-clause-fits
-chains::straight-returns-in-Mapped-clause-fits g t c =
-    let docs = g.S.Source.docs c.args.source.now in
-    let ps = fields c.args.params.now in
-    let sc = scope c.args.frame.now in
-    let l = c.loop-first in
-    let is = c.in-Some.ensures.cases.0 in
-    let s = step c.in-Some.first.now in
-    let later = steps_of (map step c.in-Some.later.now) in
-    let k : c.first_kind-kind.result ≡ kind later = c.first_kind-kind.ensures
-    ∙ kind_behind l.left.now c.in-Some.first.now c.in-Some.later.now l.left_kinds.now
-    c.behind-later_kinds.result.now is l.invariant.kinds c.behind-later_kinds.ensures in
-    let w : c.way_of-way.result ≡ way (form s) c.first_kind-kind.result = c.way_of-way.ensures
-    ∙ ap (λ f. way f c.first_kind-kind.result) c.form_of.ensures in
-    let heavy : steps_weight (steps_of (map step l.left.now)) ≡ steps_weight (more_steps s later)
-    = ap (λ (xs : List CodeStep). steps_weight (steps_of (map step xs))) is in (
-      kinds_behind l.left.now c.in-Some.first.now c.in-Some.later.now l.left_kinds.now
-          c.behind-later_kinds.result.now is l.invariant.kinds c.behind-later_kinds.ensures,
-      omega
-          (arith, heavy, l.invariant.lighter),
-    )
-
-pub chains::straight-returns-in-Flat-clause-stop :
-    goal.chains::straight-returns-in-Flat-clause-stop
-chains::straight-returns-in-Flat-clause-stop g t c =
-    let docs = g.S.Source.docs c.args.source.now in
-    let ps = fields c.args.params.now in
-    let sc = scope c.args.frame.now in
-    let l = c.loop-first in
-    let is = c.in-Some.ensures.cases.0 in
-    let s = step c.in-Some.first.now in
-    let later = steps_of (map step c.in-Some.later.now) in
-    let k : c.first_kind-kind.result ≡ kind later = c.first_kind-kind.ensures
-    ∙ kind_behind l.left.now c.in-Some.first.now c.in-Some.later.now l.left_kinds.now
-    c.behind-later_kinds.result.now is l.invariant.kinds c.behind-later_kinds.ensures in
-    let w : c.way_of-way.result ≡ way (form s) c.first_kind-kind.result = c.way_of-way.ensures
-    ∙ ap (λ f. way f c.first_kind-kind.result) c.form_of.ensures in
-    let goes : is_end c.way_of-way.result ≡ false = sym c.ends.ensures ∙ c.if-ends.false in
-    let on : Flat ≡ turn c.way_of-way.result (entrance c.first_kind-kind.result) = sym
-    c.in-Flat.is ∙ (c.turn.ensures ∙ ap (turn c.way_of-way.result) c.entrance_of.ensures) in
-    step_stops docs ps sc s later c.first_kind-kind.result c.way_of-way.result Flat (got l.here)
-    (got c.in_ok-here.here) k w goes on c.in_ok-here.ensures.value
-    ∙ (ap (λ (xs : List CodeStep). stop docs ps (steps_of (map step xs)) sc (got l.here)) (sym is)
-    ∙ l.invariant.stop)
-
-pub chains::straight-returns-in-Flat-clause-keys :
-    goal.chains::straight-returns-in-Flat-clause-keys
-chains::straight-returns-in-Flat-clause-keys g t c =
-    let docs = g.S.Source.docs c.args.source.now in
-    let ps = fields c.args.params.now in
-    let sc = scope c.args.frame.now in
-    let l = c.loop-first in
-    let is = c.in-Some.ensures.cases.0 in
-    let s = step c.in-Some.first.now in
-    let later = steps_of (map step c.in-Some.later.now) in
-    let k : c.first_kind-kind.result ≡ kind later = c.first_kind-kind.ensures
-    ∙ kind_behind l.left.now c.in-Some.first.now c.in-Some.later.now l.left_kinds.now
-    c.behind-later_kinds.result.now is l.invariant.kinds c.behind-later_kinds.ensures in
-    let w : c.way_of-way.result ≡ way (form s) c.first_kind-kind.result = c.way_of-way.ensures
-    ∙ ap (λ f. way f c.first_kind-kind.result) c.form_of.ensures in
-    let goes : is_end c.way_of-way.result ≡ false = sym c.ends.ensures ∙ c.if-ends.false in
-    let on : Flat ≡ turn c.way_of-way.result (entrance c.first_kind-kind.result) = sym
-    c.in-Flat.is ∙ (c.turn.ensures ∙ ap (turn c.way_of-way.result) c.entrance_of.ensures) in
-    one_after_another l.keys c.once.new.keys
-    (rest_looked docs ps (more_steps s later) sc (got l.here))
-    (once_looked c.way_of-way.result (step_looked docs ps s sc) (got l.here))
-    (entered_looked Flat (rest_looked docs ps later sc) (got c.in_ok-here.here))
-    c.in_ok-here.ensures.keys
-    (sym (step_looks_on docs ps sc s later c.first_kind-kind.result c.way_of-way.result Flat
-    (got l.here) (got c.in_ok-here.here) k w goes on c.in_ok-here.ensures.value))
-    ∙ (ap (λ (xs : List CodeStep). l.keys ++ rest_looked docs ps (steps_of (map step xs)) sc
-    (got l.here)) (sym is) ∙ l.invariant.keys)
-
-pub chains::straight-returns-in-Flat-clause-fits :
-    goal.chains::straight-returns-in-Flat-clause-fits
-chains::straight-returns-in-Flat-clause-fits g t c =
-    let docs = g.S.Source.docs c.args.source.now in
-    let ps = fields c.args.params.now in
-    let sc = scope c.args.frame.now in
-    let l = c.loop-first in
-    let is = c.in-Some.ensures.cases.0 in
-    let s = step c.in-Some.first.now in
-    let later = steps_of (map step c.in-Some.later.now) in
-    let k : c.first_kind-kind.result ≡ kind later = c.first_kind-kind.ensures
-    ∙ kind_behind l.left.now c.in-Some.first.now c.in-Some.later.now l.left_kinds.now
-    c.behind-later_kinds.result.now is l.invariant.kinds c.behind-later_kinds.ensures in
-    let w : c.way_of-way.result ≡ way (form s) c.first_kind-kind.result = c.way_of-way.ensures
-    ∙ ap (λ f. way f c.first_kind-kind.result) c.form_of.ensures in
-    let heavy : steps_weight (steps_of (map step l.left.now)) ≡ steps_weight (more_steps s later)
-    = ap (λ (xs : List CodeStep). steps_weight (steps_of (map step xs))) is in (
-      kinds_behind l.left.now c.in-Some.first.now c.in-Some.later.now l.left_kinds.now
-          c.behind-later_kinds.result.now is l.invariant.kinds c.behind-later_kinds.ensures,
-      omega
-          (arith, heavy, l.invariant.lighter),
-    )
-
-pub chains::straight-loop-first-preserved : goal.chains::straight-loop-first-preserved
-chains::straight-loop-first-preserved g t c =
-    let docs = g.S.Source.docs c.args.source.now in
-    let ps = fields c.args.params.now in
-    let sc = scope c.args.frame.now in
-    let l = c.loop-first in
-    let is = c.in-Some.ensures.cases.0 in
-    let s = step c.in-Some.first.now in
-    let later = steps_of (map step c.in-Some.later.now) in
-    let k : c.first_kind-kind.result ≡ kind later = c.first_kind-kind.ensures
-    ∙ kind_behind l.left.now c.in-Some.first.now c.in-Some.later.now l.left_kinds.now
-    c.behind-later_kinds.result.now is l.invariant.kinds c.behind-later_kinds.ensures in
-    let w : c.way_of-way.result ≡ way (form s) c.first_kind-kind.result = c.way_of-way.ensures
-    ∙ ap (λ f. way f c.first_kind-kind.result) c.form_of.ensures in
-    let goes : is_end c.way_of-way.result ≡ false = sym c.ends.ensures ∙ c.if-ends.false in
-    let on : Whole ≡ turn c.way_of-way.result (entrance c.first_kind-kind.result) = sym
-    c.in-Whole.is ∙ (c.turn.ensures ∙ ap (turn c.way_of-way.result) c.entrance_of.ensures) in
-    let heavy : steps_weight (steps_of (map step l.left.now)) ≡ steps_weight (more_steps s later)
-    = ap (λ (xs : List CodeStep). steps_weight (steps_of (map step xs))) is in
-    record {
-      stop = step_stops docs ps sc s later c.first_kind-kind.result c.way_of-way.result Whole
-          (got l.here) (got c.in_ok-here.here) k w goes on c.in_ok-here.ensures.value
-          ∙ (ap (λ (xs : List CodeStep). stop docs ps (steps_of (map step xs)) sc (got l.here))
-          (sym is) ∙ l.invariant.stop);
-      keys = one_after_another l.keys c.once.new.keys
-          (rest_looked docs ps (more_steps s later) sc (got l.here))
-          (once_looked c.way_of-way.result (step_looked docs ps s sc) (got l.here))
-          (entered_looked Whole (rest_looked docs ps later sc) (got c.in_ok-here.here))
-          c.in_ok-here.ensures.keys
-          (sym (step_looks_on docs ps sc s later c.first_kind-kind.result c.way_of-way.result
-          Whole (got l.here) (got c.in_ok-here.here) k w goes on c.in_ok-here.ensures.value))
-          ∙ (ap (λ (xs : List CodeStep). l.keys ++ rest_looked docs ps (steps_of (map step xs)) sc
-          (got l.here)) (sym is) ∙ l.invariant.keys);
-      kinds = kinds_behind l.left.now c.in-Some.first.now c.in-Some.later.now l.left_kinds.now
-          c.behind-later_kinds.result.now is l.invariant.kinds c.behind-later_kinds.ensures;
-      lighter = omega (arith, heavy, l.invariant.lighter);
-    }
-
-pub chains::rest-returns-clause-value : goal.chains::rest-returns-clause-value
-chains::rest-returns-clause-value g t c =
-    let docs = g.S.Source.docs c.args.source.now in
-    let ps = fields c.args.params.now in
-    let sc = scope c.args.frame.now in
-    subst (λ (y : Tree). IfOk c.climb.result (λ g'. got g' ≡ y))
-    (ap (stop_value docs ps sc) c.in_ok-first.ensures.stop
-    ∙ stop_gives docs ps (steps_of (map step c.args.steps.now)) sc (got c.args.value))
-    c.climb.ensures.value
-
 pub chains::climb-loop-levels-init : goal.chains::climb-loop-levels-init
 chains::climb-loop-levels-init g t c =
     let docs = g.S.Source.docs c.args.source.now in
@@ -512,7 +249,7 @@ chains::climb-loop-levels-preserved g t c =
           c.in_ok-here-in-Go.ensures.stop
           ∙ (ap (λ (u : Task). unwound rest new (task_value rest u)) (sym c.in-Go.is)
           ∙ (c.in_ok-value.ensures.value rest ∙ l.invariant.value));
-      keys = turn_looks docs ps sc l.keys c.straight.new.keys h c.in-Go.rest (got c.in-Go.value)
+      keys = turn_looks docs ps sc l.keys c.step_on.new.keys h c.in-Go.rest (got c.in-Go.value)
           ws old same c.in_ok-here-in-Go.ensures.keys
           ∙ l.invariant.keys;
       fit = turn_fits (reached_weight c.args.first) h c.in-Go.rest (got c.in-Go.value) ws old same
@@ -555,63 +292,6 @@ chains::climb-returns-in-Done-clause-keys g t c =
     c.in-Done.is c.in_ok-value.ensures.ended c.in_ok-value.ensures.order)
     l.invariant.keys
 
-pub chains::piped-ordered-requires : goal.chains::piped-ordered-requires
-chains::piped-ordered-requires g t c κs within =
-    let w : step_weight (step c.args.step.now) ≡ 9 + keys_weight (keys_of (map key c.in-Some.order.now)) = ap step_weight c.in-Some.ensures.some in
-    (omega arith, within)
-
-pub chains::piped-returns-clause-value : goal.chains::piped-returns-clause-value
-chains::piped-returns-clause-value g t c =
-    let docs = g.S.Source.docs c.args.source.now in
-    let ps = fields c.args.params.now in
-    let sc = scope c.args.frame.now in
-    let ks = keys_of (map key c.in-Some.order.now) in
-    subst (λ (y : Tree). IfOk c.enter.result (λ g'. got g' ≡ y))
-    (piped_first docs ps (step c.args.step.now) c.in-Some.name.now ks
-    (steps_of (map step c.args.steps.now)) sc c.first_asked-limit.result (got c.args.value)
-    (got c.in_ok-list.list) c.in-Some.ensures.some c.first_asked-limit.ensures.asked
-    c.in_ok-list.ensures.value)
-    c.enter.ensures.value
-
-pub chains::piped-returns-clause-keys : goal.chains::piped-returns-clause-keys
-chains::piped-returns-clause-keys g t c =
-    let docs = g.S.Source.docs c.args.source.now in
-    let ps = fields c.args.params.now in
-    let sc = scope c.args.frame.now in
-    let ks = keys_of (map key c.in-Some.order.now) in
-    let ss = steps_of (map step c.args.steps.now) in
-    let v = got c.args.value in
-    let l = got c.in_ok-list.list in
-    subst (λ (looks : List Key). OnOk c.enter.result (c.enter.new.keys ≡ looks))
-    (one_after_another c.args.keys.now c.ordered.new.keys
-    (piped_looked docs ps (step c.args.step.now) ss sc v)
-    (step_looked docs ps (pipe c.in-Some.name.now ks) sc v) (enter_looked docs ps ss sc l)
-    c.in_ok-list.ensures.keys
-    (piped_first_looks docs ps (step c.args.step.now) c.in-Some.name.now ks ss sc
-    c.first_asked-limit.result v l c.in-Some.ensures.some c.first_asked-limit.ensures.asked
-    c.in_ok-list.ensures.value))
-    c.enter.ensures.keys
-
-pub steps::sorted_list-returns-clause-value : goal.steps::sorted_list-returns-clause-value
-steps::sorted_list-returns-clause-value g t c =
-    let docs = g.S.Source.docs c.args.source.now in
-    let ps = fields c.args.params.now in
-    let sc = scope c.args.frame.now in
-    let ks = keys_of (map key c.args.order.now) in
-    let ts = map item c.in-Some.unsorted.items in
-    let rs = map ranked_of c.in_ok-ranked.ranked.items in
-    let is : as_list (got c.args.value) ≡ Some ts = sym c.in_ok-unsorted.ensures
-    ∙ ap (λ o. option_map (λ v. map item v.items) o) c.in-Some.is in
-    subst (λ (y : Tree). IfOk c.list_in_order.result (λ g'. got g' ≡ y))
-    (first_of_order (directions ks) c.deref.result.now c.deref-2.result.now
-    (λ x. keys_values docs ps ks (x ∷ sc)) c.args.limit (got c.args.value) ts
-    (map (λ x. x.item) (in_order c.deref-2.result.now c.args.limit rs)) rs
-    (in_order c.deref-2.result.now c.args.limit rs) is c.in_ok-ranked.ensures.value
-    refl refl
-    (c.deref.ensures.value ∙ c.in_ok-directions.ensures)
-    (c.deref-2.ensures.value ∙ c.in_ok-directions.ensures))
-    c.list_in_order.ensures
-
 pub expressions::is_met-returns-in-Some-clause-value :
     goal.expressions::is_met-returns-in-Some-clause-value
 expressions::is_met-returns-in-Some-clause-value g t c =
@@ -634,3 +314,284 @@ expressions::settled-returns-in-Some-clause-keys g t c =
     sym (ap (λ (ks : List Key). c.args.keys.now ++ ks)
     (c.in-Some.ensures.quiet (g.S.Source.docs c.args.source.now) (fields c.args.params.now))
     ∙ append-nil c.args.keys.now)
+
+pub steps::order_keys-loop-first-preserved : goal.steps::order_keys-loop-first-preserved
+steps::order_keys-loop-first-preserved g t c =
+    let docs = g.S.Source.docs c.args.source.now in
+    let ps = fields c.args.params.now in
+    let sc = scope c.args.frame.now in
+    let l = c.loop-first in
+    let is = c.in-Some.ensures.cases.0 in
+    let k = c.in-Some.first.now in
+    let ks = keys_of (map key c.in-Some.later.now) in
+    let heavy : keys_weight (keys_of (map key l.behind.now)) ≡ 9 + (weight (expression k.key) + keys_weight ks) = ap (λ (xs : List CodeKey). keys_weight (keys_of (map key xs))) is ∙ keys_weight_more k ks in
+    record {
+      value = pushed_values l.out.items _ c.in_ok-made_if_small.field-0 (keys_values docs ps ks sc) c.in_ok-push.ensures
+          ∙ (ap (λ (x : Tree). map item l.out.items ++ x ∷ keys_values docs ps ks sc) (c.in_ok-made_if_small.ensures ∙ c.in_ok-key.ensures.value) ∙ (ap (λ (xs : List Tree). map item l.out.items ++ xs) (sym (keys_values_more docs ps k ks sc))
+          ∙ (ap (λ (xs : List CodeKey). map item l.out.items ++ keys_values docs ps (keys_of (map key xs)) sc) (sym is) ∙ l.invariant.value)));
+      keys = one_after_another l.keys c.settled.new.keys (keys_looked docs ps (more_keys (key k) ks) sc) (looked docs ps (expression k.key) sc) (keys_looked docs ps ks sc) c.in_ok-key.ensures.keys
+          (keys_looked_more docs ps k ks sc)
+          ∙ (ap (λ (xs : List CodeKey). l.keys ++ keys_looked docs ps (keys_of (map key xs)) sc) (sym is) ∙ l.invariant.keys);
+      lighter = omega (arith, heavy, l.invariant.lighter);
+    }
+
+pub steps::ordered-returns-clause-value : goal.steps::ordered-returns-clause-value
+steps::ordered-returns-clause-value g t c =
+    let docs = g.S.Source.docs c.args.source.now in
+    let ps = fields c.args.params.now in
+    let sc = scope c.args.frame.now in
+    let ks = keys_of (map key c.args.order.now) in
+    let ts = map item c.in-Some.unsorted.items in
+    let rs = map ranked_of c.in_ok-ranked.ranked.items in
+    let items = map (λ x. x.item) (in_order c.deref-2.result.now c.args.limit rs) in
+    subst (λ (y : Tree). IfOk c.list_in_order.result (λ g'. got g' ≡ y))
+    (ordered_list docs ps c.args.name.now ks sc c.args.limit (got c.args.value) ts (list_of items)
+    (sym (ap (λ (n : List ℕ). cond (is_order_name n) (as_list (got c.args.value)) None) c.as_str.ensures)
+    ∙ (sym c.in_ok-unsorted.ensures ∙ ap (λ o. option_map (λ v. map item v.items) o) c.in-Some.is))
+    (λ is. first_of_order (directions ks) c.deref.result.now c.deref-2.result.now
+    (λ x. keys_values docs ps ks (x ∷ sc)) c.args.limit (got c.args.value) ts items rs
+    (in_order c.deref-2.result.now c.args.limit rs) is c.in_ok-ranked.ensures.value refl refl
+    (c.deref.ensures.value ∙ c.in_ok-directions.ensures)
+    (c.deref-2.ensures.value ∙ c.in_ok-directions.ensures)))
+    c.list_in_order.ensures
+
+pub chains::start-returns-in-Some-clause-value : goal.chains::start-returns-in-Some-clause-value
+chains::start-returns-in-Some-clause-value g t c =
+    let docs = g.S.Source.docs c.args.source.now in
+    let ps = fields c.args.params.now in
+    let sc = scope c.args.frame.now in
+    let e = expression c.in-Some.condition.now in
+    let found = map (λ r. tree r.now) c.in_ok-found.found.items in
+    let kept = map (λ r. tree r.now) c.in_ok-kept.kept.items in
+    array_enters docs ps sc c.entering.result c.entrance_of-entrance.result c.first_kind.result
+    (got_of.Parts c.in_ok-kept.kept) c.in-Some.later c.entering.ensures
+    c.entrance_of-entrance.ensures c.first_kind.ensures c.in-Some.ensures.kinds
+    ∙ (ap (enter_value docs ps (steps_in c.in-Some.later) sc)
+    (kept_docs docs ps e sc found found kept c.in_ok-found.ensures.found refl
+    c.in_ok-kept.ensures.value)
+    ∙ star_value docs ps (expression c.args.base.now) e (steps_in c.args.rest)
+    (steps_in c.in-Some.later) sc (is_everything_then (expression c.args.base.now)
+    c.in-Some.ensures.base) c.in-Some.ensures.some c.in-Some.ensures.condition)
+
+pub chains::start-returns-in-Some-clause-keys : goal.chains::start-returns-in-Some-clause-keys
+chains::start-returns-in-Some-clause-keys g t c =
+    let docs = g.S.Source.docs c.args.source.now in
+    let ps = fields c.args.params.now in
+    let sc = scope c.args.frame.now in
+    let b = expression c.args.base.now in
+    let e = expression c.in-Some.condition.now in
+    let ss = steps_in c.in-Some.later in
+    let found = map (λ r. tree r.now) c.in_ok-found.found.items in
+    let kept = map (λ r. tree r.now) c.in_ok-kept.kept.items in
+    ap (λ (ks : List Key). c.keep_lent.new.keys ++ ks)
+    (array_looks docs ps sc c.entering.result c.entrance_of-entrance.result c.first_kind.result
+    (got_of.Parts c.in_ok-kept.kept) c.in-Some.later c.entering.ensures
+    c.entrance_of-entrance.ensures c.first_kind.ensures c.in-Some.ensures.kinds)
+    ∙ (kept_keys docs ps e sc (key_in e sc ps) found found c.args.keys.now c.look_up.new.keys
+    c.keep_lent.new.keys (enter_looked docs ps ss sc (list_of kept)) _ refl
+    c.in_ok-found.ensures.found refl c.in_ok-found.ensures.keys c.in_ok-kept.ensures.keys
+    (ap (enter_looked docs ps ss sc) (kept_docs docs ps e sc found found kept
+    c.in_ok-found.ensures.found refl c.in_ok-kept.ensures.value))
+    ∙ ap (λ (ks : List Key). c.args.keys.now ++ ks) (star_looked docs ps b e (steps_in c.args.rest)
+    ss sc (is_everything_then b c.in-Some.ensures.base) c.in-Some.ensures.some
+    c.in-Some.ensures.condition))
+
+pub chains::start-returns-clause-value : goal.chains::start-returns-clause-value
+chains::start-returns-clause-value g t c =
+    base_enters (g.S.Source.docs c.args.source.now) (fields c.args.params.now)
+    (scope c.args.frame.now) (expression c.args.base.now) c.entering-2.result
+    c.base_entrance-entrance.result c.first_kind-2.result c.in_ok-value.value c.args.rest
+    c.entering-2.ensures c.base_entrance-entrance.ensures c.first_kind-2.ensures c.requires
+    c.in_ok-value.ensures.value
+
+pub chains::start-returns-clause-keys : goal.chains::start-returns-clause-keys
+chains::start-returns-clause-keys g t c =
+    base_looks (g.S.Source.docs c.args.source.now) (fields c.args.params.now)
+    (scope c.args.frame.now) (expression c.args.base.now) c.entering-2.result
+    c.base_entrance-entrance.result c.first_kind-2.result c.in_ok-value.value c.args.rest
+    c.args.keys.now c.eval.new.keys c.entering-2.ensures c.base_entrance-entrance.ensures
+    c.first_kind-2.ensures c.requires c.in_ok-value.ensures.value c.in_default.ensures.none
+    c.in_ok-value.ensures.keys
+
+pub chains::pipes-ordered-requires : goal.chains::pipes-ordered-requires
+chains::pipes-ordered-requires g t c κs within = (
+  omega (
+    arith,
+    pipe_weight (steps_in c.loop-pipe.left) _ (steps_in c.in-Some.pipe.later)
+        c.in-Some.ensures.some,
+    c.loop-pipe.invariant.lighter,
+  ),
+  within,
+)
+
+pub chains::pipes-climb-requires : goal.chains::pipes-climb-requires
+chains::pipes-climb-requires g t c κs within =
+    let later = c.in-Some.pipe.later in
+    let r = c.entering-first.result in
+    let w : reached_weight r ≡ steps_weight (steps_in later) = ap reached_weight
+    c.entering-first.ensures ∙ entering_weight c.entrance_of.result c.in_ok-list.list later in (
+      omega (
+        arith,
+        w,
+        pipe_weight (steps_in c.loop-pipe.left) _ (steps_in later)
+            c.in-Some.ensures.some,
+        c.loop-pipe.invariant.lighter,
+      ),
+      (
+        within.0,
+        (
+          within.1,
+          array_fits r c.entrance_of.result c.in_ok-list.list later c.entering-first.ensures
+              c.in-Some.ensures.kinds,
+        ),
+      ),
+    )
+
+pub chains::pipes-loop-pipe-smaller : goal.chains::pipes-loop-pipe-smaller
+chains::pipes-loop-pipe-smaller g t c =
+    omega (
+      arith,
+      pipe_weight (steps_in c.loop-pipe.left) _ (steps_in c.in-Some.pipe.later)
+          c.in-Some.ensures.some,
+    )
+
+pub chains::pipes-loop-pipe-preserved : goal.chains::pipes-loop-pipe-preserved
+chains::pipes-loop-pipe-preserved g t c =
+    let docs = g.S.Source.docs c.args.source.now in
+    let ps = fields c.args.params.now in
+    let sc = scope c.args.frame.now in
+    let l = c.loop-pipe in
+    let pipe = c.in-Some.pipe in
+    let ks = keys_of (map key pipe.order.now) in
+    let asks = c.first_asked-limit.ensures.asked in
+    let first = c.in_ok-list.ensures.value in
+    let enters : got c.in_ok-here.here ≡ enter_value docs ps (steps_in pipe.later) sc
+    (got c.in_ok-list.list) = c.in_ok-here.ensures.value
+    ∙ array_enters docs ps sc c.entering-first.result c.entrance_of.result c.first_kind.result
+    c.in_ok-list.list pipe.later c.entering-first.ensures c.entrance_of.ensures
+    c.first_kind.ensures c.in-Some.ensures.kinds in
+    record {
+      value = pipe_turn_value docs ps (steps_in l.left) (steps_in pipe.later) sc pipe.name.now ks
+          c.first_asked-limit.result (got l.here) (got c.in_ok-list.list) (got c.in_ok-here.here)
+          c.in-Some.ensures.some asks first enters ∙ l.invariant.value;
+      keys = pipe_turn_looks docs ps (steps_in l.left) (steps_in pipe.later) sc pipe.name.now ks
+          c.first_asked-limit.result (got l.here) (got c.in_ok-list.list) (got c.in_ok-here.here)
+          l.keys c.ordered.new.keys c.climb.new.keys c.in-Some.ensures.some asks first enters
+          c.in_ok-list.ensures.keys
+          (c.in_ok-here.ensures.keys ∙ ap (λ (ks : List Key). c.ordered.new.keys ++ ks)
+          (array_looks docs ps sc c.entering-first.result c.entrance_of.result c.first_kind.result
+          c.in_ok-list.list pipe.later c.entering-first.ensures c.entrance_of.ensures
+          c.first_kind.ensures c.in-Some.ensures.kinds)) ∙ l.invariant.keys;
+      kinds = c.in-Some.ensures.kinds;
+      lighter = omega (
+        arith,
+        pipe_weight (steps_in l.left) _ (steps_in pipe.later)
+            c.in-Some.ensures.some,
+        l.invariant.lighter,
+      );
+    }
+
+pub chains::pipes-returns-clause-value : goal.chains::pipes-returns-clause-value
+chains::pipes-returns-clause-value g t c =
+    let l = c.loop-pipe in
+    sym (no_pipe_value (g.S.Source.docs c.args.source.now) (fields c.args.params.now)
+    (steps_in l.left) (scope c.args.frame.now) (got l.here) c.in_default.ensures.none)
+    ∙ l.invariant.value
+
+pub chains::pipes-returns-clause-keys : goal.chains::pipes-returns-clause-keys
+chains::pipes-returns-clause-keys g t c =
+    let l = c.loop-pipe in
+    sym (append-nil l.keys) ∙ (ap (λ (ks : List Key). l.keys ++ ks)
+    (sym (no_pipe_looks (g.S.Source.docs c.args.source.now) (fields c.args.params.now)
+    (steps_in l.left) (scope c.args.frame.now) (got l.here) c.in_default.ensures.none))
+    ∙ l.invariant.keys)
+
+pub expressions::one_entry-returns-then-not-branch-clause-keys : goal.expressions::one_entry-returns-then-not-branch-clause-keys
+expressions::one_entry-returns-then-not-branch-clause-keys g t c =
+    let docs = g.S.Source.docs c.args.source.now in
+    let ps = fields c.args.params.now in
+    let sc = scope c.args.frame.now in
+    let e = expression c.in-Some.condition.now in
+    c.in_ok-is_met.ensures.keys ∙ ap (λ (ks : List Key). c.args.keys.now ++ ks)
+    (entry_left_looks docs ps (entry c.args.entry.now) sc e
+    (sym c.condition_of.ensures ∙ ap (λ o. option_map (λ x. expression x.now) o) c.in-Some.is)
+    (sym c.in_ok-is_met.ensures.value ∙ c.if-not-branch.true))
+
+pub expressions::one_entry-returns-clause-keys : goal.expressions::one_entry-returns-clause-keys
+expressions::one_entry-returns-clause-keys g t c =
+    let docs = g.S.Source.docs c.args.source.now in
+    let ps = fields c.args.params.now in
+    let sc = scope c.args.frame.now in
+    let x = entry c.args.entry.now in
+    let e = expression c.entry_expr-expr.result.now in
+    let looks = λ (y : Expression). looked docs ps y sc in
+    on_ok c.put_entry.result
+    elim c.match-condition_of.branch [
+      | expressions::one_entry-in-Some+in_ok-is_met+else-not-branch w ↦
+          let d = expression w.in-Some.condition.now in
+          c.in_ok-value.ensures.keys
+          ∙ one_after_another c.args.keys.now c.match-condition_of.keys (entry_looked docs ps x sc)
+          (looks d) (looks e) (w.keys-is ∙ w.in_ok-is_met.ensures.keys)
+          (entry_met_looks docs ps x sc d
+          (sym c.condition_of.ensures ∙ ap (λ o. option_map (λ y. expression y.now) o) w.in-Some.is)
+          (sym w.in_ok-is_met.ensures.value ∙ w.if-not-branch.false)
+          ∙ ap (λ (y : Expression). looks d ++ looks y) (sym c.entry_expr-expr.ensures))
+      | expressions::one_entry-in_default w ↦
+          c.in_ok-value.ensures.keys
+          ∙ (ap (λ (ks : List Key). ks ++ looks e) w.keys-is
+          ∙ ap (λ (ks : List Key). c.args.keys.now ++ ks) (ap looks c.entry_expr-expr.ensures
+          ∙ entry_taken_looks docs ps x sc
+          (sym c.condition_of.ensures ∙ ap (λ o. option_map (λ y. expression y.now) o) w.in_default.is)))
+    ]
+
+pub chains::step_on-returns-clause-stop : goal.chains::step_on-returns-clause-stop
+chains::step_on-returns-clause-stop g t c =
+    let docs = g.S.Source.docs c.args.source.now in
+    let ps = fields c.args.params.now in
+    let sc = scope c.args.frame.now in
+    let r : Remaining = record { steps = c.in-Some.steps; kinds = c.behind-kinds.result } in
+    let is = c.in-Some.ensures.cases.0 in
+    let k : c.first_kind-kind.result ≡ kind (steps_in r) = c.first_kind-kind.ensures
+    ∙ kind_behind c.args.rest.steps.now c.in-Some.first.now c.in-Some.steps.now
+    c.args.rest.kinds.now c.behind-kinds.result.now is c.requires c.behind-kinds.ensures in
+    step_stops docs ps sc (step c.in-Some.first.now) c.first_kind-kind.result c.way_of-way.result
+    c.turn-entrance.result (got c.args.value) c.in_ok-given.given r c.entering.result k
+    (c.way_of-way.ensures ∙ ap (λ f. way f c.first_kind-kind.result) c.form_of.ensures)
+    (sym c.ends.ensures ∙ c.if-ends.false)
+    (c.turn-entrance.ensures ∙ ap (turn c.way_of-way.result) c.entrance_of.ensures)
+    c.in_ok-given.ensures.value c.entering.ensures
+    ∙ ap (λ (xs : List CodeStep). stop docs ps (steps_of (map step xs)) sc (got c.args.value))
+    (sym is)
+
+pub chains::step_on-returns-clause-keys : goal.chains::step_on-returns-clause-keys
+chains::step_on-returns-clause-keys g t c =
+    let docs = g.S.Source.docs c.args.source.now in
+    let ps = fields c.args.params.now in
+    let sc = scope c.args.frame.now in
+    let r : Remaining = record { steps = c.in-Some.steps; kinds = c.behind-kinds.result } in
+    let is = c.in-Some.ensures.cases.0 in
+    let k : c.first_kind-kind.result ≡ kind (steps_in r) = c.first_kind-kind.ensures
+    ∙ kind_behind c.args.rest.steps.now c.in-Some.first.now c.in-Some.steps.now
+    c.args.rest.kinds.now c.behind-kinds.result.now is c.requires c.behind-kinds.ensures in
+    step_looks docs ps sc (step c.in-Some.first.now) c.first_kind-kind.result c.way_of-way.result
+    c.turn-entrance.result (got c.args.value) c.in_ok-given.given r c.entering.result
+    c.args.keys.now c.once.new.keys k
+    (c.way_of-way.ensures ∙ ap (λ f. way f c.first_kind-kind.result) c.form_of.ensures)
+    (sym c.ends.ensures ∙ c.if-ends.false)
+    (c.turn-entrance.ensures ∙ ap (turn c.way_of-way.result) c.entrance_of.ensures)
+    c.in_ok-given.ensures.value c.entering.ensures c.in_ok-given.ensures.keys
+    ∙ ap (λ (xs : List CodeStep). c.args.keys.now ++ rest_looked docs ps (steps_of (map step xs)) sc
+    (got c.args.value)) (sym is)
+
+pub chains::step_on-returns-clause-fits : goal.chains::step_on-returns-clause-fits
+chains::step_on-returns-clause-fits g t c =
+    let r : Remaining = record { steps = c.in-Some.steps; kinds = c.behind-kinds.result } in
+    let is = c.in-Some.ensures.cases.0 in
+    let heavy : steps_weight (steps_in c.args.rest) ≡ steps_weight (more_steps
+    (step c.in-Some.first.now) (steps_in r))
+    = ap (λ (xs : List CodeStep). steps_weight (steps_of (map step xs))) is in
+    starting_fits (steps_weight (steps_in c.args.rest)) c.entering.result c.turn-entrance.result
+    c.in_ok-given.given r c.entering.ensures
+    (kinds_behind c.args.rest.steps.now c.in-Some.first.now c.in-Some.steps.now
+    c.args.rest.kinds.now c.behind-kinds.result.now is c.requires c.behind-kinds.ensures)
+    (omega (arith, heavy))

@@ -8,16 +8,17 @@ use Rattle.cs_syntax.specs.View.{expression, operands, step, entry, elem, arg, k
 use Rattle.cs_view.specs.Scopes.{scope}
 use Rattle.cs_meaning.specs.Operators.{is_true}
 use Rattle.cs_meaning.specs.Values.{value, run_value, arguments_values, coalesced, selected, elements_values, entries_pairs, pipes_value, step_value, keys_values}
-use Rattle.cs_meaning.specs.Looked.{looked, run_looked, arguments_looked, coalesced_looked, selected_looked, elements_looked, entries_looked, rest_looked, pipes_looked, step_looked, keys_looked}
+use Rattle.cs_meaning.specs.Looked.{looked, run_looked, arguments_looked, coalesced_looked, selected_looked, elements_looked, entries_looked, pipes_looked, step_looked, keys_looked}
 use Rattle.cs_meaning.specs.Ordered.{ranked}
 use Rattle.cs_order.specs.First.{all_kept, CanKeep}
 use Rattle.cs_order.specs.Ranked.{ranked as ranked_of}
 use Rattle.cs_parts.specs.Parts.{got, item}
 use Rattle.cs_parts.specs.Kinds.{kinds_of}
-use Rattle.cs_expr.specs.Weight.{weight, operands_weight, argument_weight, arguments_weight, element_weight, elements_weight, entry_weight, entries_weight, step_weight, steps_weight, keys_weight}
+use Rattle.cs_expr.specs.Weight.{weight, operands_weight, argument_weight, arguments_weight, elements_weight, entry_weight, entries_weight, step_weight, steps_weight, keys_weight}
 use Rattle.cs_levels.specs.Levels.{unwound, reached_value, reached_waiting, levels_waiting}
+use Rattle.cs_levels.specs.Nodes.{steps_in}
 use Rattle.cs_expr.specs.Fits.{AllFit, reached_weight}
-use Rattle.cs_expr.specs.Stops.{stop, stop_value, stop_looked, stopped}
+use Rattle.cs_expr.specs.Stops.{stop_value, stop_looked, stopped}
 use Rattle.cs_expr.proofs.Climbing.{rest_of, looked_of, tally_of}
 use Rattle.cs_expr.proofs.+eval.Given as goal
 
@@ -39,9 +40,6 @@ decreases-expressions::settled g l = weight (expression l.expr.now) + 1
 abbrev pub decreases-expressions::array : goal.decreases-expressions::array
 decreases-expressions::array g l = elements_weight (elements_of (map elem l.list.now))
 
-abbrev pub decreases-expressions::one_element : goal.decreases-expressions::one_element
-decreases-expressions::one_element g l = element_weight (elem l.elem.now)
-
 abbrev pub decreases-expressions::object : goal.decreases-expressions::object
 decreases-expressions::object g l = entries_weight (entries_of (map entry l.list.now))
 
@@ -52,28 +50,16 @@ abbrev pub decreases-chains::chain : goal.decreases-chains::chain
 decreases-chains::chain g l = weight (expression l.base.now) + steps_weight (steps_of (map step l.steps.now)) + 5
 
 abbrev pub decreases-chains::start : goal.decreases-chains::start
-decreases-chains::start g l = weight (expression l.base.now) + steps_weight (steps_of (map step l.steps.now)) + 4
+decreases-chains::start g l = weight (expression l.base.now) + steps_weight (steps_in l.rest) + 4
 
-abbrev pub decreases-chains::filtered_all : goal.decreases-chains::filtered_all
-decreases-chains::filtered_all g l = weight (expression l.condition.now) + steps_weight (steps_of (map step l.steps.now)) + 5
-
-abbrev pub decreases-chains::enter : goal.decreases-chains::enter
-decreases-chains::enter g l = steps_weight (steps_of (map step l.steps.now)) + 3
-
-abbrev pub decreases-chains::rest : goal.decreases-chains::rest
-decreases-chains::rest g l = steps_weight (steps_of (map step l.steps.now)) + 2
-
-abbrev pub decreases-chains::straight : goal.decreases-chains::straight
-decreases-chains::straight g l = steps_weight (steps_of (map step l.steps.now))
+abbrev pub decreases-chains::step_on : goal.decreases-chains::step_on
+decreases-chains::step_on g l = steps_weight (steps_in l.rest)
 
 abbrev pub decreases-chains::climb : goal.decreases-chains::climb
 decreases-chains::climb g l = reached_weight l.first + 1
 
 abbrev pub decreases-chains::pipes : goal.decreases-chains::pipes
 decreases-chains::pipes g l = steps_weight (steps_of (map step l.steps.now))
-
-abbrev pub decreases-chains::piped : goal.decreases-chains::piped
-decreases-chains::piped g l = step_weight (step l.step.now) + steps_weight (steps_of (map step l.steps.now)) + 5
 
 abbrev pub decreases-chains::once : goal.decreases-chains::once
 decreases-chains::once g l = step_weight (step l.step.now) + 3
@@ -86,9 +72,6 @@ decreases-steps::one_step g l = step_weight (step l.step.now)
 
 abbrev pub decreases-steps::bracketed : goal.decreases-steps::bracketed
 decreases-steps::bracketed g l = weight (expression l.inner.now) + 5
-
-abbrev pub decreases-steps::filter_list : goal.decreases-steps::filter_list
-decreases-steps::filter_list g l = weight (expression l.inner.now) + 4
 
 abbrev pub decreases-steps::keep : goal.decreases-steps::keep
 decreases-steps::keep g l = weight (expression l.inner.now) + 3
@@ -132,23 +115,6 @@ invariant-expressions::object-loop-first g l = record {
 abbrev pub decreases-expressions::object-loop-first : goal.decreases-expressions::object-loop-first
 decreases-expressions::object-loop-first g l = length l.behind
 
-abbrev pub invariant-chains::straight-loop-first : goal.invariant-chains::straight-loop-first
-invariant-chains::straight-loop-first g l = record {
-  stop : stop (g.S.Source.docs l.source) (fields l.params) (steps_of (map step l.left))
-      (scope l.frame) (got l.here)
-      ≡ stop (g.S.Source.docs l.source) (fields l.params) (steps_of (map step l.steps))
-      (scope l.frame) (got l.fn.value);
-  keys : l.keys ++ rest_looked (g.S.Source.docs l.source) (fields l.params)
-      (steps_of (map step l.left)) (scope l.frame) (got l.here)
-      ≡ l.initial.keys ++ rest_looked (g.S.Source.docs l.source) (fields l.params)
-      (steps_of (map step l.steps)) (scope l.frame) (got l.fn.value);
-  kinds : l.left_kinds ≡ kinds_of (map step l.left);
-  lighter : steps_weight (steps_of (map step l.left)) ≤ steps_weight (steps_of (map step l.steps));
-}
-
-abbrev pub decreases-chains::straight-loop-first : goal.decreases-chains::straight-loop-first
-decreases-chains::straight-loop-first g l = length l.left
-
 abbrev pub invariant-chains::climb-loop-levels : goal.invariant-chains::climb-loop-levels
 invariant-chains::climb-loop-levels g l = record {
   value : unwound (rest_of (g.S.Source.docs l.source) (fields l.params) (scope l.frame))
@@ -167,16 +133,20 @@ abbrev pub decreases-chains::climb-loop-levels : goal.decreases-chains::climb-lo
 decreases-chains::climb-loop-levels g l = length (flat_map (tally_of (g.S.Source.docs l.source)
     (fields l.params) (scope l.frame)) (reached_waiting l.here ++ levels_waiting l.levels.items))
 
-abbrev pub invariant-chains::pipes-loop-first : goal.invariant-chains::pipes-loop-first
-invariant-chains::pipes-loop-first g l = record {
-  value : pipes_value (g.S.Source.docs l.source) (fields l.params) (steps_of (map step l.left)) (scope l.frame) (got l.here) ≡ pipes_value (g.S.Source.docs l.source) (fields l.params) (steps_of (map step l.steps)) (scope l.frame) (got l.fn.value);
-  keys : l.keys ++ pipes_looked (g.S.Source.docs l.source) (fields l.params) (steps_of (map step l.left)) (scope l.frame) (got l.here) ≡ l.initial.keys ++ pipes_looked (g.S.Source.docs l.source) (fields l.params) (steps_of (map step l.steps)) (scope l.frame) (got l.fn.value);
-  kinds : l.left_kinds ≡ kinds_of (map step l.left);
-  lighter : steps_weight (steps_of (map step l.left)) ≤ steps_weight (steps_of (map step l.steps));
+abbrev pub invariant-chains::pipes-loop-pipe : goal.invariant-chains::pipes-loop-pipe
+invariant-chains::pipes-loop-pipe g l = record {
+  value : pipes_value (g.S.Source.docs l.source) (fields l.params) (steps_in l.left) (scope l.frame)
+      (got l.here) ≡ pipes_value (g.S.Source.docs l.source) (fields l.params)
+      (steps_of (map step l.steps)) (scope l.frame) (got l.fn.value);
+  keys : l.keys ++ pipes_looked (g.S.Source.docs l.source) (fields l.params) (steps_in l.left)
+      (scope l.frame) (got l.here) ≡ l.initial.keys ++ pipes_looked (g.S.Source.docs l.source)
+      (fields l.params) (steps_of (map step l.steps)) (scope l.frame) (got l.fn.value);
+  kinds : l.left.kinds.now ≡ kinds_of (map step l.left.steps.now);
+  lighter : steps_weight (steps_in l.left) ≤ steps_weight (steps_of (map step l.steps));
 }
 
-abbrev pub decreases-chains::pipes-loop-first : goal.decreases-chains::pipes-loop-first
-decreases-chains::pipes-loop-first g l = length l.left
+abbrev pub decreases-chains::pipes-loop-pipe : goal.decreases-chains::pipes-loop-pipe
+decreases-chains::pipes-loop-pipe g l = steps_weight (steps_in l.left)
 
 abbrev pub invariant-chains::step_of_each-loop-i : goal.invariant-chains::step_of_each-loop-i
 invariant-chains::step_of_each-loop-i g l = record {
@@ -212,9 +182,6 @@ decreases-expressions::in_range g l = weight (expression l.left.now) + (weight (
 abbrev pub decreases-steps::ordered : goal.decreases-steps::ordered
 decreases-steps::ordered g l = keys_weight (keys_of (map key l.order.now)) + 5
 
-abbrev pub decreases-steps::sorted_list : goal.decreases-steps::sorted_list
-decreases-steps::sorted_list g l = keys_weight (keys_of (map key l.order.now)) + 4
-
 abbrev pub decreases-steps::rank_each : goal.decreases-steps::rank_each
 decreases-steps::rank_each g l = keys_weight (keys_of (map key l.order.now)) + 3
 
@@ -226,6 +193,16 @@ decreases-steps::rank_keys g l = keys_weight (keys_of (map key l.order.now)) + 1
 
 abbrev pub decreases-steps::order_keys : goal.decreases-steps::order_keys
 decreases-steps::order_keys g l = keys_weight (keys_of (map key l.order.now))
+
+abbrev pub invariant-steps::order_keys-loop-first : goal.invariant-steps::order_keys-loop-first
+invariant-steps::order_keys-loop-first g l = record {
+  value : map item l.out.items ++ keys_values (g.S.Source.docs l.source) (fields l.params) (keys_of (map key l.behind)) (scope l.frame) ≡ keys_values (g.S.Source.docs l.source) (fields l.params) (keys_of (map key l.order)) (scope l.frame);
+  keys : l.keys ++ keys_looked (g.S.Source.docs l.source) (fields l.params) (keys_of (map key l.behind)) (scope l.frame) ≡ l.initial.keys ++ keys_looked (g.S.Source.docs l.source) (fields l.params) (keys_of (map key l.order)) (scope l.frame);
+  lighter : keys_weight (keys_of (map key l.behind)) ≤ keys_weight (keys_of (map key l.order));
+}
+
+abbrev pub decreases-steps::order_keys-loop-first : goal.decreases-steps::order_keys-loop-first
+decreases-steps::order_keys-loop-first g l = length l.behind
 
 abbrev pub invariant-steps::rank_each-loop-i : goal.invariant-steps::rank_each-loop-i
 invariant-steps::rank_each-loop-i g l = record {
@@ -242,16 +219,6 @@ invariant-steps::rank_each-loop-i g l = record {
       (fields l.params) (keys_of (map key l.order)) (x ∷ scope l.frame))
       (map item (into_iter_items l.initial.i-iterator));
 }
-
-abbrev pub invariant-steps::order_keys-loop-first : goal.invariant-steps::order_keys-loop-first
-invariant-steps::order_keys-loop-first g l = record {
-  value : map item l.out.items ++ keys_values (g.S.Source.docs l.source) (fields l.params) (keys_of (map key l.behind)) (scope l.frame) ≡ keys_values (g.S.Source.docs l.source) (fields l.params) (keys_of (map key l.order)) (scope l.frame);
-  keys : l.keys ++ keys_looked (g.S.Source.docs l.source) (fields l.params) (keys_of (map key l.behind)) (scope l.frame) ≡ l.initial.keys ++ keys_looked (g.S.Source.docs l.source) (fields l.params) (keys_of (map key l.order)) (scope l.frame);
-  lighter : keys_weight (keys_of (map key l.behind)) ≤ keys_weight (keys_of (map key l.order));
-}
-
-abbrev pub decreases-steps::order_keys-loop-first : goal.decreases-steps::order_keys-loop-first
-decreases-steps::order_keys-loop-first g l = length l.behind
 
 abbrev pub decreases-calls::call : goal.decreases-calls::call
 decreases-calls::call g l = arguments_weight (arguments_of (map arg l.args.now)) + 5
