@@ -1,7 +1,7 @@
 -- Open levels of a chain, over plain variables.
 use Rattle.std.proofs.Common.{◌≡◌, ℕ, ◌<◌, ◌≤◌, List, [], ◌∷◌, ◌++◌, length, refl, sym}
 use Rattle.std.proofs.Common.{ap}
-use Rattle.std.proofs.Common.{subst, ◌∙◌, append_assoc, false, Option, Some, None}
+use Rattle.std.proofs.Common.{subst, ◌∙◌, append_assoc, true, false, Option, Some, None}
 use Rattle.std.proofs.Common.{arith}
 use Rattle.std.specs.Prelude.{flat_map}
 use Rattle.std.specs.Option.{option_map_or}
@@ -31,7 +31,7 @@ use Rattle.cs_levels.specs.Levels.{entering, unwound, reached_value, task_value,
 use Rattle.cs_levels.specs.Levels.{waiting, waiting_of, levels_waiting, reached_waiting}
 use Rattle.cs_levels.specs.Levels.{task_waiting, Ended}
 use Rattle.cs_expr.specs.Fits.{AllFit, ReachedFits}
-use Rattle.cs_expr.specs.Stops.{Stop, at_end, at_rest, at_each, entered_stop, onward_stop, stop}
+use Rattle.cs_expr.specs.Stops.{Stop, at_end, at_rest, at_each, entered_stop, onward_stop, stop, is_whole}
 use Rattle.cs_expr.specs.Stops.{stop_value, stop_looked, stopped}
 use Rattle.cs_levels.specs.declared.levels.Remaining.{Remaining}
 use Rattle.cs_expr.specs.Weight.{steps_weight}
@@ -50,15 +50,15 @@ rest_of docs params scope r v = rest_value docs params (steps_in r) scope v
 abbrev pub looked_of : List Tree → Pairs → List Tree → Waiting → List Key
 looked_of docs params scope w = rest_looked docs params (steps_in w.rest) scope w.value
 
--- a mark for each step that a value takes in this rest, or behind it
+-- a mark for each value that goes through a rest behind this one
 abbrev entered_tally : Entrance → (Tree → List Key) → Tree → List Key
-entered_tally entrance_of.Whole rest v = All ∷ rest v
+entered_tally entrance_of.Whole rest v = rest v
 entered_tally Mapped rest v = each_looked (λ x. All ∷ rest x) v
 entered_tally Flat rest v = each_looked (λ x. All ∷ rest x) v
 
 abbrev onward_tally : Way → Entrance → (Tree → Tree) → (Tree → List Key) → Tree → List Key
-onward_tally Through enter step rest v = All ∷ rest (step v)
-onward_tally Over enter step rest v = All ∷ rest (mapped step v)
+onward_tally Through enter step rest v = rest (step v)
+onward_tally Over enter step rest v = rest (mapped step v)
 onward_tally After enter step rest v = entered_tally enter rest (step v)
 onward_tally Ends enter step rest v = []
 
@@ -80,20 +80,26 @@ stop_tally docs params scope (at_each joins ss v) = each_looked
 -- what comes of a stop is what the rest gives
 entered_gives : (docs : List Tree) (params : Pairs) (scope : List Tree) (e : Entrance)
     (ss : Steps) (v : Tree)
-    → stop_value docs params scope (entered_stop e ss v) ≡ entered e
+    → stop_value docs params scope (stop docs params ss scope v) ≡ rest_value docs params ss scope
+    v
+    → stop_value docs params scope (entered_stop e ss (stop docs params ss scope) v) ≡ entered e
     (rest_value docs params ss scope) v
-entered_gives docs params scope entrance_of.Whole ss v = refl
-entered_gives docs params scope Mapped ss v = refl
-entered_gives docs params scope Flat ss v = refl
+entered_gives docs params scope entrance_of.Whole ss v h = h
+entered_gives docs params scope Mapped ss v h = refl
+entered_gives docs params scope Flat ss v h = refl
 
 onward_gives : (docs : List Tree) (params : Pairs) (scope : List Tree) (w : Way) (e : Entrance)
     (ss : Steps) (f : Tree → Tree) (v : Tree)
-    → stop_value docs params scope (onward_stop w e ss f v) ≡ onward w e f
-    (rest_value docs params ss scope) v
-onward_gives docs params scope Through e ss f v = refl
-onward_gives docs params scope Over e ss f v = refl
-onward_gives docs params scope After e ss f v = entered_gives docs params scope e ss (f v)
-onward_gives docs params scope Ends e ss f v = refl
+    → ((x : Tree)
+    → stop_value docs params scope (stop docs params ss scope x) ≡ rest_value docs params ss
+    scope x)
+    → stop_value docs params scope (onward_stop w e ss f (stop docs params ss scope) v) ≡ onward w
+    e f (rest_value docs params ss scope) v
+onward_gives docs params scope Through e ss f v h = h (f v)
+onward_gives docs params scope Over e ss f v h = h (mapped f v)
+onward_gives docs params scope After e ss f v h = entered_gives docs params scope e ss (f v)
+    (h (f v))
+onward_gives docs params scope Ends e ss f v h = refl
 
 stop_gives : (docs : List Tree) (params : Pairs) (ss : Steps) (scope : List Tree) (v : Tree)
     → stop_value docs params scope (stop docs params ss scope v) ≡ rest_value docs params ss scope
@@ -101,58 +107,80 @@ stop_gives : (docs : List Tree) (params : Pairs) (ss : Steps) (scope : List Tree
 stop_gives docs params no_steps scope v = refl
 stop_gives docs params (more_steps s ss) scope v =
     onward_gives docs params scope (way (form s) (kind ss)) (entrance (kind ss)) ss
-    (step_value docs params s scope) v
+    (step_value docs params s scope) v (stop_gives docs params ss scope)
 
 entered_marks : (docs : List Tree) (params : Pairs) (scope : List Tree) (e : Entrance)
     (ss : Steps) (v : Tree)
-    → stop_tally docs params scope (entered_stop e ss v) ≡ entered_tally e
-    (tally docs params ss scope) v
-entered_marks docs params scope entrance_of.Whole ss v = refl
-entered_marks docs params scope Mapped ss v = refl
-entered_marks docs params scope Flat ss v = refl
+    → stop_tally docs params scope (stop docs params ss scope v) ≡ tally docs params ss scope v
+    → stop_tally docs params scope (entered_stop e ss (stop docs params ss scope) v) ≡
+    entered_tally e (tally docs params ss scope) v
+entered_marks docs params scope entrance_of.Whole ss v h = h
+entered_marks docs params scope Mapped ss v h = refl
+entered_marks docs params scope Flat ss v h = refl
 
 onward_marks : (docs : List Tree) (params : Pairs) (scope : List Tree) (w : Way) (e : Entrance)
     (ss : Steps) (f : Tree → Tree) (v : Tree)
-    → stop_tally docs params scope (onward_stop w e ss f v) ≡ onward_tally w e f
-    (tally docs params ss scope) v
-onward_marks docs params scope Through e ss f v = refl
-onward_marks docs params scope Over e ss f v = refl
-onward_marks docs params scope After e ss f v = entered_marks docs params scope e ss (f v)
-onward_marks docs params scope Ends e ss f v = refl
+    → ((x : Tree)
+    → stop_tally docs params scope (stop docs params ss scope x) ≡ tally docs params ss scope
+    x)
+    → stop_tally docs params scope (onward_stop w e ss f (stop docs params ss scope) v) ≡
+    onward_tally w e f (tally docs params ss scope) v
+onward_marks docs params scope Through e ss f v h = h (f v)
+onward_marks docs params scope Over e ss f v h = h (mapped f v)
+onward_marks docs params scope After e ss f v h = entered_marks docs params scope e ss (f v)
+    (h (f v))
+onward_marks docs params scope Ends e ss f v h = refl
 
 stop_marks : (docs : List Tree) (params : Pairs) (ss : Steps) (scope : List Tree) (v : Tree)
     → stop_tally docs params scope (stop docs params ss scope v) ≡ tally docs params ss scope v
 stop_marks docs params no_steps scope v = refl
 stop_marks docs params (more_steps s ss) scope v =
     onward_marks docs params scope (way (form s) (kind ss)) (entrance (kind ss)) ss
-    (step_value docs params s scope) v
+    (step_value docs params s scope) v (stop_marks docs params ss scope)
 
 -- a step, and what it gives entering the rest behind it
-entered_turns : (w : Way) (e : Entrance) (ss : Steps) (f : Tree → Tree) (v : Tree)
-    → is_end w ≡ false → onward_stop w e ss f v ≡ entered_stop (turn w e) ss (once w f v)
-entered_turns Through e ss f v h = refl
-entered_turns Over e ss f v h = refl
-entered_turns After e ss f v h = refl
-entered_turns Ends e ss f v h = cc
+entered_turns : (w : Way) (e : Entrance) (ss : Steps) (f : Tree → Tree) (r : Tree
+    → Stop) (v : Tree) → is_end w ≡ false
+    → onward_stop w e ss f r v ≡ entered_stop (turn w e) ss r (once w f v)
+entered_turns Through e ss f r v h = refl
+entered_turns Over e ss f r v h = refl
+entered_turns After e ss f r v h = refl
+entered_turns Ends e ss f r v h = cc
 
-stopped_enters : (e : Entrance) (g : Got) (r : Remaining)
-    → stopped (entering e g r) ≡ entered_stop e (steps_in r) (got g)
-stopped_enters entrance_of.Whole g r = refl
-stopped_enters Mapped g r = refl
-stopped_enters Flat g r = refl
+pub step_stops : (docs : List Tree) (params : Pairs) (scope : List Tree) (s : Step) (ss : Steps)
+    (k : Kind) (w : Way) (e : Entrance) (v w' : Tree)
+    → k ≡ kind ss → w ≡ way (form s) k → is_end w ≡ false → e ≡ turn w (entrance k)
+    → w' ≡ once w (step_value docs params s scope) v
+    → entered_stop e ss (stop docs params ss scope) w' ≡ stop docs params (more_steps s ss) scope
+    v
+step_stops docs params scope s ss k w e v w' is-k is-w goes is-e is-v =
+    let f = step_value docs params s scope in let r = stop docs params ss scope in
+    ap (entered_stop e ss r) is-v
+    ∙ (ap (λ (x : Entrance). entered_stop x ss r (once w f v)) is-e
+    ∙ (sym (entered_turns w (entrance k) ss f r v goes)
+    ∙ (ap (λ (x : Way). onward_stop x (entrance k) ss f r v) is-w
+    ∙ ap (λ (x : Kind). onward_stop (way (form s) x) (entrance x) ss f r v) is-k)))
 
-pub step_stops : (docs : List Tree) (params : Pairs) (scope : List Tree) (s : Step)
+pub whole_enters : (e : Entrance) → is_whole e ≡ true → e ≡ entrance_of.Whole
+whole_enters entrance_of.Whole h = refl
+whole_enters Mapped h = cc
+whole_enters Flat h = cc
+
+-- elements that go on one by one
+each_enters : (e : Entrance) (g : Got) (r : Remaining) (rest : Tree → Stop)
+    → is_whole e ≡ false → stopped (entering e g r) ≡ entered_stop e (steps_in r) rest (got g)
+each_enters entrance_of.Whole g r rest h = cc
+each_enters Mapped g r rest h = refl
+each_enters Flat g r rest h = refl
+
+pub each_stops : (docs : List Tree) (params : Pairs) (scope : List Tree) (s : Step)
     (k : Kind) (w : Way) (e : Entrance) (v : Tree) (g : Got) (r : Remaining) (h : Reached)
     → k ≡ kind (steps_in r) → w ≡ way (form s) k → is_end w ≡ false → e ≡ turn w (entrance k)
-    → got g ≡ once w (step_value docs params s scope) v → h ≡ entering e g r
+    → got g ≡ once w (step_value docs params s scope) v → h ≡ entering e g r → is_whole e ≡ false
     → stopped h ≡ stop docs params (more_steps s (steps_in r)) scope v
-step_stops docs params scope s k w e v g r h is-k is-w goes is-e is-v is-h =
-    let f = step_value docs params s scope in let ss = steps_in r in
-    ap stopped is-h ∙ (stopped_enters e g r ∙ (ap (entered_stop e ss) is-v
-    ∙ (ap (λ (x : Entrance). entered_stop x ss (once w f v)) is-e
-    ∙ (sym (entered_turns w (entrance k) ss f v goes)
-    ∙ (ap (λ (x : Way). onward_stop x (entrance k) ss f v) is-w
-    ∙ ap (λ (x : Kind). onward_stop (way (form s) x) (entrance x) ss f v) is-k)))))
+each_stops docs params scope s k w e v g r h is-k is-w goes is-e is-v is-h each =
+    ap stopped is-h ∙ (each_enters e g r (stop docs params (steps_in r) scope) each
+    ∙ step_stops docs params scope s (steps_in r) k w e v (got g) is-k is-w goes is-e is-v)
 
 -- what waits, read one by one
 each_waits : (k : Waiting → List Key) (r : Remaining) (ts : List Tree)

@@ -25,23 +25,29 @@ pub data Stop : Type 0 where
   at_each : Bool → Steps → Tree → Stop
 
 -- the stop of an array that enters a rest
-abbrev pub entered_stop : Entrance → Steps → Tree → Stop
-entered_stop entrance_of.Whole ss v = at_rest ss v
-entered_stop Mapped ss v = at_each false ss v
-entered_stop Flat ss v = at_each true ss v
+abbrev pub entered_stop : Entrance → Steps → (Tree → Stop) → Tree → Stop
+entered_stop entrance_of.Whole ss rest v = rest v
+entered_stop Mapped ss rest v = at_each false ss v
+entered_stop Flat ss rest v = at_each true ss v
 
--- the stop behind a step
-abbrev pub onward_stop : Way → Entrance → Steps → (Tree → Tree) → Tree → Stop
-onward_stop Through enter ss step v = at_rest ss (step v)
-onward_stop Over enter ss step v = at_rest ss (mapped step v)
-onward_stop After enter ss step v = entered_stop enter ss (step v)
-onward_stop Ends enter ss step v = at_end v
+-- the stop of a step and the rest behind it
+abbrev pub onward_stop : Way → Entrance → Steps → (Tree → Tree) → (Tree → Stop) → Tree → Stop
+onward_stop Through enter ss step rest v = rest (step v)
+onward_stop Over enter ss step rest v = rest (mapped step v)
+onward_stop After enter ss step rest v = entered_stop enter ss rest (step v)
+onward_stop Ends enter ss step rest v = at_end v
 
--- how far a value comes in a rest by its first step
+-- how far a value comes in a rest before a list's elements go on one by one
 abbrev pub stop : List Tree → Pairs → Steps → List Tree → Tree → Stop
 stop docs params no_steps scope v = at_end v
 stop docs params (more_steps s ss) scope v =
-    onward_stop (way (form s) (kind ss)) (entrance (kind ss)) ss (step_value docs params s scope) v
+    onward_stop (way (form s) (kind ss)) (entrance (kind ss)) ss
+    (step_value docs params s scope) (stop docs params ss scope) v
+
+-- a value goes through a rest as it is
+abbrev pub is_whole : Entrance → Bool
+is_whole entrance_of.Whole = true
+is_whole entrance = false
 
 -- what comes of a stop, and what that looks up
 abbrev pub stop_value : List Tree → Pairs → List Tree → Stop → Tree

@@ -9,7 +9,7 @@ ghost use Rattle.cs_meaning.specs.Looked.{rest_looked, pipes_looked, step_looked
 ghost use Rattle.cs_parts.specs.Parts.{got, item};
 ghost use Rattle.cs_parts.specs.Kinds.{kinds_of};
 ghost use Rattle.cs_expr.specs.Fits.{ReachedFits, reached_weight};
-ghost use Rattle.cs_expr.specs.Stops.{stop, stop_value, stop_looked, stopped};
+ghost use Rattle.cs_expr.specs.Stops.{is_whole, stop, stop_value, stop_looked, stopped};
 ghost use Rattle.cs_expr.specs.Weight.{steps_weight};
 ghost use Rattle.cs_levels.specs.Nodes.{steps_in};
 ghost use Rattle.cs_expr.specs.Starts.{start_value, start_looked, enter_value, enter_looked, once, once_looked};
@@ -22,8 +22,8 @@ use cs_levels::{
 };
 use cs_order::first_asked;
 use cs_parts::{
-    Got, Item, Kind, Source, Way, behind, elements, ends, entrance_of, first_kind, form_of, gather,
-    is_over, kinds, turn, way_of,
+    Entrance, Got, Item, Kind, Source, Way, behind, elements, ends, entrance_of, first_kind,
+    form_of, gather, is_over, kinds, turn, way_of,
 };
 use cs_syntax::{Expr, Step};
 use cs_value::{Fields, NoMemory, Val};
@@ -128,7 +128,7 @@ pub fn enter<'s, S: Source<C>, C>(
     climb(alloc, first, frame, params, source, keys, count)
 }
 
-// The first step of a rest, and how far the chain has come behind it.
+// How far a chain comes in a rest while one value goes through its steps.
 #[cycle(eval)]
 fn step_on<'s, 'k, S: Source<C>, C>(
     alloc: Global,
@@ -148,18 +148,30 @@ fn step_on<'s, 'k, S: Source<C>, C>(
         (fields params.now) (steps_in rest.entry) (scope frame.now) (got value.entry)) }
     ensures fits { IfOk result (λ r. ReachedFits (steps_weight (steps_in rest.entry)) r) }
 {
-    let Some((first, steps)) = rest.steps.split_first() else {
-        return Ok(Reached::End(value));
-    };
-    let kinds = behind(rest.kinds);
-    let kind = first_kind(kinds);
-    let way = way_of(form_of(first), kind);
-    if ends(way) {
-        return Ok(Reached::End(value));
+    let mut here = value;
+    let mut left = rest;
+    while let Some((first, steps)) = left.steps.split_first() {
+        let kinds = behind(left.kinds);
+        let kind = first_kind(kinds);
+        let way = way_of(form_of(first), kind);
+        if ends(way) {
+            return Ok(Reached::End(here));
+        }
+        here = once(alloc, first, way, frame, params, source, here, keys, count)?;
+        left = Remaining { steps, kinds };
+        let entrance = turn(way, entrance_of(kind));
+        if !is_whole(entrance) {
+            return Ok(entering(entrance, here, left));
+        }
     }
-    let given = once(alloc, first, way, frame, params, source, value, keys, count)?;
-    let entrance = turn(way, entrance_of(kind));
-    Ok(entering(entrance, given, Remaining { steps, kinds }))
+    Ok(Reached::End(here))
+}
+
+// Whether a value goes through a rest as it is, and not its elements one by one.
+fn is_whole(entrance: Entrance) -> bool
+    ensures { result ≡ is_whole entrance }
+{
+    matches!(entrance, Entrance::Whole)
 }
 
 // What comes of the place that a chain has reached. A list whose elements go on one by one becomes

@@ -301,7 +301,7 @@ pub(crate) fn object<'s, S: Source<C>, C>(
     ensures keys { OnOk result (keys.new ≡ keys.old ++ entries_looked (S.docs source.now) (fields
         params.now) (entries_of (map entry_of list.now)) (scope frame.now)) }
 {
-    let mut pairs = Fields::new(alloc);
+    let mut pairs = Fields::with_capacity(alloc, list.len())?;
     let mut behind = list;
     while let Some((first, later)) = behind.split_first() {
         one_entry(alloc, first, frame, params, source, &mut pairs, keys, count)?;

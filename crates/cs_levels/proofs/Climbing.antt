@@ -1,5 +1,5 @@
 -- Open levels of a chain, over plain variables.
-use Rattle.std.proofs.Common.{◌≡◌, ◌+◌, List, [], ◌∷◌, ◌++◌, map, refl, sym}
+use Rattle.std.proofs.Common.{◌≡◌, List, [], ◌∷◌, ◌++◌, map, refl, sym}
 use Rattle.std.proofs.Common.{ap}
 use Rattle.std.proofs.Common.{◌∙◌, append_assoc, Bool, true, false, Option, Some}
 use Rattle.std.specs.Prelude.{flat_map, IfOk, Result, Ok, Err}

@@ -40,7 +40,8 @@ entry_put (bare e) v pairs = put_under (key_of e) v pairs
 entry_put (when c e) v pairs = spread_into pairs v
 entry_put (spread e) v pairs = spread_into pairs v
 
--- What a bracket gives, and looks up, where its condition is asked at these elements.
+-- What a bracket gives, and looks up, where its condition is asked at these elements: "Filter",
+-- "Element access" and "Slice".
 abbrev pub given : (Tree → Bool) → InBracket → Tree
 given passes (Given g) = got g
 given passes (Tried items) = list_of (filter passes (map item items.items))
@@ -54,6 +55,6 @@ abbrev pub first_pipe : Steps → Option (Step × Steps)
 first_pipe no_steps = None
 first_pipe (more_steps s ss) = if is_pipe s then Some (s, ss) else first_pipe ss
 
--- The steps of a rest.
+-- the steps of a rest
 abbrev pub steps_in : Remaining → Steps
 steps_in r = steps_of (map step r.steps.now)

@@ -1,4 +1,4 @@
--- Which documents the filter of a `*` is tried at.
+-- Which documents the filter of a `*` is tried at: this project's profile.
 use Rattle.std.specs.Prelude.{List, if◌then◌else◌}
 use Rattle.cs_value.specs.Tree.{Tree, Pairs}
 use Rattle.cs_syntax.specs.Expression.{Expression}

@@ -91,20 +91,20 @@ pub fn applied_got<'s>(
 }
 
 /// A value put under a name.
-pub fn put_named(
+pub(crate) fn put_named(
     alloc: Global,
     pairs: &mut Fields,
-    name: &str,
+    name: &Txt,
     value: Got<'_>,
 ) -> Result<(), NoMemory>
     ensures { OnOk result (fields pairs.new ≡ put name.now (got value.entry) (fields pairs.old)) }
 {
     let val = value.into_val(alloc)?;
-    put(pairs, Txt::copy_of(alloc, name)?, val)
+    put(pairs, name.copy(alloc)?, val)
 }
 
 /// A value put under the key that its expression has by itself.
-pub fn put_keyed(
+pub(crate) fn put_keyed(
     alloc: Global,
     pairs: &mut Fields,
     expr: &Expr,
@@ -118,7 +118,7 @@ pub fn put_keyed(
 }
 
 /// The pairs of a value that is an object put in.
-pub fn put_spread(alloc: Global, pairs: &mut Fields, value: Got<'_>) -> Result<(), NoMemory>
+pub(crate) fn put_spread(alloc: Global, pairs: &mut Fields, value: Got<'_>) -> Result<(), NoMemory>
     ensures { OnOk result (fields pairs.new ≡ spread_into (fields pairs.old) (got value.entry)) }
 {
     let val = settle(alloc, value)?;

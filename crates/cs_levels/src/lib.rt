@@ -11,7 +11,7 @@ mod pipes;
 pub use brackets::{InBracket, in_bracket, ordered_elements};
 pub use found::{
     applied_got, is_among, lies_between, list_in_order, matches_path, operated_got, push_got,
-    put_keyed, put_named, put_spread, refers_to,
+    refers_to,
 };
 pub use levels::{Level, Reached, Remaining, Task, entering, next_task};
 pub use lookups::look_up;

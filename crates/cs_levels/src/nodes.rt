@@ -74,7 +74,7 @@ pub fn put_entry(
         ≡ entry_put (entry_of entry.now) (got value.entry) (fields pairs.old)) }
 {
     match entry {
-        Entry::Keyed(name, _) => put_named(alloc, pairs, name.as_str(), value),
+        Entry::Keyed(name, _) => put_named(alloc, pairs, name, value),
         Entry::Bare(expr) => put_keyed(alloc, pairs, expr, value),
         Entry::When(_, _) => put_spread(alloc, pairs, value),
         Entry::Spread(_) => put_spread(alloc, pairs, value),

@@ -1,4 +1,4 @@
-use Rattle.std.proofs.Common.{◌≡◌, ◌+◌, List, ◌∷◌, ◌++◌, map, refl, sym, ap, subst, ◌∙◌, IfOk, OnOk, arith, cond, ℕ, Some, None, option_map}
+use Rattle.std.proofs.Common.{◌≡◌, ◌+◌, List, ◌∷◌, ◌++◌, map, refl, sym, ap, subst, ◌∙◌, IfOk, OnOk, arith, cond, false, ℕ, Some, None, option_map}
 use Rattle.cs_value.specs.Words.{list_of}
 use Rattle.cs_value.specs.Tree.{Tree}
 use Rattle.cs_value.specs.View.{tree, fields}
@@ -11,17 +11,18 @@ use Rattle.cs_syntax.specs.declared.tree.OrderKey.{OrderKey as CodeKey}
 use Rattle.cs_syntax.specs.declared.tree.Step.{Step as CodeStep}
 use Rattle.cs_view.specs.Scopes.{scope}
 use Rattle.cs_view.specs.declared.key.Key.{Key}
-use Rattle.cs_meaning.specs.Joining.{kind, way}
+use Rattle.cs_meaning.specs.Joining.{form, kind, way, entrance}
+use Rattle.cs_meaning.specs.declared.join.Entrance.TheVariants.{Whole}
 use Rattle.cs_meaning.specs.Ordered.{directions}
 use Rattle.cs_order.specs.First.{in_order}
 use Rattle.cs_order.specs.Ranked.{ranked as ranked_of}
 use Rattle.cs_meaning.specs.Operators.{in_path, is_true, sole}
 use Rattle.cs_expr.proofs.Firsts.{first_of_order}
 use Rattle.cs_meaning.specs.Values.{step_value, selected, keys_values}
-use Rattle.cs_meaning.specs.Looked.{looked, entry_looked, run_looked, rest_looked, arguments_looked, selected_looked, keys_looked}
+use Rattle.cs_meaning.specs.Looked.{looked, entry_looked, run_looked, rest_looked, arguments_looked, selected_looked, keys_looked, step_looked, entered_looked}
 use Rattle.cs_parts.specs.Parts.{got, item}
-use Rattle.cs_parts.specs.Turns.{turn}
-use Rattle.cs_expr.specs.Starts.{enter_value, enter_looked}
+use Rattle.cs_parts.specs.Turns.{turn, is_end}
+use Rattle.cs_expr.specs.Starts.{enter_value, enter_looked, once_looked}
 use Rattle.cs_expr.specs.Weight.{weight, operands_weight, arguments_weight, step_weight, steps_weight, keys_weight}
 use Rattle.cs_parts.specs.Callees.{path_arguments}
 use Rattle.cs_plan.specs.Filters.{key_in}
@@ -32,7 +33,7 @@ use Rattle.cs_expr.proofs.Calling.{none_left, selected_here, selected_looks_here
 use Rattle.cs_expr.proofs.Sorting.{keys_values_more, keys_looked_more, keys_weight_more, ordered_list, pushed_values}
 use Rattle.cs_expr.proofs.Starting.{array_enters, array_looks, array_fits, entering_weight, starting_fits, step_looks, base_enters, base_looks, no_pipe_value, no_pipe_looks, pipe_weight, pipe_turn_value, pipe_turn_looks}
 use Rattle.cs_expr.proofs.Nodes.{entry_left_looks, entry_met_looks, entry_taken_looks}
-use Rattle.cs_expr.proofs.Answered.{on_ok, run_parts, run_keys, one_after_another, pipe_parts, kept_docs, kept_keys, star_value, star_looked, is_everything_then, kind_behind, kinds_behind}
+use Rattle.cs_expr.proofs.Answered.{on_ok, run_parts, run_keys, one_after_another, pipe_parts, kept_docs, kept_keys, star_value, star_looked, is_everything_then, kind_behind, kinds_behind, step_looks_on}
 use Rattle.cs_levels.specs.Levels.{unwound, task_value, task_waiting, levels_waiting}
 use Rattle.cs_levels.specs.Levels.{reached_waiting}
 use Rattle.cs_levels.specs.Nodes.{steps_in}
@@ -42,7 +43,7 @@ use Rattle.cs_expr.specs.Stops.{stop}
 use Rattle.cs_levels.specs.declared.levels.Remaining.{Remaining}
 use Rattle.cs_levels.specs.declared.levels.Task.{Task}
 use Rattle.cs_levels.proofs.Climbing.{wait}
-use Rattle.cs_expr.proofs.Climbing.{rest_of, step_stops, first_value}
+use Rattle.cs_expr.proofs.Climbing.{rest_of, step_stops, each_stops, whole_enters, first_value}
 use Rattle.cs_expr.proofs.Climbing.{first_looks, first_fits, turn_value, turn_looks, turn_fits}
 use Rattle.cs_expr.proofs.Climbing.{turn_marks, done_value, done_order, done_looks}
 use Rattle.cs_expr.proofs.+eval.Goals as goal
@@ -544,54 +545,103 @@ expressions::one_entry-returns-clause-keys g t c =
           (sym c.condition_of.ensures ∙ ap (λ o. option_map (λ y. expression y.now) o) w.in_default.is)))
     ]
 
-pub chains::step_on-returns-clause-stop : goal.chains::step_on-returns-clause-stop
-chains::step_on-returns-clause-stop g t c =
+pub chains::step_on-loop-first-preserved : goal.chains::step_on-loop-first-preserved
+chains::step_on-loop-first-preserved g t c =
     let docs = g.S.Source.docs c.args.source.now in
     let ps = fields c.args.params.now in
     let sc = scope c.args.frame.now in
+    let l = c.loop-first in
     let r : Remaining = record { steps = c.in-Some.steps; kinds = c.behind-kinds.result } in
     let is = c.in-Some.ensures.cases.0 in
+    let s = step c.in-Some.first.now in
     let k : c.first_kind-kind.result ≡ kind (steps_in r) = c.first_kind-kind.ensures
-    ∙ kind_behind c.args.rest.steps.now c.in-Some.first.now c.in-Some.steps.now
-    c.args.rest.kinds.now c.behind-kinds.result.now is c.requires c.behind-kinds.ensures in
-    step_stops docs ps sc (step c.in-Some.first.now) c.first_kind-kind.result c.way_of-way.result
-    c.turn-entrance.result (got c.args.value) c.in_ok-given.given r c.entering.result k
-    (c.way_of-way.ensures ∙ ap (λ f. way f c.first_kind-kind.result) c.form_of.ensures)
-    (sym c.ends.ensures ∙ c.if-ends.false)
-    (c.turn-entrance.ensures ∙ ap (turn c.way_of-way.result) c.entrance_of.ensures)
-    c.in_ok-given.ensures.value c.entering.ensures
-    ∙ ap (λ (xs : List CodeStep). stop docs ps (steps_of (map step xs)) sc (got c.args.value))
-    (sym is)
+    ∙ kind_behind l.left.steps.now c.in-Some.first.now c.in-Some.steps.now l.left.kinds.now
+    c.behind-kinds.result.now is l.invariant.kinds c.behind-kinds.ensures in
+    let w : c.way_of-way.result ≡ way (form s) c.first_kind-kind.result = c.way_of-way.ensures
+    ∙ ap (λ f. way f c.first_kind-kind.result) c.form_of.ensures in
+    let goes : is_end c.way_of-way.result ≡ false = sym c.ends.ensures ∙ c.if-ends.false in
+    let on : c.turn-entrance.result ≡ turn c.way_of-way.result (entrance c.first_kind-kind.result)
+    = c.turn-entrance.ensures ∙ ap (turn c.way_of-way.result) c.entrance_of.ensures in
+    let whole : Whole ≡ turn c.way_of-way.result (entrance c.first_kind-kind.result) =
+    sym (whole_enters c.turn-entrance.result (sym c.is_whole.ensures ∙ c.if-not-is_whole.false)) ∙ on in
+    let heavy : steps_weight (steps_in l.left) ≡ steps_weight (more_steps s (steps_in r)) =
+    ap (λ (xs : List CodeStep). steps_weight (steps_of (map step xs))) is in
+    record {
+      stop = step_stops docs ps sc s (steps_in r) c.first_kind-kind.result c.way_of-way.result
+          Whole (got l.here) (got c.in_ok-here.here) k w goes whole c.in_ok-here.ensures.value
+          ∙ (ap (λ (xs : List CodeStep). stop docs ps (steps_of (map step xs)) sc (got l.here))
+          (sym is) ∙ l.invariant.stop);
+      keys = one_after_another l.keys c.once.new.keys
+          (rest_looked docs ps (more_steps s (steps_in r)) sc (got l.here))
+          (once_looked c.way_of-way.result (step_looked docs ps s sc) (got l.here))
+          (entered_looked Whole (rest_looked docs ps (steps_in r) sc) (got c.in_ok-here.here))
+          c.in_ok-here.ensures.keys
+          (sym (step_looks_on docs ps sc s (steps_in r) c.first_kind-kind.result
+          c.way_of-way.result Whole (got l.here) (got c.in_ok-here.here) k w goes whole
+          c.in_ok-here.ensures.value))
+          ∙ (ap (λ (xs : List CodeStep). l.keys ++ rest_looked docs ps (steps_of (map step xs)) sc
+          (got l.here)) (sym is) ∙ l.invariant.keys);
+      kinds = kinds_behind l.left.steps.now c.in-Some.first.now c.in-Some.steps.now
+          l.left.kinds.now c.behind-kinds.result.now is l.invariant.kinds c.behind-kinds.ensures;
+      lighter = omega (arith, heavy, l.invariant.lighter);
+    }
 
-pub chains::step_on-returns-clause-keys : goal.chains::step_on-returns-clause-keys
-chains::step_on-returns-clause-keys g t c =
+pub chains::step_on-returns-then-not-is_whole-clause-stop : goal.chains::step_on-returns-then-not-is_whole-clause-stop
+chains::step_on-returns-then-not-is_whole-clause-stop g t c =
     let docs = g.S.Source.docs c.args.source.now in
     let ps = fields c.args.params.now in
     let sc = scope c.args.frame.now in
+    let l = c.loop-first in
     let r : Remaining = record { steps = c.in-Some.steps; kinds = c.behind-kinds.result } in
     let is = c.in-Some.ensures.cases.0 in
+    let s = step c.in-Some.first.now in
     let k : c.first_kind-kind.result ≡ kind (steps_in r) = c.first_kind-kind.ensures
-    ∙ kind_behind c.args.rest.steps.now c.in-Some.first.now c.in-Some.steps.now
-    c.args.rest.kinds.now c.behind-kinds.result.now is c.requires c.behind-kinds.ensures in
-    step_looks docs ps sc (step c.in-Some.first.now) c.first_kind-kind.result c.way_of-way.result
-    c.turn-entrance.result (got c.args.value) c.in_ok-given.given r c.entering.result
-    c.args.keys.now c.once.new.keys k
-    (c.way_of-way.ensures ∙ ap (λ f. way f c.first_kind-kind.result) c.form_of.ensures)
-    (sym c.ends.ensures ∙ c.if-ends.false)
-    (c.turn-entrance.ensures ∙ ap (turn c.way_of-way.result) c.entrance_of.ensures)
-    c.in_ok-given.ensures.value c.entering.ensures c.in_ok-given.ensures.keys
-    ∙ ap (λ (xs : List CodeStep). c.args.keys.now ++ rest_looked docs ps (steps_of (map step xs)) sc
-    (got c.args.value)) (sym is)
+    ∙ kind_behind l.left.steps.now c.in-Some.first.now c.in-Some.steps.now l.left.kinds.now
+    c.behind-kinds.result.now is l.invariant.kinds c.behind-kinds.ensures in
+    let w : c.way_of-way.result ≡ way (form s) c.first_kind-kind.result = c.way_of-way.ensures
+    ∙ ap (λ f. way f c.first_kind-kind.result) c.form_of.ensures in
+    let goes : is_end c.way_of-way.result ≡ false = sym c.ends.ensures ∙ c.if-ends.false in
+    let on : c.turn-entrance.result ≡ turn c.way_of-way.result (entrance c.first_kind-kind.result)
+    = c.turn-entrance.ensures ∙ ap (turn c.way_of-way.result) c.entrance_of.ensures in
+    each_stops docs ps sc s c.first_kind-kind.result c.way_of-way.result c.turn-entrance.result
+    (got l.here) c.in_ok-here.here r c.entering.result k w goes on c.in_ok-here.ensures.value
+    c.entering.ensures (sym c.is_whole.ensures ∙ c.if-not-is_whole.true)
+    ∙ (ap (λ (xs : List CodeStep). stop docs ps (steps_of (map step xs)) sc (got l.here)) (sym is)
+    ∙ l.invariant.stop)
 
-pub chains::step_on-returns-clause-fits : goal.chains::step_on-returns-clause-fits
-chains::step_on-returns-clause-fits g t c =
+pub chains::step_on-returns-then-not-is_whole-clause-keys : goal.chains::step_on-returns-then-not-is_whole-clause-keys
+chains::step_on-returns-then-not-is_whole-clause-keys g t c =
+    let docs = g.S.Source.docs c.args.source.now in
+    let ps = fields c.args.params.now in
+    let sc = scope c.args.frame.now in
+    let l = c.loop-first in
     let r : Remaining = record { steps = c.in-Some.steps; kinds = c.behind-kinds.result } in
     let is = c.in-Some.ensures.cases.0 in
-    let heavy : steps_weight (steps_in c.args.rest) ≡ steps_weight (more_steps
+    let s = step c.in-Some.first.now in
+    let k : c.first_kind-kind.result ≡ kind (steps_in r) = c.first_kind-kind.ensures
+    ∙ kind_behind l.left.steps.now c.in-Some.first.now c.in-Some.steps.now l.left.kinds.now
+    c.behind-kinds.result.now is l.invariant.kinds c.behind-kinds.ensures in
+    let w : c.way_of-way.result ≡ way (form s) c.first_kind-kind.result = c.way_of-way.ensures
+    ∙ ap (λ f. way f c.first_kind-kind.result) c.form_of.ensures in
+    let goes : is_end c.way_of-way.result ≡ false = sym c.ends.ensures ∙ c.if-ends.false in
+    let on : c.turn-entrance.result ≡ turn c.way_of-way.result (entrance c.first_kind-kind.result)
+    = c.turn-entrance.ensures ∙ ap (turn c.way_of-way.result) c.entrance_of.ensures in
+    step_looks docs ps sc s c.first_kind-kind.result c.way_of-way.result c.turn-entrance.result
+    (got l.here) c.in_ok-here.here r c.entering.result l.keys c.once.new.keys k w goes on
+    c.in_ok-here.ensures.value c.entering.ensures c.in_ok-here.ensures.keys
+    ∙ (ap (λ (xs : List CodeStep). l.keys ++ rest_looked docs ps (steps_of (map step xs)) sc
+    (got l.here)) (sym is) ∙ l.invariant.keys)
+
+pub chains::step_on-returns-then-not-is_whole-clause-fits : goal.chains::step_on-returns-then-not-is_whole-clause-fits
+chains::step_on-returns-then-not-is_whole-clause-fits g t c =
+    let l = c.loop-first in
+    let r : Remaining = record { steps = c.in-Some.steps; kinds = c.behind-kinds.result } in
+    let is = c.in-Some.ensures.cases.0 in
+    let heavy : steps_weight (steps_in l.left) ≡ steps_weight (more_steps
     (step c.in-Some.first.now) (steps_in r))
     = ap (λ (xs : List CodeStep). steps_weight (steps_of (map step xs))) is in
     starting_fits (steps_weight (steps_in c.args.rest)) c.entering.result c.turn-entrance.result
-    c.in_ok-given.given r c.entering.ensures
-    (kinds_behind c.args.rest.steps.now c.in-Some.first.now c.in-Some.steps.now
-    c.args.rest.kinds.now c.behind-kinds.result.now is c.requires c.behind-kinds.ensures)
-    (omega (arith, heavy))
+    c.in_ok-here.here r c.entering.ensures
+    (kinds_behind l.left.steps.now c.in-Some.first.now c.in-Some.steps.now l.left.kinds.now
+    c.behind-kinds.result.now is l.invariant.kinds c.behind-kinds.ensures)
+    (omega (arith, heavy, l.invariant.lighter))

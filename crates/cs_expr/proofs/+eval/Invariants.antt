@@ -8,7 +8,7 @@ use Rattle.cs_syntax.specs.View.{expression, operands, step, entry, elem, arg, k
 use Rattle.cs_view.specs.Scopes.{scope}
 use Rattle.cs_meaning.specs.Operators.{is_true}
 use Rattle.cs_meaning.specs.Values.{value, run_value, arguments_values, coalesced, selected, elements_values, entries_pairs, pipes_value, step_value, keys_values}
-use Rattle.cs_meaning.specs.Looked.{looked, run_looked, arguments_looked, coalesced_looked, selected_looked, elements_looked, entries_looked, pipes_looked, step_looked, keys_looked}
+use Rattle.cs_meaning.specs.Looked.{looked, run_looked, arguments_looked, coalesced_looked, selected_looked, elements_looked, entries_looked, rest_looked, pipes_looked, step_looked, keys_looked}
 use Rattle.cs_meaning.specs.Ordered.{ranked}
 use Rattle.cs_order.specs.First.{all_kept, CanKeep}
 use Rattle.cs_order.specs.Ranked.{ranked as ranked_of}
@@ -18,7 +18,7 @@ use Rattle.cs_expr.specs.Weight.{weight, operands_weight, argument_weight, argum
 use Rattle.cs_levels.specs.Levels.{unwound, reached_value, reached_waiting, levels_waiting}
 use Rattle.cs_levels.specs.Nodes.{steps_in}
 use Rattle.cs_expr.specs.Fits.{AllFit, reached_weight}
-use Rattle.cs_expr.specs.Stops.{stop_value, stop_looked, stopped}
+use Rattle.cs_expr.specs.Stops.{stop, stop_value, stop_looked, stopped}
 use Rattle.cs_expr.proofs.Climbing.{rest_of, looked_of, tally_of}
 use Rattle.cs_expr.proofs.+eval.Given as goal
 
@@ -114,6 +114,21 @@ invariant-expressions::object-loop-first g l = record {
 
 abbrev pub decreases-expressions::object-loop-first : goal.decreases-expressions::object-loop-first
 decreases-expressions::object-loop-first g l = length l.behind
+
+abbrev pub invariant-chains::step_on-loop-first : goal.invariant-chains::step_on-loop-first
+invariant-chains::step_on-loop-first g l = record {
+  stop : stop (g.S.Source.docs l.source) (fields l.params) (steps_in l.left) (scope l.frame)
+      (got l.here) ≡ stop (g.S.Source.docs l.source) (fields l.params) (steps_in l.fn.rest)
+      (scope l.frame) (got l.fn.value);
+  keys : l.keys ++ rest_looked (g.S.Source.docs l.source) (fields l.params) (steps_in l.left)
+      (scope l.frame) (got l.here) ≡ l.initial.keys ++ rest_looked (g.S.Source.docs l.source)
+      (fields l.params) (steps_in l.fn.rest) (scope l.frame) (got l.fn.value);
+  kinds : l.left.kinds.now ≡ kinds_of (map step l.left.steps.now);
+  lighter : steps_weight (steps_in l.left) ≤ steps_weight (steps_in l.fn.rest);
+}
+
+abbrev pub decreases-chains::step_on-loop-first : goal.decreases-chains::step_on-loop-first
+decreases-chains::step_on-loop-first g l = length l.left.steps.now
 
 abbrev pub invariant-chains::climb-loop-levels : goal.invariant-chains::climb-loop-levels
 invariant-chains::climb-loop-levels g l = record {
