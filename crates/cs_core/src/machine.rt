@@ -23,6 +23,7 @@ use cs_gen::Tally;
 use cs_io::Line;
 use cs_json::{JsonFault, ValueReader};
 use cs_live::simple_lives_ask_nothing;
+use cs_recent::Recent;
 use cs_reply::Refusal;
 use cs_state::State;
 use cs_value::{NoMemory, Steps, Val};
@@ -86,7 +87,8 @@ impl Replies {
 /// the moment, the ids of accepted transactions in the order in which they were, the live queries
 /// and the listeners.
 ///
-/// Its index finds the documents that have a key. No reply depends on the seed of the index.
+/// Its index finds the documents that have a key. No reply depends on the seed of the index. It
+/// keeps the queries that were asked last, so that their texts are not read again.
 ///
 /// A machine is spent where a transaction's documents were installed and there was no memory then
 /// for their index, or for what its live queries answer. It can't be used on, and every step says
@@ -95,6 +97,7 @@ impl Replies {
 pub struct Core {
     pub(crate) alloc: Global,
     reader: ValueReader,
+    pub(crate) recent: Recent,
     pub(crate) state: State,
 }
 
@@ -108,6 +111,7 @@ impl Core {
         Ok(Core {
             alloc,
             reader: ValueReader::new(alloc),
+            recent: Recent::new(alloc, seed)?,
             state: State::new(alloc, seed, docs)?,
         })
     }
