@@ -124,3 +124,21 @@ module _ (has_keys : TrueHasPredicateKeys) (narrow : NarrowestIsHad) (listed : K
   told_is_heard (l ∷ ls) coded =
       ap (λ es. es ++ all_told sought tx moment cs ls) (one_told l (and-left (is_coded seed waiting l) (are_coded seed waiting ls) coded))
       ∙ ap (λ es. filter_map (heard tx moment (listener l)) cs ++ es) (told_is_heard ls (and-right (is_coded seed waiting l) (are_coded seed waiting ls) coded))
+
+-- ---- where no code is sought, and none waits for every document, nothing is told
+module _ (seed : Seed) (waiting tx moment : List ℕ) (cs : List Edit) (none : is_among 0 waiting ≡ false) where
+  not_told : (l : Listening) → is_coded seed waiting l ≡ true → told [] tx moment cs l ≡ []
+  not_told l coded = by_test (nat_eq l.code 0) refl where
+    waits : is_among l.code waiting ≡ true
+    waits = and-right (nat_eq l.code (filter_code seed (filter_of l.predicate) (fields l.params)))
+        (is_among l.code waiting) coded
+
+    by_test : (b : Bool) → nat_eq l.code 0 ≡ b → cond (nat_eq l.code 0 || false) (filter_map (heard tx moment (listener l)) cs) [] ≡ []
+    by_test true f = absurd (true≢false (sym waits ∙ ap (λ c. is_among c waiting) (eqb-true l.code 0 f) ∙ none))
+    by_test false f = ap (λ b. cond (b || false) (filter_map (heard tx moment (listener l)) cs) []) f
+
+  pub none_told : (ls : List Listening) → are_coded seed waiting ls ≡ true → all_told [] tx moment cs ls ≡ []
+  none_told [] coded = refl
+  none_told (l ∷ ls) coded =
+      ap (λ es. es ++ all_told [] tx moment cs ls) (not_told l (and-left (is_coded seed waiting l) (are_coded seed waiting ls) coded))
+      ∙ none_told ls (and-right (is_coded seed waiting l) (are_coded seed waiting ls) coded)

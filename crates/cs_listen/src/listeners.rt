@@ -12,6 +12,7 @@ ghost use Rattle.cs_reply.specs.View.{event};
 use crate::hearing::hear_all;
 use crate::listening::Listening;
 use crate::sought::{filter_code, sought_codes, waiting_codes};
+use cs_codes::has_code;
 use cs_codes::laws::keys_are_listed;
 use cs_interest::laws::narrowest_is_had;
 use cs_plain::{Plain, true_has_predicate_keys};
@@ -44,7 +45,7 @@ pub enum ListenFault {
 /// Each is held with the code of the narrowest of its filter's keys. A change goes to those whose
 /// code is one that its document has, before it or after it, and to those whose filter gives no
 /// key. The codes of all stand in one list besides, in which the codes of a change are sought
-/// first.
+/// first: where none of them is found, and each filter gives a key, no listener is looked at.
 #[derive(Drop)]
 pub struct Listeners {
     alloc: Global,
@@ -188,6 +189,10 @@ impl Listeners {
             return Ok(Vec::new(alloc));
         }
         let sought = sought_codes(alloc, &self.seed, &self.waiting, changes)?;
+        // Most changes concern no listener, and then none is looked at.
+        if sought.is_empty() && !has_code(&self.waiting, 0) {
+            return Ok(Vec::new(alloc));
+        }
         hear_all(alloc, &self.made, &sought, tx, moment, changes)
     }
 }
