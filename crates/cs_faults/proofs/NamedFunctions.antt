@@ -1,5 +1,5 @@
--- No function's name is one that the profile leaves out.
-use Rattle.std.proofs.Common.{◌≡◌, ℕ, List, [], ◌∷◌, map, Bool, true, false, not, Some, None, option_map, refl, sym, ap, ◌∙◌, cond, nat_cmp}
+-- No function's name is one that the profile leaves out, and `order` is none either.
+use Rattle.std.proofs.Common.{◌≡◌, ℕ, List, [], ◌∷◌, map, Bool, true, false, not, Some, None, option_map, refl, sym, ap, ◌∙◌, cond, nat_cmp, bytes_eq, codes}
 use Rattle.std.specs.Prelude.{◌||◌, if◌then◌else◌}
 use Rattle.std.specs.List.{list_all}
 use Rattle.std.specs.Ordering.{is_eq}
@@ -8,8 +8,8 @@ use Rattle.std.proofs.lemmas.Bool.{and_parts, not-true}
 use Rattle.std.proofs.lemmas.Map.Text.{is_eq-slice_cmp}
 use Rattle.std.proofs.lemmas.Slice.Eq.{bytes_eq-Decides}
 use Rattle.cs_table.specs.Row.{row_of}
-use Rattle.cs_syntax.specs.Expression.{Arguments}
-use Rattle.cs_syntax.specs.Faults.{first_of, is_path, unsupported, unknown_function, arity_faults, call_faults}
+use Rattle.cs_syntax.specs.Expression.{Arguments, OrderKeys}
+use Rattle.cs_syntax.specs.Faults.{first_of, is_path, unsupported, unknown_function, arity_faults, call_faults, order_faults, pipe_faults}
 use Rattle.cs_faults.specs.Found.{no_function}
 use Rattle.cs_syntax.specs.Functions.{Arity, functions, arity_of, is_left_out}
 
@@ -62,3 +62,12 @@ call_of_no_function name args h = by_name (is_left_out name || is_path name)
         ≡ Some (if t then unsupported name else unknown_function name)
     by_name true = refl
     by_name false = ap (λ o. first_of (arity_faults name args o)) h
+
+-- the faults of a piped call of `order`
+pub pipe_of_order : (name : List ℕ) (keys : OrderKeys) → bytes_eq name (codes "order") ≡ true
+    → pipe_faults name keys ≡ order_faults name keys
+pipe_of_order name keys h =
+    ap (λ s. pipe_faults s keys) named ∙ ap (λ s. order_faults s keys) (sym named)
+  where
+    named : name ≡ codes "order"
+    named = (bytes_eq-Decides name (codes "order")).0 h

@@ -79,17 +79,18 @@ fn check_order<'e>(name: &'e str, keys: &[OrderKey]) -> Result<(), Fault<'e>>
 }
 
 /// The fault of the name of a piped call.
+#[tactic(auto, using(crate::proofs::NamedFunctions::pipe_of_order))]
 pub(crate) fn check_pipe<'e>(name: &'e str, keys: &[OrderKey]) -> Result<(), Fault<'e>>
     ensures { found result
         ≡ first_of (pipe_faults name.now (keys_of (map order_key_of keys.now))) }
 {
-    if is_left_out(name) {
-        return Err(Fault::Unsupported { name });
+    if name == "order" {
+        check_order(name, keys)
+    } else if is_left_out(name) {
+        Err(Fault::Unsupported { name })
+    } else {
+        Err(Fault::UnknownFunction { name })
     }
-    if name != "order" {
-        return Err(Fault::UnknownFunction { name });
-    }
-    check_order(name, keys)
 }
 
 /// The fault of a bracket, at its `[`.

@@ -1,6 +1,8 @@
-// Small texts, each with what becomes of it.
+// Small texts, each with what becomes of it, and how large a token is.
 use super::*;
+use cs_grammar::Lexeme;
 use std::alloc::Global;
+use std::mem::size_of;
 use std::test::Fail;
 
 // What becomes of the text, in a word and what the cause tells.
@@ -23,6 +25,12 @@ fn reply(alloc: Global, text: &str) -> Result<String, Fail> {
         Err(ParseFault::NoKey) => Ok(String::from_str(alloc, "no-key")?),
         Err(ParseFault::NoMemory) => Ok(String::from_str(alloc, "no memory")?),
     }
+}
+
+#[test]
+fn a_token_is_small(rt: HostRuntime) -> Result<(), Fail> {
+    assert!(rt; size_of::<Lexeme>() <= 12);
+    Ok(())
 }
 
 #[test]

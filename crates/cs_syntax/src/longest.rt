@@ -55,8 +55,28 @@ fn param_end(bytes: &[u8], at: usize) -> Option<usize>
 fn is_one(byte: u8) -> bool
     ensures { result ≡ is_one byte }
 {
-    let signs = *b"!%()*+,-./:<>@[]^{|}";
-    signs.contains(&byte)
+    matches!(
+        byte,
+        b'!' | b'%'
+            | b'('
+            | b')'
+            | b'*'
+            | b'+'
+            | b','
+            | b'-'
+            | b'.'
+            | b'/'
+            | b':'
+            | b'<'
+            | b'>'
+            | b'@'
+            | b'['
+            | b']'
+            | b'^'
+            | b'{'
+            | b'|'
+            | b'}'
+    )
 }
 
 // Whether the two bytes are a sign.
