@@ -40,8 +40,8 @@ entry_put (bare e) v pairs = put_under (key_of e) v pairs
 entry_put (when c e) v pairs = spread_into pairs v
 entry_put (spread e) v pairs = spread_into pairs v
 
--- What a bracket gives, and looks up, where its condition is asked at these elements: "Filter",
--- "Element access" and "Slice".
+-- What a bracket gives, and looks up: what was given without a condition, "Element access" and
+-- "Attribute access", or the elements at which its condition holds, "Filter".
 abbrev pub given : (Tree → Bool) → InBracket → Tree
 given passes (Given g) = got g
 given passes (Tried items) = list_of (filter passes (map item items.items))

@@ -5,7 +5,8 @@ use Rattle.std.proofs.lemmas.Bool.{leb-false}
 use Rattle.cs_value.specs.Tree.{Tree}
 use Rattle.cs_machine.specs.Laws.{RunsStayWithinLimits}
 use Rattle.cs_live.specs.Lives.{LiveQuery, all_refreshed, has_live_name, without_name, most_lives}
-use Rattle.cs_machine.specs.State.{State, begun, listens}
+use Rattle.cs_listen.specs.Listeners.{has_name}
+use Rattle.cs_machine.specs.State.{State, begun}
 use Rattle.cs_machine.proofs.Steps.{Cases, lines-keep}
 
 abbrev IsLimited : State → Type 0
@@ -46,10 +47,10 @@ without_fewer name (e ∷ es) =
 
 stopped_limited : (name : List ℕ) (s : State) → IsLimited s
     → (length (without_name name s.lives) ≤ most_lives)
-    × (length (filter (λ l. not (listens name l)) s.listeners) ≤ most_lives)
+    × (length (filter (λ l. not (has_name name l)) s.listeners) ≤ most_lives)
 stopped_limited name s h =
     let lives = without_fewer name s.lives in
-    let listeners = filter_fewer (λ l. not (listens name l)) s.listeners in
+    let listeners = filter_fewer (λ l. not (has_name name l)) s.listeners in
     let before = h.0 in
     let others = h.1 in
     (omega (arith, lives, before), omega (arith, listeners, others))

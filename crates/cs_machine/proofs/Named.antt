@@ -5,9 +5,10 @@ use Rattle.std.proofs.lemmas.Slice.Eq.{bytes_eq-Decides}
 use Rattle.cs_value.specs.Tree.{Tree}
 use Rattle.cs_view.proofs.Booleans.{or-left, or-right}
 use Rattle.cs_listen.specs.Events.{Listener}
+use Rattle.cs_listen.specs.Listeners.{has_name}
 use Rattle.cs_machine.specs.Laws.{bearers, RunsNameOnce}
 use Rattle.cs_live.specs.Lives.{LiveQuery, refreshed, all_refreshed, has_live_name, without_name, is_named}
-use Rattle.cs_machine.specs.State.{State, begun, listens, is_taken}
+use Rattle.cs_machine.specs.State.{State, begun, is_taken}
 use Rattle.cs_machine.proofs.Steps.{Cases, lines-keep}
 
 -- ---- how many pass a test
@@ -81,9 +82,9 @@ as_many q docs (e ∷ es) =
 free_is_none : (name : List ℕ) (s : State) → is_taken name s ≡ false → bearers name s ≡ 0
 free_is_none name s h =
     let lives = none_passes (has_live_name name) s.lives
-    (or-left (is_named name s.lives) (list_any (listens name) s.listeners) h) in
-    let listeners = none_passes (listens name) s.listeners
-    (or-right (is_named name s.lives) (list_any (listens name) s.listeners) h) in
+    (or-left (is_named name s.lives) (list_any (has_name name) s.listeners) h) in
+    let listeners = none_passes (has_name name) s.listeners
+    (or-right (is_named name s.lives) (list_any (has_name name) s.listeners) h) in
     omega (arith, lives, listeners)
 
 -- one bearer more of a name that has none
@@ -100,30 +101,30 @@ abbrev AreOnce : State → Type 0
 AreOnce s = (name : List ℕ) → bearers name s ≤ 1
 
 live_once : (s : State) (l : LiveQuery) (q : List ℕ) → AreOnce s → is_taken l.name s ≡ false
-    → passing (has_live_name q) (s.lives ++ l ∷ []) + passing (listens q) s.listeners ≤ 1
+    → passing (has_live_name q) (s.lives ++ l ∷ []) + passing (has_name q) s.listeners ≤ 1
 live_once s l q h free =
     let more = with_one (has_live_name q) s.lives l in
     let room = room_for q l.name (λ name. bearers name s) (h q) (free_is_none l.name s free) in
     rw more (omega (arith, room))
 
 listener_once : (s : State) (l : Listener) (q : List ℕ) → AreOnce s → is_taken l.name s ≡ false
-    → passing (has_live_name q) s.lives + passing (listens q) (s.listeners ++ l ∷ []) ≤ 1
+    → passing (has_live_name q) s.lives + passing (has_name q) (s.listeners ++ l ∷ []) ≤ 1
 listener_once s l q h free =
-    let more = with_one (listens q) s.listeners l in
+    let more = with_one (has_name q) s.listeners l in
     let room = room_for q l.name (λ name. bearers name s) (h q) (free_is_none l.name s free) in
     rw more (omega (arith, room))
 
 stopped_once : (s : State) (name q : List ℕ) → AreOnce s
     → passing (has_live_name q) (without_name name s.lives)
-    + passing (listens q) (filter (λ l. not (listens name l)) s.listeners) ≤ 1
+    + passing (has_name q) (filter (λ l. not (has_name name l)) s.listeners) ≤ 1
 stopped_once s name q h =
     let lives = fewer_without (has_live_name q) name s.lives in
-    let listeners = fewer (listens q) (λ l. not (listens name l)) s.listeners in
+    let listeners = fewer (has_name q) (λ l. not (has_name name l)) s.listeners in
     let now = h q in
     omega (arith, lives, listeners, now)
 
 refreshed_once : (s : State) (docs : List Tree) (q : List ℕ) → AreOnce s
-    → passing (has_live_name q) (all_refreshed docs s.lives) + passing (listens q) s.listeners ≤ 1
+    → passing (has_live_name q) (all_refreshed docs s.lives) + passing (has_name q) s.listeners ≤ 1
 refreshed_once s docs q h = rw (as_many q docs s.lives) (h q)
 
 once_cases : (s : State) → AreOnce s → Cases (λ out. AreOnce out.state) s

@@ -12,7 +12,8 @@ use Rattle.cs_machine.specs.DataFile.{dataset, loaded}
 use Rattle.cs_live.specs.Lives.{LiveQuery, value_of, has_live_name, most_lives}
 use Rattle.cs_machine.specs.Machine.{step, state_after, written}
 use Rattle.cs_machine.specs.Replies.{Reply, said, not_done}
-use Rattle.cs_machine.specs.State.{State, begun, listens}
+use Rattle.cs_listen.specs.Listeners.{has_name}
+use Rattle.cs_machine.specs.State.{State, begun}
 
 -- a dataset that is clean and within the limit
 abbrev pub IsHeld : List Tree → Type 0
@@ -53,7 +54,7 @@ LastAnswersAreTold =
 -- how many live queries and listeners have the name
 abbrev pub bearers : List ℕ → State → ℕ
 bearers name s =
-    length (filter (has_live_name name) s.lives) + length (filter (listens name) s.listeners)
+    length (filter (has_live_name name) s.lives) + length (filter (has_name name) s.listeners)
 
 -- in every state that a run reaches, no name is had twice
 abbrev pub RunsNameOnce : Type 0

@@ -1,7 +1,7 @@
 -- The rows of the plain machine, one for each command: the state that it leads to, and its replies.
 -- Sanity's HTTP documentation, "Mutations" and "Listening", GROQ-1.revision1 for queries, and this
 -- project's profile.
-use Rattle.std.specs.Prelude.{ℕ, List, [], ◌∷◌, ◌++◌, Bool, not, map, filter, length, cond, nat_le, Option, Some, None, Ok, Err}
+use Rattle.std.specs.Prelude.{ℕ, List, [], ◌∷◌, ◌++◌, Bool, map, length, cond, nat_le, Option, Some, None, Ok, Err}
 use Rattle.cs_value.specs.Tree.{Tree, Pairs}
 use Rattle.cs_syntax.specs.Expression.{Expression}
 use Rattle.cs_view.specs.Changes.{Edit, changes_between}
@@ -11,6 +11,7 @@ use Rattle.cs_reply.specs.Reply.{Operation, create, update, delete, committed, f
 use Rattle.cs_reply.specs.Reply as plain
 use Rattle.cs_reply.specs.Refusal.{bad_command, bad_tx, tx_used, name_used, full_subscriptions, not_listenable, no_name, bad_moment}
 use Rattle.cs_listen.specs.Events.{Listener, events}
+use Rattle.cs_listen.specs.Listeners.{without}
 use Rattle.cs_plain.specs.Plain.{listened_filter}
 use Rattle.cs_body.specs.Body.{Body, no_command, bad_id, transaction, body_of}
 use Rattle.cs_txn.specs.Commit.{commit}
@@ -21,7 +22,7 @@ use Rattle.cs_live.specs.Lives.{LiveQuery, Said, made, news, all_refreshed, with
 use Rattle.cs_wire.specs.Moments.{is_moment}
 use Rattle.cs_machine.specs.Refused.{refuse, with_query}
 use Rattle.cs_machine.specs.Replies.{said, not_done}
-use Rattle.cs_machine.specs.State.{State, answered, with_docs, with_moment, with_used, with_lives, with_listeners, is_taken, listens}
+use Rattle.cs_machine.specs.State.{State, answered, with_docs, with_moment, with_used, with_lives, with_listeners, is_taken}
 
 -- ---- mutate
 -- what became of a document, by the sides of the change on which one stands
@@ -110,7 +111,7 @@ row_listen s name text params result previous =
 -- ---- stop
 abbrev pub without_named : List ℕ → State → State
 without_named name s =
-    with_listeners (filter (λ l. not (listens name l)) s.listeners)
+    with_listeners (without name s.listeners)
     (with_lives (without_name name s.lives) s)
 
 abbrev pub row_stop : State → List ℕ → Stepped State

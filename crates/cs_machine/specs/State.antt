@@ -1,11 +1,11 @@
 -- The state of the plain machine: this project's profile. It holds no index, no record of keys and
 -- no cache.
 use Rattle.std.specs.Prelude.{ℕ, List, [], ◌∷◌, Bool, true, false, ◌||◌, cond, codes}
-use Rattle.std.specs.List.{list_any}
 use Rattle.std.specs.Str.{bytes_eq}
 use Rattle.cs_value.specs.Tree.{Tree}
 use Rattle.cs_reply.specs.Reply as plain
 use Rattle.cs_listen.specs.Events.{Listener}
+use Rattle.cs_listen.specs.Listeners.{is_listening}
 use Rattle.cs_machine.specs.Replies.{said}
 use Rattle.cs_machine.specs.Fold.{Stepped}
 use Rattle.cs_live.specs.Lives.{LiveQuery, is_named}
@@ -53,12 +53,9 @@ with_lives lives s = record s { lives = lives }
 abbrev pub with_listeners : List Listener → State → State
 with_listeners listeners s = record s { listeners = listeners }
 
-abbrev pub listens : List ℕ → Listener → Bool
-listens name l = bytes_eq name l.name
-
 -- a live query or a listener has the name
 abbrev pub is_taken : List ℕ → State → Bool
-is_taken name s = is_named name s.lives || list_any (listens name) s.listeners
+is_taken name s = is_named name s.lives || is_listening name s.listeners
 
 -- the line leads to the state, with one reply
 abbrev pub answered : State → plain.Reply → Stepped State

@@ -41,5 +41,6 @@ elements_between i j closed ts =
 -- `[i..j]`, and `[i...j]` where it is not closed: null of anything but a list, and where an end is
 -- no position, or a number without a value.
 abbrev pub sliced : Option (Option ℤ) → Option (Option ℤ) → Bool → Tree → Tree
-sliced (Some (Some i)) (Some (Some j)) closed v = of_list (λ ts. list_of (elements_between i j closed ts)) v
+sliced (Some (Some i)) (Some (Some j)) closed v =
+    of_list (λ ts. list_of (elements_between i j closed ts)) v
 sliced i j closed v = null

@@ -23,7 +23,7 @@ pub enum Bracket<'e> {
     Condition,
 }
 
-// The number so far below 0.
+// The negative of a number, which 64 bits hold for every number that the profile takes.
 fn negated(number: Option<i64>) -> Option<i64>
     ensures { (n : Option ℕ) → number ≡ option_map pos n
         → result ≡ option_map (λ n. neg_ℤ (pos n)) n }

@@ -8,7 +8,6 @@ ghost use Rattle.cs_value.specs.View.{tree};
 ghost use Rattle.cs_parts.specs.Parts.{got};
 
 use crate::answer::Got;
-use crate::item::Item;
 use cs_value::{Txt, Val};
 
 /// Whether the value is `true`.
