@@ -4,13 +4,13 @@ use Rattle.std.specs.Prelude.{IfSome}
 use Rattle.cs_value.specs.Tree.{Tree, Pairs}
 use Rattle.cs_view.specs.declared.key.Key.{Key}
 use Rattle.cs_syntax.specs.Expression.{Expression, everything, chain, text_literal, attr, bracket, Steps, no_steps, more_steps}
-use Rattle.cs_plan.specs.Steps.{field}
+use Rattle.cs_value.specs.Words.{field}
 use Rattle.cs_meaning.specs.Joining.{gives_array}
 use Rattle.cs_meaning.specs.Values.{value, rest_value, pipes_value}
 use Rattle.cs_meaning.specs.Looked.{looked, rest_looked, pipes_looked, is_everything}
 use Rattle.cs_direct.specs.Follows.{followed}
-use Rattle.cs_direct.specs.Operand.{operand}
-use Rattle.cs_direct.specs.declared.operand.Operand.{Operand}
+use Rattle.cs_operand.specs.Operands.{operand}
+use Rattle.cs_operand.specs.declared.operand.Operand.{Operand}
 
 some_is : {A : Type 0} (x y : A) → Some x ≡ Some y → x ≡ y
 some_is x y h = cc

@@ -1,4 +1,3 @@
-mod Compounds
 pub mod Deciding
 mod Follows
 mod Named

@@ -4,7 +4,7 @@ use Rattle.std.specs.Prelude.{IfSome, unwrap_or, slice_get}
 use Rattle.cs_value.specs.Tree.{Tree, null, Pairs}
 use Rattle.cs_value.specs.Pairs.{attribute}
 use Rattle.cs_syntax.specs.Expression.{Expression, word, this, parent, chain, text_literal, attr, bracket, Steps, no_steps, more_steps}
-use Rattle.cs_plan.specs.Steps.{field}
+use Rattle.cs_value.specs.Words.{field}
 use Rattle.cs_meaning.specs.Joining.{gives_array}
 use Rattle.cs_meaning.specs.Values.{value}
 use Rattle.cs_meaning.specs.Looked.{looked}

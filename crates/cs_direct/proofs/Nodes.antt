@@ -5,7 +5,7 @@ use Rattle.cs_value.specs.Tree.{Tree, Pairs, boolean}
 use Rattle.cs_value.specs.Words.{list_of}
 use Rattle.cs_value.proofs.Views.{members-trees}
 use Rattle.cs_syntax.specs.Expression.{Expression, call, array, arguments_of, elements_of}
-use Rattle.cs_syntax.specs.View.{expression, arg, elem}
+use Rattle.cs_syntax.specs.View.{expression, argument_of, element_of}
 use Rattle.cs_syntax.specs.declared.tree.Arg.{Arg}
 use Rattle.cs_syntax.specs.declared.tree.Elem.{Elem}
 use Rattle.cs_syntax.specs.declared.tree.Expr.{Expr}
@@ -18,23 +18,23 @@ use Rattle.cs_direct.specs.Paths.{arguments_in}
 
 pub call_parts : (e : Expr) (name : List ℕ) (v : Vec Arg Global) (n : List ℕ) (xs : List Arg)
     → e ≡ code.Call name v → n ≡ name → xs ≡ v.items
-    → expression e ≡ call n (arguments_of (map arg xs))
+    → expression e ≡ call n (arguments_of (map argument_of xs))
 call_parts e name v n xs is same these =
     ap expression is ∙ (expression_call name v
-    ∙ (ap (λ (m : List ℕ). call m (arguments_of (map arg v.items))) (sym same)
-    ∙ ap (λ (ys : List Arg). call n (arguments_of (map arg ys))) (sym these)))
+    ∙ (ap (λ (m : List ℕ). call m (arguments_of (map argument_of v.items))) (sym same)
+    ∙ ap (λ (ys : List Arg). call n (arguments_of (map argument_of ys))) (sym these)))
 
 -- the arguments of a call
 pub args_parts : (e : Expr) (name : List ℕ) (v : Vec Arg Global) (xs : List Arg)
     → e ≡ code.Call name v → xs ≡ v.items
-    → arguments_in (expression e) ≡ arguments_of (map arg xs)
+    → arguments_in (expression e) ≡ arguments_of (map argument_of xs)
 args_parts e name v xs is these = ap arguments_in (call_parts e name v name xs is refl these)
 
 pub array_parts : (e : Expr) (v : Vec Elem Global) (xs : List Elem)
-    → e ≡ code.Array v → xs ≡ v.items → expression e ≡ array (elements_of (map elem xs))
+    → e ≡ code.Array v → xs ≡ v.items → expression e ≡ array (elements_of (map element_of xs))
 array_parts e v xs is these =
     ap expression is ∙ (expression_array v
-    ∙ ap (λ (ys : List Elem). array (elements_of (map elem ys))) (sym these))
+    ∙ ap (λ (ys : List Elem). array (elements_of (map element_of ys))) (sym these))
 
 among_these : (a : Tree) (ts : List Tree)
     → within a (list_of ts) ≡ boolean (list_any (λ t. equal t a) ts)
@@ -45,7 +45,7 @@ pub among_array : (params : Pairs) (scope : List Tree) (a : Tree) (e : Expr) (v 
     (xs : List Elem) → e ≡ code.Array v → xs ≡ v.items
     → within a (value [] params (expression e) scope)
     ≡ boolean (list_any (λ t. equal t a)
-    (elements_values [] params (elements_of (map elem xs)) scope))
+    (elements_values [] params (elements_of (map element_of xs)) scope))
 among_array params scope a e v xs is these =
     ap (λ (x : Expression). within a (value [] params x scope)) (array_parts e v xs is these)
-    ∙ among_these a (elements_values [] params (elements_of (map elem xs)) scope)
+    ∙ among_these a (elements_values [] params (elements_of (map element_of xs)) scope)

@@ -7,8 +7,8 @@ use Rattle.cs_syntax.specs.Expression.{Expression}
 use Rattle.cs_meaning.specs.Laws.{AgreeOn, LookedSettlesValue}
 use Rattle.cs_meaning.specs.Values.{value}
 use Rattle.cs_meaning.specs.Looked.{looked}
-use Rattle.cs_direct.specs.Operand.{operand}
-use Rattle.cs_direct.specs.declared.operand.Operand.{Operand}
+use Rattle.cs_operand.specs.Operands.{operand}
+use Rattle.cs_operand.specs.declared.operand.Operand.{Operand}
 
 agree : (keys : List Key) (docs : List Tree) → keys ≡ [] → AgreeOn keys [] docs
 agree keys docs h =

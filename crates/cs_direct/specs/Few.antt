@@ -3,7 +3,7 @@ use Rattle.std.specs.Prelude.{List, [], ◌∷◌}
 use Rattle.cs_value.specs.Tree.{Tree}
 use Rattle.cs_direct.specs.declared.few.Few.{Few}
 use Rattle.cs_direct.specs.declared.few.Few.TheVariants.{Zero, One, Two}
-use Rattle.cs_direct.specs.Operand.{operand}
+use Rattle.cs_operand.specs.Operands.{operand}
 
 abbrev pub few : Few → List Tree
 few Zero = []

@@ -2,7 +2,8 @@
 use Rattle.std.specs.Prelude.{Option, Some, option_and_then}
 use Rattle.cs_value.specs.Tree.{Tree}
 use Rattle.cs_syntax.specs.Expression.{Steps, no_steps, more_steps}
-use Rattle.cs_plan.specs.Steps.{field, name_of}
+use Rattle.cs_plan.specs.Steps.{name_of}
+use Rattle.cs_value.specs.Words.{field}
 
 -- none where another step is among them
 abbrev pub followed : Steps → Tree → Option Tree

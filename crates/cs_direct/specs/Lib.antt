@@ -1,5 +1,4 @@
 pub mod Few
 pub mod Follows
 pub mod Named
-pub mod Operand
 pub mod Paths

@@ -4,24 +4,23 @@ ghost use Rattle.std.specs.List.{list_any};
 ghost use Rattle.cs_value.specs.Tree.{Tree};
 ghost use Rattle.cs_value.specs.View.{fields};
 ghost use Rattle.cs_syntax.specs.Expression.{operands_of, arguments_of, elements_of, steps_of, call as call_node, chain as chain_node};
-ghost use Rattle.cs_syntax.specs.View.{expression, operands, arg as argument_of, elem as element_of, step as step_of};
-ghost use Rattle.cs_view.specs.Scopes.{scope};
+ghost use Rattle.cs_syntax.specs.View.{expression, operands, argument_of, element_of, step_of};
+ghost use Rattle.cs_view.specs.Scopes.{scope_of};
 ghost use Rattle.cs_ops.specs.Equal.{equal};
 ghost use Rattle.cs_ops.specs.Operators.{within as within_list};
 ghost use Rattle.cs_meaning.specs.Operators.{operated, decides, operator_of, in_path, in_list_or_path, sole};
 ghost use Rattle.cs_meaning.specs.Values.{value as value_of, run_value, argument_value, arguments_values, element_values, elements_values, path_pattern};
 ghost use Rattle.cs_meaning.specs.Looked.{looked, run_looked, argument_looked, arguments_looked, element_looked, elements_looked};
 ghost use Rattle.cs_direct.specs.Few.{few};
-ghost use Rattle.cs_direct.specs.Operand.{operand};
+ghost use Rattle.cs_operand.specs.Operands.{operand};
 ghost use Rattle.cs_direct.specs.Paths.{arguments_in};
 
-use crate::compare::{equal, is_among};
 use crate::few::Few;
 use crate::follow::follow;
-use crate::functions::{applied, function_of, is_path_call, matches_path};
-use crate::operand::{Operand, attribute, number_of, or_null};
-use crate::operators::{between, decides, operated, signed};
+use crate::functions::{applied, function_of, is_path_call};
+use crate::operators::{decides, operated, signed};
 use cs_meaning::looked_settles_value;
+use cs_operand::Operand;
 use cs_parts::gives_array;
 use cs_plan::up;
 use cs_syntax::{Arg, BinSign, Elem, Expr, Step};
@@ -32,9 +31,9 @@ use cs_view::Scope;
 /// document: it is then the value over every dataset. `None` says nothing.
 pub fn direct<'s>(expr: &'s Expr, frame: &Scope<'s>, params: &'s Fields) -> Option<Operand<'s>>
     ensures value { IfSome result (λ o. (docs : List Tree) → operand o
-        ≡ value_of docs (fields params.now) (expression expr.now) (scope frame.now)) }
+        ≡ value_of docs (fields params.now) (expression expr.now) (scope_of frame.now)) }
     ensures quiet { IfSome result (λ _. (docs : List Tree) → looked docs (fields params.now)
-        (expression expr.now) (scope frame.now) ≡ []) }
+        (expression expr.now) (scope_of frame.now) ≡ []) }
 {
     looked_settles_value();
     evaluate(expr, frame, params)
@@ -45,19 +44,19 @@ pub fn direct<'s>(expr: &'s Expr, frame: &Scope<'s>, params: &'s Fields) -> Opti
 #[tactic(auto, using(crate::proofs::Sets::nodes), unfolding(cs_syntax::specs::View::expression))]
 fn evaluate<'s>(expr: &'s Expr, frame: &Scope<'s>, params: &'s Fields) -> Option<Operand<'s>>
     ensures value { IfSome result (λ o. operand o
-        ≡ value_of [] (fields params.now) (expression expr.now) (scope frame.now)) }
+        ≡ value_of [] (fields params.now) (expression expr.now) (scope_of frame.now)) }
     ensures quiet { IfSome result (λ _. looked [] (fields params.now) (expression expr.now)
-        (scope frame.now) ≡ []) }
+        (scope_of frame.now) ≡ []) }
 {
     match expr {
         Expr::Null => Some(Operand::Null),
         Expr::Bool(b) => Some(Operand::Bool(*b)),
-        Expr::Number(number) => Some(number_of(number.as_str())),
-        Expr::Text(text) => Some(Operand::Text(text.as_str())),
-        Expr::Param(name) => Some(or_null(params.get(name.as_str()))),
-        Expr::Word(name) => Some(attribute(or_null(up(frame, 0)), name.as_str())),
-        Expr::This => Some(or_null(up(frame, 0))),
-        Expr::Up(level) => Some(or_null(up(frame, *level))),
+        Expr::Number(number) => Some(Operand::written(number.as_str())),
+        Expr::Text(text) => Some(Operand::Text(text)),
+        Expr::Param(name) => Some(Operand::or_null(params.get(name.as_str()))),
+        Expr::Word(name) => Some(Operand::or_null(up(frame, 0)).field(name.as_str())),
+        Expr::This => Some(Operand::or_null(up(frame, 0))),
+        Expr::Up(level) => Some(Operand::or_null(up(frame, *level))),
         Expr::Round(inner) => evaluate(inner, frame, params),
         Expr::Call { name, args } => call(name.as_str(), args, frame, params),
         Expr::Chain { base, steps } => chain(base, steps, frame, params),
@@ -65,7 +64,7 @@ fn evaluate<'s>(expr: &'s Expr, frame: &Scope<'s>, params: &'s Fields) -> Option
         Expr::Run { first, rest } => run(rest, evaluate(first, frame, params)?, frame, params),
         Expr::Within { left, right } => {
             let here = evaluate(left, frame, params)?;
-            within(&here, right, frame, params)
+            within(here, right, frame, params)
         }
         Expr::Between {
             left,
@@ -76,7 +75,7 @@ fn evaluate<'s>(expr: &'s Expr, frame: &Scope<'s>, params: &'s Fields) -> Option
             let here = evaluate(left, frame, params)?;
             let low = evaluate(from, frame, params)?;
             let high = evaluate(to, frame, params)?;
-            Some(between(&here, &low, &high, *closed))
+            Some(Operand::said(here.is_between(low, high, *closed)))
         }
         Expr::All | Expr::Array(_) | Expr::Object(_) => None,
     }
@@ -92,9 +91,9 @@ fn run<'s>(
     params: &'s Fields,
 ) -> Option<Operand<'s>>
     ensures value { IfSome result (λ o. operand o ≡ run_value [] (fields params.now)
-        (operands_of (operands list.now)) (scope frame.now) (operand left.entry)) }
+        (operands_of (operands list.now)) (scope_of frame.now) (operand left.entry)) }
     ensures quiet { IfSome result (λ _. run_looked [] (fields params.now)
-        (operands_of (operands list.now)) (scope frame.now) (operand left.entry) ≡ []) }
+        (operands_of (operands list.now)) (scope_of frame.now) (operand left.entry) ≡ []) }
 {
     let mut here = left;
     for (sign, right) in list {
@@ -114,14 +113,14 @@ fn operate<'s>(
     params: &'s Fields,
 ) -> Option<Operand<'s>>
     ensures value { IfSome result (λ o. operand o ≡ operated sign (operand left.entry)
-        (value_of [] (fields params.now) (expression right.now) (scope frame.now))) }
+        (value_of [] (fields params.now) (expression right.now) (scope_of frame.now))) }
     ensures quiet { IfSome result (λ _. (if decides (operator_of sign) (operand left.entry) then []
-        else looked [] (fields params.now) (expression right.now) (scope frame.now)) ≡ []) }
+        else looked [] (fields params.now) (expression right.now) (scope_of frame.now)) ≡ []) }
 {
-    if decides(sign, &left) {
+    if decides(sign, left) {
         return Some(left);
     }
-    operated(sign, &left, &evaluate(right, frame, params)?)
+    operated(sign, left, evaluate(right, frame, params)?)
 }
 
 // A base and its steps, where these are names alone.
@@ -133,9 +132,10 @@ fn chain<'s>(
     params: &'s Fields,
 ) -> Option<Operand<'s>>
     ensures value { IfSome result (λ o. operand o ≡ value_of [] (fields params.now)
-        (chain_node (expression base.now) (steps_of (map step_of steps.now))) (scope frame.now)) }
+        (chain_node (expression base.now) (steps_of (map step_of steps.now)))
+        (scope_of frame.now)) }
     ensures quiet { IfSome result (λ _. looked [] (fields params.now)
-        (chain_node (expression base.now) (steps_of (map step_of steps.now))) (scope frame.now)
+        (chain_node (expression base.now) (steps_of (map step_of steps.now))) (scope_of frame.now)
         ≡ []) }
 {
     if gives_array(base) {
@@ -153,9 +153,9 @@ fn call<'s>(
     params: &'s Fields,
 ) -> Option<Operand<'s>>
     ensures value { IfSome result (λ o. operand o ≡ value_of [] (fields params.now)
-        (call_node name.now (arguments_of (map argument_of args.now))) (scope frame.now)) }
+        (call_node name.now (arguments_of (map argument_of args.now))) (scope_of frame.now)) }
     ensures quiet { IfSome result (λ _. looked [] (fields params.now)
-        (call_node name.now (arguments_of (map argument_of args.now))) (scope frame.now) ≡ []) }
+        (call_node name.now (arguments_of (map argument_of args.now))) (scope_of frame.now) ≡ []) }
 {
     let function = function_of(name)?;
     let values = arguments(args, frame, params)?;
@@ -166,9 +166,9 @@ fn call<'s>(
 #[cycle(evaluate)]
 fn arguments<'s>(args: &'s [Arg], frame: &Scope<'s>, params: &'s Fields) -> Option<Few<'s>>
     ensures value { IfSome result (λ values. few values ≡ arguments_values [] (fields params.now)
-        (arguments_of (map argument_of args.now)) (scope frame.now)) }
+        (arguments_of (map argument_of args.now)) (scope_of frame.now)) }
     ensures quiet { IfSome result (λ _. arguments_looked [] (fields params.now)
-        (arguments_of (map argument_of args.now)) (scope frame.now) ≡ []) }
+        (arguments_of (map argument_of args.now)) (scope_of frame.now) ≡ []) }
 {
     let mut values = Few::Zero;
     for arg in args {
@@ -180,12 +180,12 @@ fn arguments<'s>(args: &'s [Arg], frame: &Scope<'s>, params: &'s Fields) -> Opti
 
 // An argument that is no choice of `select`.
 #[cycle(evaluate)]
-#[tactic(auto, unfolding(cs_syntax::specs::View::arg, cs_syntax::specs::View::expression))]
+#[tactic(auto, unfolding(cs_syntax::specs::View::argument_of, cs_syntax::specs::View::expression))]
 fn argument<'s>(arg: &'s Arg, frame: &Scope<'s>, params: &'s Fields) -> Option<Operand<'s>>
     ensures value { IfSome result (λ o. operand o ≡ argument_value [] (fields params.now)
-        (argument_of arg.now) (scope frame.now)) }
+        (argument_of arg.now) (scope_of frame.now)) }
     ensures quiet { IfSome result (λ _. argument_looked [] (fields params.now)
-        (argument_of arg.now) (scope frame.now) ≡ []) }
+        (argument_of arg.now) (scope_of frame.now) ≡ []) }
 {
     match arg {
         Arg::One(expr) => evaluate(expr, frame, params),
@@ -197,16 +197,16 @@ fn argument<'s>(arg: &'s Arg, frame: &Scope<'s>, params: &'s Fields) -> Option<O
 #[cycle(evaluate)]
 #[tactic(auto, using(crate::proofs::Sets::paths))]
 fn within<'s>(
-    left: &Operand<'s>,
+    left: Operand<'s>,
     right: &'s Expr,
     frame: &Scope<'s>,
     params: &'s Fields,
 ) -> Option<Operand<'s>>
-    ensures value { IfSome result (λ o. operand o ≡ in_list_or_path (operand left.now)
-        (path_pattern [] (fields params.now) (expression right.now) (scope frame.now))
-        (value_of [] (fields params.now) (expression right.now) (scope frame.now))) }
+    ensures value { IfSome result (λ o. operand o ≡ in_list_or_path (operand left.entry)
+        (path_pattern [] (fields params.now) (expression right.now) (scope_of frame.now))
+        (value_of [] (fields params.now) (expression right.now) (scope_of frame.now))) }
     ensures quiet { IfSome result (λ _. looked [] (fields params.now) (expression right.now)
-        (scope frame.now) ≡ []) }
+        (scope_of frame.now) ≡ []) }
 {
     if is_path_call(right) {
         return matched(left, right, frame, params);
@@ -218,16 +218,16 @@ fn within<'s>(
 #[cycle(evaluate)]
 #[tactic(auto, using(crate::proofs::Sets::nodes), unfolding(cs_syntax::specs::View::expression))]
 fn matched<'s>(
-    left: &Operand<'s>,
+    left: Operand<'s>,
     right: &'s Expr,
     frame: &Scope<'s>,
     params: &'s Fields,
 ) -> Option<Operand<'s>>
-    ensures value { IfSome result (λ o. operand o ≡ in_path (operand left.now)
+    ensures value { IfSome result (λ o. operand o ≡ in_path (operand left.entry)
         (sole (arguments_values [] (fields params.now) (arguments_in (expression right.now))
-        (scope frame.now)))) }
+        (scope_of frame.now)))) }
     ensures quiet { IfSome result (λ _. arguments_looked [] (fields params.now)
-        (arguments_in (expression right.now)) (scope frame.now) ≡ []) }
+        (arguments_in (expression right.now)) (scope_of frame.now) ≡ []) }
 {
     match right {
         Expr::Call { args, .. } => pattern_matches(left, args, frame, params),
@@ -238,71 +238,74 @@ fn matched<'s>(
 // Whether the value matches the one pattern among the arguments.
 #[cycle(evaluate)]
 fn pattern_matches<'s>(
-    left: &Operand<'s>,
+    left: Operand<'s>,
     args: &'s [Arg],
     frame: &Scope<'s>,
     params: &'s Fields,
 ) -> Option<Operand<'s>>
-    ensures value { IfSome result (λ o. operand o ≡ in_path (operand left.now)
+    ensures value { IfSome result (λ o. operand o ≡ in_path (operand left.entry)
         (sole (arguments_values [] (fields params.now) (arguments_of (map argument_of args.now))
-        (scope frame.now)))) }
+        (scope_of frame.now)))) }
     ensures quiet { IfSome result (λ _. arguments_looked [] (fields params.now)
-        (arguments_of (map argument_of args.now)) (scope frame.now) ≡ []) }
+        (arguments_of (map argument_of args.now)) (scope_of frame.now) ≡ []) }
 {
     let pattern = arguments(args, frame, params)?.sole()?;
-    matches_path(left, &pattern)
+    Some(Operand::said(left.matches_path(pattern)))
 }
 
 // Whether the value is among the elements of a list, which may be written as one.
 #[cycle(evaluate)]
 #[tactic(auto, unfolding(cs_syntax::specs::View::expression))]
 fn among<'s>(
-    left: &Operand<'s>,
+    left: Operand<'s>,
     right: &'s Expr,
     frame: &Scope<'s>,
     params: &'s Fields,
 ) -> Option<Operand<'s>>
-    ensures value { IfSome result (λ o. operand o ≡ within_list (operand left.now)
-        (value_of [] (fields params.now) (expression right.now) (scope frame.now))) }
+    ensures value { IfSome result (λ o. operand o ≡ within_list (operand left.entry)
+        (value_of [] (fields params.now) (expression right.now) (scope_of frame.now))) }
     ensures quiet { IfSome result (λ _. looked [] (fields params.now) (expression right.now)
-        (scope frame.now) ≡ []) }
+        (scope_of frame.now) ≡ []) }
 {
     match right {
         Expr::Array(list) => Some(Operand::Bool(among_elements(left, list, frame, params)?)),
-        _ => Some(is_among(left, &evaluate(right, frame, params)?)),
+        _ => {
+            let list = evaluate(right, frame, params)?;
+            Some(Operand::said(left.is_among(list)))
+        }
     }
 }
 
 // Whether an element of an array literal is equal to the value. Each is evaluated.
 #[cycle(evaluate)]
 fn among_elements<'s>(
-    left: &Operand<'s>,
+    left: Operand<'s>,
     list: &'s [Elem],
     frame: &Scope<'s>,
     params: &'s Fields,
 ) -> Option<bool>
-    ensures value { IfSome result (λ b. b ≡ list_any (λ t. equal t (operand left.now))
+    ensures value { IfSome result (λ b. b ≡ list_any (λ t. equal t (operand left.entry))
         (elements_values [] (fields params.now) (elements_of (map element_of list.now))
-        (scope frame.now))) }
+        (scope_of frame.now))) }
     ensures quiet { IfSome result (λ _. elements_looked [] (fields params.now)
-        (elements_of (map element_of list.now)) (scope frame.now) ≡ []) }
+        (elements_of (map element_of list.now)) (scope_of frame.now) ≡ []) }
 {
     let mut found = false;
     for elem in list {
         let one = element(elem, frame, params)?;
-        found = found || equal(&one, left);
+        found = found || one.is_equal(left);
     }
     Some(found)
 }
 
 // An element that is no spread.
 #[cycle(evaluate)]
-#[tactic(auto, unfolding(cs_syntax::specs::View::elem, cs_syntax::specs::View::expression))]
+#[tactic(auto, unfolding(cs_syntax::specs::View::element_of, cs_syntax::specs::View::expression))]
 fn element<'s>(elem: &'s Elem, frame: &Scope<'s>, params: &'s Fields) -> Option<Operand<'s>>
     ensures value { IfSome result (λ o. element_values [] (fields params.now) (element_of elem.now)
-        (scope frame.now) ≡ operand o ∷ []) }
+        (scope_of frame.now) ≡ operand o ∷ []) }
     ensures quiet { IfSome result (λ _. element_looked [] (fields params.now) (element_of elem.now)
-        (scope frame.now) ≡ []) }
+        (scope_of frame.now) ≡ []) }
 {
     match elem {
         Elem::One(expr) => evaluate(expr, frame, params),

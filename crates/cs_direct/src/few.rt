@@ -2,9 +2,9 @@
 ghost use Rattle.std.specs.Prelude.{◌≡◌, ◌∷◌, ◌++◌, [], IfSome};
 ghost use Rattle.cs_meaning.specs.Operators.{sole};
 ghost use Rattle.cs_direct.specs.Few.{few};
-ghost use Rattle.cs_direct.specs.Operand.{operand};
+ghost use Rattle.cs_operand.specs.Operands.{operand};
 
-use crate::operand::Operand;
+use cs_operand::Operand;
 
 /// At most two values.
 #[derive(Clone, Copy)]

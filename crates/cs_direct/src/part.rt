@@ -3,14 +3,13 @@ ghost use Rattle.std.specs.Prelude.{◌≡◌, [], List, IfSome, map, option_map
 ghost use Rattle.cs_value.specs.Tree.{Tree, Pairs};
 ghost use Rattle.cs_value.specs.View.{tree};
 ghost use Rattle.cs_syntax.specs.Expression.{steps_of};
-ghost use Rattle.cs_syntax.specs.View.{expression, step as step_of};
-ghost use Rattle.cs_view.specs.Scopes.{scope};
+ghost use Rattle.cs_syntax.specs.View.{expression, step_of};
+ghost use Rattle.cs_view.specs.Scopes.{scope_of};
 ghost use Rattle.cs_meaning.specs.Values.{value as value_of};
 ghost use Rattle.cs_meaning.specs.Looked.{looked};
 ghost use Rattle.cs_direct.specs.Named.{behind, named};
 
-use crate::follow::name_of;
-use cs_plan::up;
+use cs_plan::{name_of, up};
 use cs_syntax::{Expr, Step};
 use cs_value::Val;
 use cs_view::Scope;
@@ -19,9 +18,9 @@ use cs_view::Scope;
 /// behind one of these. It is then the value over every dataset. `None` says nothing.
 pub fn direct_part<'s>(expr: &Expr, frame: &Scope<'s>) -> Option<&'s Val>
     ensures value { IfSome result (λ v. (docs : List Tree) (params : Pairs) → tree v.now
-        ≡ value_of docs params (expression expr.now) (scope frame.now)) }
+        ≡ value_of docs params (expression expr.now) (scope_of frame.now)) }
     ensures quiet { IfSome result (λ _. (docs : List Tree) (params : Pairs) → looked docs params
-        (expression expr.now) (scope frame.now) ≡ []) }
+        (expression expr.now) (scope_of frame.now) ≡ []) }
 {
     named(expr, frame)
 }
@@ -29,7 +28,8 @@ pub fn direct_part<'s>(expr: &Expr, frame: &Scope<'s>) -> Option<&'s Val>
 // The same by the definition of names.
 #[tactic(auto, using(crate::proofs::Sets::nodes), unfolding(cs_syntax::specs::View::expression))]
 fn named<'s>(expr: &Expr, frame: &Scope<'s>) -> Option<&'s Val>
-    ensures { option_map (λ v. tree v.now) result ≡ named (expression expr.now) (scope frame.now) }
+    ensures { option_map (λ v. tree v.now) result
+        ≡ named (expression expr.now) (scope_of frame.now) }
 {
     match expr {
         Expr::This => up(frame, 0),

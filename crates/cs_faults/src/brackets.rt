@@ -1,4 +1,4 @@
-// What is computed of constants alone.
+//! What is computed of constants alone.
 ghost use Rattle.std.specs.Prelude.{◌≡◌};
 ghost use Rattle.cs_syntax.specs.Expression.{operands_of};
 ghost use Rattle.cs_syntax.specs.Brackets.{are_signs, is_arithmetic, is_constant, are_constant};

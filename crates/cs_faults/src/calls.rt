@@ -1,15 +1,16 @@
-// The faults that one token of an expression may have, but for numbers.
+//! The faults that one token of an expression may have, but for numbers.
 ghost use Rattle.std.specs.Prelude.{◌≡◌, map, Some};
 ghost use Rattle.cs_syntax.specs.Expression.{arguments_of, keys_of};
-ghost use Rattle.cs_syntax.specs.Faults.{first_of, operator_faults, arity_faults, call_faults, right_call_faults, order_faults, pipe_faults, bracket_faults, slice_faults, key_faults};
+ghost use Rattle.cs_syntax.specs.Faults.{operator_faults, arity_faults, call_faults, right_call_faults, order_faults, pipe_faults, bracket_faults, slice_faults, key_faults};
+ghost use Rattle.cs_value.specs.Words.{first_of};
 ghost use Rattle.cs_syntax.specs.Brackets.{key_of};
-ghost use Rattle.cs_syntax.specs.View.{arg as argument_of, expression, key as order_key_of};
+ghost use Rattle.cs_syntax.specs.View.{argument_of, expression, order_key_of};
 ghost use Rattle.cs_faults.specs.Found.{found, told, arity_told, no_function};
 
 use crate::brackets::is_constant;
 use crate::fault::Fault;
 use crate::functions::{Arity, accepts, arity_of, is_left_out};
-use cs_syntax::{Arg, BinSign, Expr, OrderKey};
+use cs_syntax::{Arg, BinSign, Expr, OrderKey, is_path};
 
 pub(crate) fn check_operator<'e>(sign: BinSign) -> Result<(), Fault<'e>>
     ensures { found result ≡ first_of (operator_faults sign) }
@@ -37,7 +38,7 @@ fn check_arity<'e>(name: &'e str, args: &[Arg], arity: Arity) -> Result<(), Faul
 fn no_function<'e>(name: &'e str) -> Fault<'e>
     ensures { told result ≡ no_function name.now }
 {
-    if is_left_out(name) || name == "path" {
+    if is_left_out(name) || is_path(name) {
         Fault::Unsupported { name }
     } else {
         Fault::UnknownFunction { name }
@@ -61,7 +62,7 @@ pub(crate) fn check_right_call<'e>(name: &'e str, args: &[Arg]) -> Result<(), Fa
     ensures { found result ≡ first_of
         (right_call_faults name.now (arguments_of (map argument_of args.now))) }
 {
-    if name == "path" {
+    if is_path(name) {
         return check_arity(name, args, Arity::Exactly(1));
     }
     check_call(name, args)

@@ -1,4 +1,4 @@
-// What an expression may be refused for.
+//! What an expression may be refused for.
 
 /// A fault of an expression: this project's profile. Names are those that the text has, borrowed.
 #[derive(Clone, Copy, Debug, Drop, PartialEq, Eq)]

@@ -1,11 +1,11 @@
-// The functions of the query language by their names, and the arguments that each takes.
+//! The functions of the query language by their names, and the arguments that each takes.
 ghost use Rattle.std.specs.Prelude.{◌≡◌, map, option_map};
 ghost use Rattle.std.specs.List.{list_any, starts_with};
 ghost use Rattle.std.specs.Prelude.{nat_eq};
 ghost use Rattle.std.specs.Str.{bytes_eq};
 ghost use Rattle.cs_syntax.specs.Expression.{arguments_of};
 ghost use Rattle.cs_syntax.specs.Functions.{arity_of, accepts, all_plain, pairs_come_first, is_left_out};
-ghost use Rattle.cs_syntax.specs.View.{arg as argument_of};
+ghost use Rattle.cs_syntax.specs.View.{argument_of};
 ghost use Rattle.cs_faults.specs.Found.{arity_told};
 
 use cs_syntax::{Arg, without_global};
@@ -94,7 +94,7 @@ pub(crate) fn arity_of(name: &str) -> Option<Arity>
     }
 }
 
-#[tactic(auto, unfolding(cs_syntax::specs::View::arg))]
+#[tactic(auto, unfolding(cs_syntax::specs::View::argument_of))]
 fn all_plain(args: &[Arg]) -> bool
     ensures { result ≡ all_plain (arguments_of (map argument_of args.now)) }
 {
@@ -106,7 +106,7 @@ fn all_plain(args: &[Arg]) -> bool
     true
 }
 
-#[tactic(auto, unfolding(cs_syntax::specs::View::arg))]
+#[tactic(auto, unfolding(cs_syntax::specs::View::argument_of))]
 fn pairs_come_first(args: &[Arg]) -> bool
     ensures { result ≡ pairs_come_first (arguments_of (map argument_of args.now)) }
 {

@@ -1,5 +1,5 @@
-// What the table of the functions says as a whole. The functions do nothing: each is there for its
-// clause.
+//! What the table of the functions says as a whole. The functions do nothing: each is there for its
+//! clause.
 ghost use Rattle.std.specs.Prelude.{◌≡◌, ◌≤◌, ◌||◌, ℕ, List, [], ◌∷◌, Contains, IfSome, None, Some, false};
 ghost use Rattle.cs_syntax.specs.Faults.{Fault, is_path, number_faults};
 ghost use Rattle.cs_syntax.specs.Functions.{Arity, functions, arity_of, is_left_out, without_global};

@@ -1,6 +1,7 @@
-// Numbers that the profile leaves out.
+//! Numbers that the profile leaves out.
 ghost use Rattle.std.specs.Prelude.{◌≡◌};
-ghost use Rattle.cs_syntax.specs.Faults.{number_faults, first_of};
+ghost use Rattle.cs_syntax.specs.Faults.{number_faults};
+ghost use Rattle.cs_value.specs.Words.{first_of};
 ghost use Rattle.cs_faults.specs.Found.{found};
 
 use crate::fault::Fault;

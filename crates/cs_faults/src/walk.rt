@@ -1,10 +1,12 @@
-// The first fault down a tree, in the order of the text. A check answers `Err` with the first fault
-// of its part. The cost grows with the tree alone: a part is looked at once by `check_behind`, and
-// at most once by each of `check_first`, the bracket around it and the entry whose key it has.
+//! The first fault down a tree, in the order of the text. A check answers `Err` with the first
+//! fault of its part. The cost grows with the tree alone: a part is looked at once by
+//! `check_behind`, and at most once by each of `check_first`, the bracket around it and the entry
+//! whose key it has.
 ghost use Rattle.std.specs.Prelude.{◌≡◌, ◌++◌, map, option_map};
 ghost use Rattle.cs_syntax.specs.Expression.{arguments_of, elements_of, entries_of, keys_of, operands_of, steps_of};
-ghost use Rattle.cs_syntax.specs.Faults.{fault, faults, first_of, operator_faults, at_first, at_right, behind_first, in_operands, in_step, in_steps, in_entry, in_entries, in_element, in_elements, in_argument, in_arguments, in_keys};
-ghost use Rattle.cs_syntax.specs.View.{arg as argument_of, elem as element_of, entry as entry_of, expression, key as order_key_of, operands, step as step_of};
+ghost use Rattle.cs_syntax.specs.Faults.{fault, faults, operator_faults, at_first, at_right, behind_first, in_operands, in_step, in_steps, in_entry, in_entries, in_element, in_elements, in_argument, in_arguments, in_keys};
+ghost use Rattle.cs_value.specs.Words.{first_of};
+ghost use Rattle.cs_syntax.specs.View.{argument_of, element_of, entry_of, expression, order_key_of, operands, step_of};
 ghost use Rattle.cs_faults.specs.Found.{found, told};
 
 use crate::calls::{
@@ -115,7 +117,7 @@ fn check_steps<'e>(steps: &'e [Step]) -> Result<(), Fault<'e>>
 }
 
 #[cycle(faults)]
-#[tactic(auto, unfolding(cs_syntax::specs::View::step, cs_syntax::specs::View::expression))]
+#[tactic(auto, unfolding(cs_syntax::specs::View::step_of, cs_syntax::specs::View::expression))]
 fn check_step<'e>(step: &'e Step) -> Result<(), Fault<'e>>
     ensures { found result ≡ first_of (in_step (step_of step.now)) }
 {
@@ -190,7 +192,7 @@ fn check_elements<'e>(elements: &'e [Elem]) -> Result<(), Fault<'e>>
 }
 
 #[cycle(faults)]
-#[tactic(auto, unfolding(cs_syntax::specs::View::elem, cs_syntax::specs::View::expression))]
+#[tactic(auto, unfolding(cs_syntax::specs::View::element_of, cs_syntax::specs::View::expression))]
 fn check_element<'e>(element: &'e Elem) -> Result<(), Fault<'e>>
     ensures { found result ≡ first_of (in_element (element_of element.now)) }
 {

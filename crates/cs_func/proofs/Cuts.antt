@@ -1,5 +1,5 @@
 -- A text cut at the places that a search finds.
-use Rattle.std.proofs.Common.{◌≡◌, ◌≢◌, ℕ, zero, suc, ◌-◌, ◌<◌, ◌≤◌, List, [], ◌∷◌, ◌++◌, length, take, drop, Bool, true, false, nat_eq, refl, sym, ap, ◌∙◌, subst, arith}
+use Rattle.std.proofs.Common.{◌≡◌, ◌≢◌, ℕ, zero, suc, ◌-◌, ◌<◌, ◌≤◌, List, [], ◌∷◌, ◌++◌, length, take, drop, true, false, nat_eq, refl, sym, ap, ◌∙◌, subst, arith}
 use Rattle.std.specs.List.{starts_with, onto_first}
 use Rattle.std.specs.Str.Pattern.{LacksTextAt, HasTextAt}
 use Rattle.std.proofs.lemmas.Slice.Eq.{bytes_eq-Decides}

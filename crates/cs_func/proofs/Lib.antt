@@ -1,4 +1,4 @@
-pub mod Characters
+pub mod CodePoints
 pub mod Cuts
 pub mod Joined
 pub mod NumberLists

@@ -17,6 +17,7 @@ pub use function::Function;
 pub use name::named;
 pub use path::path_matches;
 pub use reference::{refers, refers_to_some};
+pub use texts::{begins_with, characters};
 
 #[cfg(test)]
 mod tests;

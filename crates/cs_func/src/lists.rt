@@ -1,7 +1,8 @@
-// The functions of lists.
+//! The functions of lists.
 ghost use Rattle.std.specs.Prelude.{◌≡◌, [], not, filter, IfOk};
 ghost use Rattle.cs_value.specs.View.{tree, list_tree};
-ghost use Rattle.cs_func.specs.Lists.{count, defined, compact, unique, distinct, is_null};
+ghost use Rattle.cs_func.specs.Lists.{count, defined, compact, unique, distinct};
+ghost use Rattle.cs_value.specs.Words.{is_null};
 
 use crate::seen::Seen;
 use cs_value::{NoMemory, Val};

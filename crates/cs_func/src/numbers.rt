@@ -1,4 +1,4 @@
-// The functions of a list of numbers and nulls.
+//! The functions of a list of numbers and nulls.
 ghost use Rattle.std.specs.Prelude.{◌≡◌, pos, ◌+ℤ◌, if◌then◌else◌, fold};
 ghost use Rattle.std.specs.Int.{int_min, int_max};
 ghost use Rattle.cs_value.specs.View.{tree, list_tree};

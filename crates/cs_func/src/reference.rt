@@ -33,9 +33,9 @@ fn refers_to_one(val: &Val, targets: &[&Txt]) -> bool
 {
     match val {
         Val::List(items) => some_refers(items, targets),
-        Val::Obj(object) => match object.get("_ref") {
-            Some(Val::Text(text)) => is_among(text, targets),
-            _ => some_pair_refers(object, targets),
+        Val::Obj(object) => match object.reference() {
+            Some(text) => is_among(text, targets),
+            None => some_pair_refers(object, targets),
         },
         _ => false,
     }

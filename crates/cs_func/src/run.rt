@@ -1,4 +1,4 @@
-// What a run of a pattern's parts over a text's segments comes to.
+//! What a run of a pattern's parts over a text's segments comes to.
 #[derive(Clone, Copy)]
 pub(crate) enum Run<'a> {
     // All parts and all segments fit.

@@ -1,5 +1,5 @@
-// The scalars of a list that were seen so far, by which an element is known to be equal to an
-// earlier one without a comparison with each.
+//! The scalars of a list that were seen so far, by which an element is known to be equal to an
+//! earlier one without a comparison with each.
 ghost use Rattle.std.specs.Prelude.{◌≡◌, ◌||◌, not, false, IsTrue, IfOk};
 ghost use Rattle.cs_value.specs.Tree.{Tree};
 ghost use Rattle.cs_value.specs.View.{tree};

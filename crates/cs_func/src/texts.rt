@@ -1,4 +1,4 @@
-// The functions of texts.
+//! The functions of texts.
 ghost use Rattle.std.specs.Prelude.{◌≡◌, ◌<◌, ◌^◌, ◌++◌, ℕ, List, length, nat_eq, Some, None, IfOk, MatchBool, map, encode_utf8, option_map, string_bytes};
 ghost use Rattle.std.specs.List.{starts_with};
 ghost use Rattle.std.specs.Str.{chars};
@@ -20,8 +20,8 @@ pub(crate) fn size(x: &Val) -> Val
     }
 }
 
-// How many code points a text has.
-fn characters(text: &str) -> usize
+/// How many characters, code points of Unicode, a text has.
+pub fn characters(text: &str) -> usize
     ensures count { result ≡ length (chars text.now) }
     ensures small { result < 2 ^ 63 }
 {
@@ -53,12 +53,16 @@ pub(crate) fn begins(x: &Val, prefix: &Val) -> Val
     ensures { tree result ≡ begins (tree x.now) (tree prefix.now) }
 {
     match (x, prefix) {
-        (Val::Text(text), Val::Text(prefix)) => Val::Bool(starts(text.as_str(), prefix.as_str())),
+        (Val::Text(text), Val::Text(prefix)) => Val::Bool(begins_with(
+            text.as_str(),
+            prefix.as_str(),
+        )),
         _ => Val::Null,
     }
 }
 
-fn starts(text: &str, prefix: &str) -> bool
+/// Whether a text begins with another one.
+pub fn begins_with(text: &str, prefix: &str) -> bool
     ensures { result ≡ starts_with nat_eq text.now prefix.now }
 {
     text.starts_with(prefix)

@@ -7,13 +7,13 @@ use Rattle.cs_value.specs.Tree.{Tree, null, integer, text, list, object, trees, 
 use Rattle.cs_value.specs.Pairs.{put}
 
 -- whether a number is one of 64 bits: from -2^63 to 2^63-1
-abbrev pub is_whole : ℤ → Bool
-is_whole (pos n) = nat_lt n (2 ^ 63)
-is_whole (negsuc n) = nat_lt n (2 ^ 63)
+abbrev pub is_of_64_bits : ℤ → Bool
+is_of_64_bits (pos n) = nat_lt n (2 ^ 63)
+is_of_64_bits (negsuc n) = nat_lt n (2 ^ 63)
 
 -- the number as a value, null out of 64 bits
 abbrev pub number : ℤ → Tree
-number n = if is_whole n then integer n else null
+number n = if is_of_64_bits n then integer n else null
 
 -- a function of two numbers, null of anything else
 abbrev pub of_numbers : (ℤ → ℤ → Tree) → Tree → Tree → Tree

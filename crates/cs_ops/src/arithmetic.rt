@@ -1,4 +1,4 @@
-// The numbers of `+`, `-`, `*`, `%` and the prefixes, and the joins of `+`.
+//! The numbers of `+`, `-`, `*`, `%` and the prefixes, and the joins of `+`.
 ghost use Rattle.std.specs.Prelude.{◌≡◌, ◌++◌, ℤ, FitsSigned, SomeIff, IsTrue, IfOk, IfErr, OnOk};
 ghost use Rattle.std.specs.Int.{w64};
 ghost use Rattle.cs_value.specs.Tree.{Pairs, text, list, trees, object};

@@ -1,5 +1,5 @@
-// What the tables of the operators have in common. The functions do nothing: each is there for its
-// clauses, which hold for all values.
+//! What the tables of the operators have in common. The functions do nothing: each is there for its
+//! clauses, which hold for all values.
 ghost use Rattle.std.specs.Prelude.{◌≡◌, ◌<◌, ◌↔◌, ℕ, List, IsTrue, IsSome, IsUtf8, Some};
 ghost use Rattle.std.specs.Cmp.{IsTotalOrder};
 ghost use Rattle.std.specs.declared.cmp.Ordering.{Ordering};

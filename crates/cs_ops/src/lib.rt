@@ -6,6 +6,7 @@ mod compare;
 mod laws;
 mod op;
 mod operators;
+mod truth;
 
 pub use compare::{equal, partial, total};
 pub use laws::{
@@ -14,6 +15,7 @@ pub use laws::{
 };
 pub use op::{Op, Pre};
 pub use operators::{between, binary, binary_onto, prefix, within};
+pub use truth::{both, either, opposite};
 
 #[cfg(test)]
 mod tests;

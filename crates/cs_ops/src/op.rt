@@ -1,3 +1,5 @@
+//! The operators.
+
 /// An operator between two values.
 #[derive(Clone, Copy, Debug, Drop, PartialEq, Eq)]
 pub enum Op {

@@ -5,11 +5,12 @@ ghost use Rattle.cs_value.specs.View.{tree, list_tree};
 ghost use Rattle.cs_ops.specs.Equal.{equal};
 ghost use Rattle.cs_ops.specs.Arithmetic.{joins};
 ghost use Rattle.cs_ops.specs.Operators.{binary, prefix, within, between};
-ghost use Rattle.cs_ops.specs.Truth.{truth, said, both, either};
+ghost use Rattle.cs_ops.specs.Truth.{truth, said};
 
 use crate::arithmetic::{number, remainder, sum, sum_onto};
 use crate::compare::{equal, partial};
 use crate::op::{Op, Pre};
+use crate::truth::{both, either};
 use cs_value::{NoMemory, Val};
 use std::alloc::Global;
 
@@ -29,26 +30,6 @@ fn said(truth: Option<bool>) -> Val
     match truth {
         Some(b) => Val::Bool(b),
         None => Val::Null,
-    }
-}
-
-fn both(a: Option<bool>, b: Option<bool>) -> Option<bool>
-    ensures { result ≡ both a b }
-{
-    match (a, b) {
-        (Some(false), _) | (_, Some(false)) => Some(false),
-        (Some(true), Some(true)) => Some(true),
-        _ => None,
-    }
-}
-
-fn either(a: Option<bool>, b: Option<bool>) -> Option<bool>
-    ensures { result ≡ either a b }
-{
-    match (a, b) {
-        (Some(true), _) | (_, Some(true)) => Some(true),
-        (Some(false), Some(false)) => Some(false),
-        _ => None,
     }
 }
 

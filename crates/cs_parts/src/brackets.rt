@@ -1,14 +1,13 @@
 //! What stands in the bracket of a step.
 ghost use Rattle.std.specs.Prelude.{◌≡◌, ℕ, pos, neg_ℤ, Option, IfSome, IfNone, false, map, drop, option_map};
 ghost use Rattle.cs_syntax.specs.Expression.{steps_of, bracket as bracket_step, more_steps};
-ghost use Rattle.cs_syntax.specs.View.{expression, step as step_of};
+ghost use Rattle.cs_syntax.specs.View.{expression, step_of};
 ghost use Rattle.cs_plan.specs.Steps.{bracketed, condition, position_of, number_of};
 ghost use Rattle.cs_plan.specs.Simple.{is_filter};
 ghost use Rattle.cs_meaning.specs.Looked.{starts_with_filter};
 ghost use Rattle.cs_parts.specs.Kinds.{kinds_of};
 ghost use Rattle.cs_parts.specs.Brackets.{stands_for};
 
-use cs_plan::text_of;
 use cs_syntax::{Expr, PreSign, Step, written_number};
 
 /// What a bracket asks for: an element, an attribute, or what a condition leaves.
@@ -63,7 +62,7 @@ pub fn bracket_of(expr: &Expr) -> Bracket<'_>
 {
     match position_of(expr) {
         Some(place) => Bracket::Position(place),
-        None => match text_of(expr) {
+        None => match expr.text() {
             Some(text) => Bracket::Named(text),
             None => Bracket::Condition,
         },
@@ -87,7 +86,7 @@ pub fn head_filter(steps: &[Step]) -> Option<(&Expr, &[Step])>
 }
 
 // The condition of a step that is a filter.
-#[tactic(auto, unfolding(cs_syntax::specs::View::step, cs_syntax::specs::View::expression))]
+#[tactic(auto, unfolding(cs_syntax::specs::View::step_of, cs_syntax::specs::View::expression))]
 fn filter_of(step: &Step) -> Option<&Expr>
     ensures some { IfSome result (λ e. step_of step.now ≡ bracket_step (expression e.now)) }
     ensures condition { IfSome result (λ e. bracketed (expression e.now) ≡

@@ -5,7 +5,7 @@ ghost use Rattle.cs_value.specs.Tree.{integer};
 ghost use Rattle.cs_value.specs.View.{tree};
 ghost use Rattle.cs_func.specs.Functions.{has_two, value as value_of};
 ghost use Rattle.cs_syntax.specs.Expression.{arguments_of};
-ghost use Rattle.cs_syntax.specs.View.{arg as argument_of, expression};
+ghost use Rattle.cs_syntax.specs.View.{argument_of, expression};
 ghost use Rattle.cs_parts.specs.Callees.{meant, path_arguments};
 ghost use Rattle.cs_meaning.specs.Operators.{applied, callee, sole};
 ghost use Rattle.cs_parts.specs.Parts.{got};
@@ -13,7 +13,7 @@ ghost use Rattle.cs_parts.specs.Parts.{got};
 use crate::answer::Got;
 use crate::gathering::settle;
 use cs_func::{Function, call, named};
-use cs_syntax::{Arg, Expr, without_global};
+use cs_syntax::{Arg, Expr, is_path, without_global};
 use cs_value::{NoMemory, Val};
 use std::alloc::Global;
 
@@ -53,13 +53,7 @@ pub fn path_arguments(expr: &Expr) -> Option<&[Arg]>
         ≡ path_arguments (expression expr.now) }
 {
     match expr {
-        Expr::Call { name, args } => {
-            if name.as_str() == "path" {
-                Some(args.as_slice())
-            } else {
-                None
-            }
-        }
+        Expr::Call { name, args } if is_path(name.as_str()) => Some(args.as_slice()),
         _ => None,
     }
 }

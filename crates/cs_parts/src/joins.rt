@@ -1,6 +1,6 @@
 //! How the steps of a chain are joined.
 ghost use Rattle.std.specs.Prelude.{◌≡◌, IfOk, map, drop};
-ghost use Rattle.cs_syntax.specs.View.{expression, step as step_of};
+ghost use Rattle.cs_syntax.specs.View.{expression, step_of};
 ghost use Rattle.cs_meaning.specs.Joining.{form, kind_before, kind, way, entrance, gives_array};
 ghost use Rattle.cs_parts.specs.Kinds.{kinds_of, first_kind};
 
@@ -12,7 +12,7 @@ use smallvec::SmallVec;
 use std::alloc::Global;
 
 /// What a step is to joining.
-#[tactic(auto, using(crate::proofs::Sets::form), unfolding(cs_syntax::specs::View::step))]
+#[tactic(auto, using(crate::proofs::Sets::form), unfolding(cs_syntax::specs::View::step_of))]
 pub fn form_of(step: &Step) -> Form
     ensures { result ≡ form (step_of step.now) }
 {

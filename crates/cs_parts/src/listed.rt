@@ -1,7 +1,7 @@
 //! Which keys of an order are descending.
 ghost use Rattle.std.specs.Prelude.{◌≡◌, IfOk, map};
 ghost use Rattle.cs_syntax.specs.Expression.{keys_of};
-ghost use Rattle.cs_syntax.specs.View.{key as order_key_of};
+ghost use Rattle.cs_syntax.specs.View.{order_key_of};
 ghost use Rattle.cs_meaning.specs.Ordered.{directions};
 
 use crate::push;

@@ -1,7 +1,7 @@
 //! Values that no expression is evaluated for, and operators by their signs.
 ghost use Rattle.std.specs.Prelude.{◌≡◌, IfOk};
 ghost use Rattle.cs_value.specs.View.{tree, fields};
-ghost use Rattle.cs_view.specs.Scopes.{scope};
+ghost use Rattle.cs_view.specs.Scopes.{scope_of};
 ghost use Rattle.cs_plan.specs.Steps.{in_scope};
 ghost use Rattle.cs_meaning.specs.Operators.{parameter, operator_of, operated, decides, front_operator, signed, is_true};
 ghost use Rattle.cs_parts.specs.Parts.{got, item};
@@ -17,7 +17,7 @@ use std::alloc::Global;
 /// The value so many levels out, null where the scope is too short.
 #[tactic(auto, using(crate::proofs::Trees::tree_of_null))]
 pub fn at_level<'s>(frame: &Scope<'s>, level: u32) -> Got<'s>
-    ensures { got result ≡ in_scope level (scope frame.now) }
+    ensures { got result ≡ in_scope level (scope_of frame.now) }
 {
     match up(frame, level) {
         Some(val) => Got::Part(val),

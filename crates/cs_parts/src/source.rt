@@ -2,8 +2,8 @@
 ghost use Rattle.std.specs.Prelude.{◌≡◌, [], List, IfOk, map, option_map, length, ◌≤◌, ◌+◌};
 ghost use Rattle.cs_value.specs.Tree.{Tree};
 ghost use Rattle.cs_value.specs.View.{tree};
-ghost use Rattle.cs_view.specs.Dataset.{At};
-ghost use Rattle.cs_view.specs.Keys.{Sel, selected};
+ghost use Rattle.cs_view.specs.Dataset.{standing};
+ghost use Rattle.cs_view.specs.Keys.{having, selected};
 
 use crate::item::push;
 use cs_value::{NoMemory, Steps, Txt, Val};
@@ -24,7 +24,7 @@ pub trait Source<C> {
         count: &mut C,
     ) -> Result<Vec<&'s Val>, NoMemory>
         ensures found { IfOk result
-            (λ v. map (λ r. tree r.now) v.items ≡ Sel key.now (docs self.now)) };
+            (λ v. map (λ r. tree r.now) v.items ≡ having key.now (docs self.now)) };
 
     /// The documents that have each of the keys, in the order of their ids.
     fn select_all<'s>(
@@ -38,7 +38,7 @@ pub trait Source<C> {
 
     /// The document with the id: `None` exactly where there is none.
     fn by_id<'s>(&'s self, id: &Txt, count: &mut C) -> Option<&'s Val>
-        ensures found { option_map (λ r. tree r.now) result ≡ At id.now (docs self.now) };
+        ensures found { option_map (λ r. tree r.now) result ≡ standing id.now (docs self.now) };
 }
 
 /// A dataset without documents, which counts nothing.
@@ -82,8 +82,8 @@ impl<V: View<L>, L: Ledger> Source<Steps<L>> for V {
         count: &mut Steps<L>,
     ) -> Result<Vec<&'s Val>, NoMemory>
         ensures found { IfOk result
-            (λ v. map (λ r. tree r.now) v.items ≡ Sel key.now (V.docs self.now)) }
-        ensures visits { count.new ≤ count.old + length (Sel key.now (V.docs self.now)) }
+            (λ v. map (λ r. tree r.now) v.items ≡ having key.now (V.docs self.now)) }
+        ensures visits { count.new ≤ count.old + length (having key.now (V.docs self.now)) }
     {
         let found = Source::<Steps<L>>::select_all(self, alloc, slice::from_ref(key), count)?;
         Ok(found)

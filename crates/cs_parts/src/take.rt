@@ -1,9 +1,7 @@
 //! Readings of an answer, and the steps that take a part of it.
 ghost use Rattle.std.specs.Prelude.{◌≡◌, option_map};
 ghost use Rattle.cs_meaning.specs.Operators.{is_true, is_false, reference_of as reference_in_tree};
-ghost use Rattle.cs_func.specs.Lists.{is_null};
-ghost use Rattle.cs_plan.specs.Steps.{field as field_of};
-ghost use Rattle.cs_value.specs.Words.{is_object, list_of, of_list};
+ghost use Rattle.cs_value.specs.Words.{is_object, list_of, of_list, is_null, field};
 ghost use Rattle.cs_value.specs.View.{tree};
 ghost use Rattle.cs_parts.specs.Parts.{got};
 
@@ -55,7 +53,7 @@ pub fn is_object(val: &Val) -> bool
 /// The attribute of the name, null where there is none: borrowed where the value is.
 #[tactic(auto, using(crate::proofs::Trees::field_of_object, crate::proofs::Trees::tree_of_null))]
 pub fn field<'s>(whole: Got<'s>, name: &str) -> Got<'s>
-    ensures { got result ≡ field_of name.now (got whole.entry) }
+    ensures { got result ≡ field name.now (got whole.entry) }
 {
     match whole {
         Got::Part(val) => match val.field(name) {
@@ -94,8 +92,8 @@ pub fn reference_of(val: &Val) -> Option<&Txt>
     let Val::Obj(object) = val else {
         return None;
     };
-    match object.get("_ref") {
-        Some(Val::Text(text)) if object.get("_dataset").is_none() => Some(text),
+    match object.reference() {
+        Some(text) if object.get("_dataset").is_none() => Some(text),
         _ => None,
     }
 }

@@ -12,7 +12,7 @@ use Rattle.cs_syntax.specs.declared.tree.PreSign.{PreSign}
 use Rattle.cs_syntax.specs.declared.tree.PreSign.TheVariants as front
 use Rattle.cs_syntax.specs.declared.tree.BinSign.{BinSign}
 use Rattle.cs_syntax.specs.declared.tree.BinSign.TheVariants as sign
-use Rattle.cs_ops.specs.Arithmetic.{is_whole}
+use Rattle.cs_ops.specs.Arithmetic.{is_of_64_bits}
 use Rattle.cs_ops.specs.Equal.{equal}
 use Rattle.cs_ops.specs.Order.{partial}
 use Rattle.cs_ops.specs.Operators as operators
@@ -23,19 +23,21 @@ use Rattle.cs_func.specs.Texts.{size, begins}
 use Rattle.cs_func.specs.Refers.{refers}
 use Rattle.cs_func.specs.declared.function.Function.TheVariants.{Count, Length, Defined, StartsWith}
 use Rattle.cs_plan.specs.Constants.{literal}
-use Rattle.cs_plan.specs.Steps.{field, names_of}
+use Rattle.cs_plan.specs.Steps.{names_of}
+use Rattle.cs_value.specs.Words.{field}
 use Rattle.cs_meaning.specs.Operators.{Callee, referring, applying, callee, called, operated, signed, in_path, in_list_or_path, sole, targets}
 use Rattle.cs_meaning.specs.Values.{value, run_value, path_pattern, arguments_values, coalesced, selected, elements_values, rest_value, pipes_value}
 use Rattle.cs_meaning.proofs.Silent.{both-true}
-use Rattle.cs_plain.specs.Plain.{is_word, is_negative, is_measure, is_operand, is_one, are_operands, are_some, are_two, is_test, are_elements, are_some_elements, is_container, is_compared, is_comparison, is_junction, all_not, is_plain, are_joined}
-use Rattle.cs_plain.specs.Truths.{number_behind, negated, tree_at, chain_value, measured, operand_value, one_value, first_value, rest_of, some_referred, some_equal, contained, tested, comparison, compared, junction, is_joining, flipped, condition_truth, joined_truth}
-use Rattle.cs_plain.proofs.Parts.{tree_at_more}
+use Rattle.cs_plain.specs.Plain.{is_word, is_negative, is_measure, is_operand, is_one, are_operands, are_some, are_two, is_test, are_elements, are_some_elements, is_container, is_compared, is_comparison, is_junction, all_not, is_plain, are_junctions}
+use Rattle.cs_plain.specs.Truths.{negated, chain_value, measured, operand_value, one_value, first_value, rest_of, some_referred, some_equal, contained, tested, comparison, compared, junction, is_joining, flipped, condition_truth, run_truth}
+use Rattle.cs_plan.specs.Parts.{negative_of, tree_at}
+use Rattle.cs_plan.proofs.PathNames.{tree_at_more}
 use Rattle.cs_plain.proofs.Quiet.{either-way, some-inside}
 
 pub impossible : {P : Type 0} → false ≡ true → P
 impossible h = absurd (cc)
 
-negative-value : (signs : List PreSign) (e : Expression) (v : Tree) → is_negative signs e ≡ true → ((n : List ℕ) → e ≡ number_literal n → v ≡ literal n) → negated (number_behind signs e) ≡ signed signs v
+negative-value : (signs : List PreSign) (e : Expression) (v : Tree) → is_negative signs e ≡ true → ((n : List ℕ) → e ≡ number_literal n → v ≡ literal n) → negated (negative_of signs e) ≡ signed signs v
 negative-value (front.Minus ∷ []) (number_literal n) v h g = ap (operators.prefix Minus) (sym (g n refl))
 negative-value (front.Minus ∷ []) _ v h g = absurd (cc)
 negative-value _ e v h g = absurd (cc)
@@ -127,7 +129,7 @@ flipped-agrees (_ ∷ ps) v h = absurd (cc)
 minus-none : (v : Tree) → truth (operators.prefix Minus v) ≡ None
 minus-none null = refl
 minus-none (boolean b) = refl
-minus-none (integer n) = number-none (is_whole (neg_ℤ n)) (neg_ℤ n)
+minus-none (integer n) = number-none (is_of_64_bits (neg_ℤ n)) (neg_ℤ n)
 minus-none (text s) = refl
 minus-none (list ts) = refl
 minus-none (object ps) = refl
@@ -136,7 +138,7 @@ negative-agrees : (signs : List PreSign) (e : Expression) (x : Option Bool) (v :
 negative-agrees (front.Minus ∷ []) e x v h = sym (minus-none v)
 negative-agrees _ e x v h = absurd (cc)
 
-joining : (rest : Operands) → are_joined rest ≡ true → is_joining rest ≡ true
+joining : (rest : Operands) → are_junctions rest ≡ true → is_joining rest ≡ true
 joining no_operands h = refl
 joining (more_operands sign.And e rest) h = refl
 joining (more_operands sign.Or e rest) h = refl
@@ -261,12 +263,12 @@ module _ (docs : List Tree) (params : Pairs) (d : Tree) (out : List Tree) where
     pub plain-agrees : (e : Expression) → is_plain e ≡ true → condition_truth params d e ≡ truth (value docs params e (d ∷ out))
     plain-agrees (round e) h = plain-agrees e h
     plain-agrees (run e rest) h =
-        either-way (is_plain e && are_joined rest) (is_operand e && is_compared rest) h
-        (λ g. let p = both-true (is_plain e) (are_joined rest) g in
-        cond-true (is_joining rest) (joined_truth params d rest (condition_truth params d e)) (compared params d rest (operand_value params d e)) (joining rest p.1)
-        ∙ (ap (λ (x : Option Bool). joined_truth params d rest x) (plain-agrees e p.0) ∙ joined-agrees rest p.1 (value docs params e (d ∷ out))))
+        either-way (is_plain e && are_junctions rest) (is_operand e && is_compared rest) h
+        (λ g. let p = both-true (is_plain e) (are_junctions rest) g in
+        cond-true (is_joining rest) (run_truth params d rest (condition_truth params d e)) (compared params d rest (operand_value params d e)) (joining rest p.1)
+        ∙ (ap (λ (x : Option Bool). run_truth params d rest x) (plain-agrees e p.0) ∙ run-agrees rest p.1 (value docs params e (d ∷ out))))
         (λ g. let p = both-true (is_operand e) (is_compared rest) g in
-        cond-false (is_joining rest) (joined_truth params d rest (condition_truth params d e)) (compared params d rest (operand_value params d e)) (comparing rest p.1)
+        cond-false (is_joining rest) (run_truth params d rest (condition_truth params d e)) (compared params d rest (operand_value params d e)) (comparing rest p.1)
         ∙ (ap (λ (v : Tree). compared params d rest v) (operand-agrees docs params d out e p.0) ∙ compared-agrees rest p.1 (value docs params e (d ∷ out))))
     plain-agrees (prefix signs e) h =
         either-way (all_not signs && is_plain e) (is_negative signs e) h
@@ -283,10 +285,10 @@ module _ (docs : List Tree) (params : Pairs) (d : Tree) (out : List Tree) where
     plain-agrees (call name args) h = test-agrees (callee name) (coalesced docs params args (d ∷ out)) (selected docs params args (d ∷ out)) args h
     plain-agrees e h = ap truth (operand-agrees docs params d out e h)
 
-    pub joined-agrees : (rest : Operands) → are_joined rest ≡ true → (v : Tree) → joined_truth params d rest (truth v) ≡ truth (run_value docs params rest (d ∷ out) v)
-    joined-agrees no_operands h v = refl
-    joined-agrees (more_operands s e rest) h v =
-        let p = both-true (is_junction s) (is_plain e && are_joined rest) h in
-        let r = both-true (is_plain e) (are_joined rest) p.1 in
-        ap (λ (x : Option Bool). joined_truth params d rest x) (ap (λ (x : Option Bool). junction s (truth v) x) (plain-agrees e r.0) ∙ junction-agrees s v (value docs params e (d ∷ out)) p.0)
-        ∙ joined-agrees rest r.1 (operated s v (value docs params e (d ∷ out)))
+    pub run-agrees : (rest : Operands) → are_junctions rest ≡ true → (v : Tree) → run_truth params d rest (truth v) ≡ truth (run_value docs params rest (d ∷ out) v)
+    run-agrees no_operands h v = refl
+    run-agrees (more_operands s e rest) h v =
+        let p = both-true (is_junction s) (is_plain e && are_junctions rest) h in
+        let r = both-true (is_plain e) (are_junctions rest) p.1 in
+        ap (λ (x : Option Bool). run_truth params d rest x) (ap (λ (x : Option Bool). junction s (truth v) x) (plain-agrees e r.0) ∙ junction-agrees s v (value docs params e (d ∷ out)) p.0)
+        ∙ run-agrees rest r.1 (operated s v (value docs params e (d ∷ out)))

@@ -1,25 +1,10 @@
--- What operators make of a list of these elements.
-use Rattle.std.proofs.Common.{◌≡◌, List, length, ap, Some}
-use Rattle.std.specs.Prelude.{pos, filter_map}
-use Rattle.std.specs.List.{list_any}
-use Rattle.cs_value.specs.Tree.{Tree, integer, list, trees}
+-- The texts in a list of these elements.
+use Rattle.std.proofs.Common.{◌≡◌, List, ap}
+use Rattle.std.specs.Prelude.{filter_map}
+use Rattle.cs_value.specs.Tree.{Tree, list, trees}
 use Rattle.cs_value.specs.Words.{as_text}
 use Rattle.cs_value.proofs.Views.{members-trees}
-use Rattle.cs_ops.specs.Equal.{equal}
-use Rattle.cs_ops.specs.Operators.{within}
-use Rattle.cs_ops.specs.Truth.{truth}
-use Rattle.cs_func.specs.Lists.{count}
-use Rattle.cs_func.specs.Texts.{size}
 use Rattle.cs_meaning.specs.Operators.{targets}
-
-pub within_items : (v : Tree) (ts : List Tree) → truth (within v (list (trees ts))) ≡ Some (list_any (λ t. equal t v) ts)
-within_items v ts = ap (λ (xs : List Tree). Some (list_any (λ t. equal t v) xs)) (members-trees ts)
-
-pub count_items : (ts : List Tree) → count (list (trees ts)) ≡ integer (pos (length ts))
-count_items ts = ap (λ (xs : List Tree). integer (pos (length xs))) (members-trees ts)
-
-pub size_items : (ts : List Tree) → size (list (trees ts)) ≡ integer (pos (length ts))
-size_items ts = ap (λ (xs : List Tree). integer (pos (length xs))) (members-trees ts)
 
 pub targets_items : (ts : List Tree) → targets (list (trees ts)) ≡ filter_map as_text ts
 targets_items ts = ap (λ (xs : List Tree). filter_map as_text xs) (members-trees ts)

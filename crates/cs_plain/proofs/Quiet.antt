@@ -11,7 +11,7 @@ use Rattle.cs_plan.specs.Steps.{names_of}
 use Rattle.cs_func.specs.declared.function.Function.TheVariants.{Count, Length, Defined, StartsWith}
 use Rattle.cs_meaning.specs.Operators.{Callee, referring, applying, callee}
 use Rattle.cs_meaning.proofs.Silent.{both-true}
-use Rattle.cs_plain.specs.Plain.{is_word, is_negative, is_measure, is_operand, is_one, are_operands, are_some, are_two, is_test, are_elements, are_some_elements, is_container, is_compared, is_comparison, is_junction, all_not, is_plain, are_joined, filter_alone, listened_filter}
+use Rattle.cs_plain.specs.Plain.{is_word, is_negative, is_measure, is_operand, is_one, are_operands, are_some, are_two, is_test, are_elements, are_some_elements, is_container, is_compared, is_comparison, is_junction, all_not, is_plain, are_junctions, filter_alone, listened_filter}
 
 pub either-way : {P : Type 0} (a b : Bool) → (a || b) ≡ true → (a ≡ true → P) → (b ≡ true → P) → P
 either-way true b h f g = f refl
@@ -117,9 +117,9 @@ mutual
   pub quiet-plain : (e : Expression) → is_plain e ≡ true → is_quiet e ≡ true
   quiet-plain (round e) h = quiet-plain e h
   quiet-plain (run e rest) h =
-      either-way (is_plain e && are_joined rest) (is_operand e && is_compared rest) h
-      (λ g. let p = both-true (is_plain e) (are_joined rest) g in and_from (is_quiet e)
-      (quiet_operands rest) (quiet-plain e p.0) (quiet-joined rest p.1))
+      either-way (is_plain e && are_junctions rest) (is_operand e && is_compared rest) h
+      (λ g. let p = both-true (is_plain e) (are_junctions rest) g in and_from (is_quiet e)
+      (quiet_operands rest) (quiet-plain e p.0) (quiet-junctions rest p.1))
       (λ g. let p = both-true (is_operand e) (is_compared rest) g in and_from (is_quiet e)
       (quiet_operands rest) (quiet-operand e p.0) (quiet-compared rest p.1))
   quiet-plain (prefix signs e) h =
@@ -137,12 +137,12 @@ mutual
   quiet-plain (call name xs) h = quiet-test (callee name) xs h
   quiet-plain e h = quiet-operand e h
 
-  quiet-joined : (rest : Operands) → are_joined rest ≡ true → quiet_operands rest ≡ true
-  quiet-joined no_operands h = refl
-  quiet-joined (more_operands s e rest) h =
-      let p = both-true (is_junction s) (is_plain e && are_joined rest) h in
-      let r = both-true (is_plain e) (are_joined rest) p.1 in
-      and_from (is_quiet e) (quiet_operands rest) (quiet-plain e r.0) (quiet-joined rest r.1)
+  quiet-junctions : (rest : Operands) → are_junctions rest ≡ true → quiet_operands rest ≡ true
+  quiet-junctions no_operands h = refl
+  quiet-junctions (more_operands s e rest) h =
+      let p = both-true (is_junction s) (is_plain e && are_junctions rest) h in
+      let r = both-true (is_plain e) (are_junctions rest) p.1 in
+      and_from (is_quiet e) (quiet_operands rest) (quiet-plain e r.0) (quiet-junctions rest r.1)
 
 kept : (b : Bool) (e filter : Expression) → cond b (Some e) None ≡ Some filter → (b ≡ true) × (e
     ≡ filter)

@@ -1,29 +1,17 @@
 -- The forms of lists of arguments, elements, names and signs, one by one.
-use Rattle.std.proofs.Common.{◌≡◌, ℕ, ◌<◌, ◌≢◌, List, [], ◌∷◌, map, length, sym, ap, refl, arith, Option, Some, None, option_map, option_and_then, false, ◌&&◌, ◌∙◌}
+use Rattle.std.proofs.Common.{◌≡◌, ◌<◌, ◌≢◌, List, [], ◌∷◌, map, length, sym, ap, refl, arith, false, ◌&&◌, ◌∙◌}
 use Rattle.std.specs.Prelude.{is_some}
-use Rattle.cs_syntax.specs.Expression.{Expression, number_literal, Step, Steps, more_steps, Argument, Arguments, argument, when_argument, no_arguments, more_arguments, Element, Elements, element, spread_element, more_elements, arguments_of}
-use Rattle.cs_syntax.specs.View.{arg}
+use Rattle.cs_syntax.specs.Expression.{Expression, number_literal, Argument, Arguments, argument, when_argument, no_arguments, more_arguments, Element, Elements, element, spread_element, more_elements, arguments_of}
+use Rattle.cs_syntax.specs.View.{argument_of}
 use Rattle.cs_syntax.specs.declared.tree.Arg.{Arg}
 use Rattle.cs_syntax.specs.declared.tree.PreSign.{PreSign}
 use Rattle.cs_syntax.specs.declared.tree.PreSign.TheVariants as front
-use Rattle.cs_plan.specs.Steps.{name_of, names_of}
 use Rattle.cs_plain.specs.Forms.{argument_is_operand, element_is_operand}
 use Rattle.cs_plain.specs.Plain.{is_negative, is_one, are_operands, are_two, are_elements}
-use Rattle.cs_plain.specs.Truths.{number_behind}
-
-more : (name : Option (List ℕ)) (names : Option (List (List ℕ)))
-    → is_some (option_and_then (λ n. option_map (λ ns. n ∷ ns) names) name)
-    ≡ (is_some name && is_some names)
-more None names = refl
-more (Some n) None = refl
-more (Some n) (Some ns) = refl
-
-pub names_more : (s : Step) (ss : Steps)
-    → is_some (names_of (more_steps s ss)) ≡ (is_some (name_of s) && is_some (names_of ss))
-names_more s ss = more (name_of s) (names_of ss)
+use Rattle.cs_plan.specs.Parts.{negative_of}
 
 pub negative_number : (signs : List PreSign) (e : Expression)
-    → is_negative signs e ≡ is_some (number_behind signs e)
+    → is_negative signs e ≡ is_some (negative_of signs e)
 negative_number (front.Minus ∷ []) (number_literal n) = refl
 negative_number (front.Minus ∷ []) _ = refl
 negative_number _ e = refl
@@ -47,26 +35,26 @@ none_of (argument e) b xs = refl
 none_of (when_argument c e) b xs = refl
 
 pub operand_alone : (xs : List Arg) (x : Arg) (ys : List Arg) → xs ≡ x ∷ ys → length ys ≡ 0
-    → argument_is_operand (arg x) ≡ is_one (arguments_of (map arg xs))
+    → argument_is_operand (argument_of x) ≡ is_one (arguments_of (map argument_of xs))
 operand_alone xs x [] h g =
-    one_of (arg x) ∙ ap (λ (zs : List Arg). is_one (arguments_of (map arg zs))) (sym h)
+    one_of (argument_of x) ∙ ap (λ (zs : List Arg). is_one (arguments_of (map argument_of zs))) (sym h)
 operand_alone xs x (y ∷ ys) h g = absurd (omega (arith, g))
 
 pub no_operand_alone : (xs : List Arg) (x : Arg) (ys : List Arg) → xs ≡ x ∷ ys → 0 < length ys
-    → false ≡ is_one (arguments_of (map arg xs))
+    → false ≡ is_one (arguments_of (map argument_of xs))
 no_operand_alone xs x [] h g = absurd (omega (arith, g))
 no_operand_alone xs x (y ∷ ys) h g =
-    none_of (arg x) (arg y) (arguments_of (map arg ys))
-    ∙ ap (λ (zs : List Arg). is_one (arguments_of (map arg zs))) (sym h)
+    none_of (argument_of x) (argument_of y) (arguments_of (map argument_of ys))
+    ∙ ap (λ (zs : List Arg). is_one (arguments_of (map argument_of zs))) (sym h)
 
 pub two : (xs : List Arg) → length xs ≡ 2
-    → are_operands (arguments_of (map arg xs)) ≡ are_two (arguments_of (map arg xs))
+    → are_operands (arguments_of (map argument_of xs)) ≡ are_two (arguments_of (map argument_of xs))
 two [] h = absurd (omega (arith, h))
 two (x ∷ []) h = absurd (omega (arith, h))
 two (x ∷ y ∷ []) h = refl
 two (x ∷ y ∷ z ∷ zs) h = absurd (omega (arith, h))
 
-pub not_two : (xs : List Arg) → length xs ≢ 2 → false ≡ are_two (arguments_of (map arg xs))
+pub not_two : (xs : List Arg) → length xs ≢ 2 → false ≡ are_two (arguments_of (map argument_of xs))
 not_two [] h = refl
 not_two (x ∷ []) h = refl
 not_two (x ∷ y ∷ []) h = absurd (h refl)

@@ -4,7 +4,7 @@ use Rattle.std.specs.Prelude.{is_some, unwrap_or}
 use Rattle.cs_value.specs.Tree.{Tree, null, Pairs}
 use Rattle.cs_syntax.specs.Expression.{Expression, null_literal, everything, chain, Step, bracket, Steps, no_steps, more_steps}
 use Rattle.cs_syntax.specs.Expression.{steps_of}
-use Rattle.cs_syntax.specs.View.{expression, step}
+use Rattle.cs_syntax.specs.View.{expression, step_of}
 use Rattle.cs_syntax.specs.declared.tree.Expr.{Expr}
 use Rattle.cs_syntax.specs.declared.tree.Expr as code
 use Rattle.cs_syntax.specs.declared.tree.Step.{Step as CodeStep}
@@ -58,7 +58,7 @@ filter_in_bracket e = some-cond (is_condition (bracketed e) && is_plain e) e
 
 pub listened_chain : (e : Expr) (base : Box Expr Global) (v : Vec CodeStep Global) (b : Expr)
     (ss : List CodeStep) → e ≡ code.Chain base v → b ≡ base.value → b ≡ code.All → ss ≡ v.items
-    → is_some (filter_alone (steps_of (map step ss))) ≡ is_some (listened_filter (expression e))
+    → is_some (filter_alone (steps_of (map step_of ss))) ≡ is_some (listened_filter (expression e))
 listened_chain e base v b ss is there all same =
     sym (ap (λ x. is_some (listened_filter x)) (chain_parts e base v b ss is there same
-    ∙ ap (λ x. chain x (steps_of (map step ss))) (ap expression all ∙ expression_all)))
+    ∙ ap (λ x. chain x (steps_of (map step_of ss))) (ap expression all ∙ expression_all)))

@@ -2,7 +2,6 @@ pub mod Forms
 pub mod Holds
 pub mod Keyed
 pub mod Laws
-pub mod Operands
 pub mod Plain
 pub mod Predicates
 pub mod Truths

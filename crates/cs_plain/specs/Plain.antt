@@ -126,7 +126,7 @@ abbrev mutual
   -- and what `&&`, `||`, `!` and round brackets make of conditions.
   pub is_plain : Expression → Bool
   is_plain (round e) = is_plain e
-  is_plain (run e rest) = (is_plain e && are_joined rest) || (is_operand e && is_compared rest)
+  is_plain (run e rest) = (is_plain e && are_junctions rest) || (is_operand e && is_compared rest)
   is_plain (prefix signs e) = (all_not signs && is_plain e) || is_negative signs e
   is_plain (within e right) = is_operand e && is_container right
   is_plain (between e from to closed) = is_operand e && (is_operand from && is_operand to)
@@ -134,9 +134,9 @@ abbrev mutual
   is_plain e = is_operand e
 
   -- Each sign is `&&` or `||`, and what stands behind it a condition.
-  pub are_joined : Operands → Bool
-  are_joined no_operands = true
-  are_joined (more_operands s e rest) = is_junction s && (is_plain e && are_joined rest)
+  pub are_junctions : Operands → Bool
+  are_junctions no_operands = true
+  are_junctions (more_operands s e rest) = is_junction s && (is_plain e && are_junctions rest)
 
 -- The expression of a step that is a filter with a condition as above.
 abbrev pub filter_in : Step → Option Expression

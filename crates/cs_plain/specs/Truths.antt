@@ -4,7 +4,6 @@
 -- That this is the value and the truth of GROQ wherever the form is one of these is shown in
 -- proofs/Agree.
 use Rattle.std.specs.Prelude.{ℕ, Bool, true, false, not, ◌||◌, List, [], ◌∷◌, Option, Some, None, option_map, unwrap_or, cond}
-use Rattle.std.specs.Option.{option_map_or}
 use Rattle.std.specs.Ordering.{is_lt, is_le, is_gt, is_ge}
 use Rattle.std.specs.List.{list_any}
 use Rattle.cs_value.specs.Tree.{Tree, null, boolean, text, Pairs}
@@ -23,22 +22,15 @@ use Rattle.cs_func.specs.Lists.{count, defined}
 use Rattle.cs_func.specs.Texts.{size, begins}
 use Rattle.cs_func.specs.Refers.{refers}
 use Rattle.cs_func.specs.declared.function.Function.TheVariants.{Count, Length, Defined, StartsWith}
-use Rattle.cs_plan.specs.Constants.{literal, at_names}
-use Rattle.cs_plan.specs.Steps.{field, names_of}
+use Rattle.cs_plan.specs.Constants.{literal}
+use Rattle.cs_value.specs.Words.{field}
 use Rattle.cs_meaning.specs.Operators.{Callee, referring, applying, callee, parameter, in_path, targets}
+use Rattle.cs_plan.specs.Parts.{negative_of, tree_at}
 
--- the number alone behind one `-`
-abbrev pub number_behind : List PreSign → Expression → Option (List ℕ)
-number_behind (front.Minus ∷ []) (number_literal n) = Some n
-number_behind signs e = None
-
+-- the value of a number behind one `-`
 abbrev pub negated : Option (List ℕ) → Tree
 negated None = null
 negated (Some n) = operators.prefix Minus (literal n)
-
--- the value at the names of these steps, null where another step is among them
-abbrev pub tree_at : Steps → Tree → Tree
-tree_at ss v = option_map_or (λ names. at_names names v) (names_of ss) null
 
 abbrev pub chain_value : Expression → Steps → Tree → Tree
 chain_value (word w) ss d = tree_at ss (field w d)
@@ -59,7 +51,7 @@ abbrev mutual
   operand_value params d (word w) = field w d
   operand_value params d this = d
   operand_value params d (chain base ss) = chain_value base ss d
-  operand_value params d (prefix signs e) = negated (number_behind signs e)
+  operand_value params d (prefix signs e) = negated (negative_of signs e)
   operand_value params d (call name args) = measured (callee name) (one_value params d args)
   operand_value params d _ = null
 
@@ -150,7 +142,7 @@ abbrev mutual
   pub condition_truth : Pairs → Tree → Expression → Option Bool
   condition_truth params d (round e) = condition_truth params d e
   condition_truth params d (run e rest) =
-      cond (is_joining rest) (joined_truth params d rest (condition_truth params d e))
+      cond (is_joining rest) (run_truth params d rest (condition_truth params d e))
       (compared params d rest (operand_value params d e))
   condition_truth params d (prefix signs e) = flipped signs (condition_truth params d e)
   condition_truth params d (within e right) = contained params d right (operand_value params d e)
@@ -161,10 +153,10 @@ abbrev mutual
   condition_truth params d e = truth (operand_value params d e)
 
   -- the truth of a run, after this truth of what stands before it
-  pub joined_truth : Pairs → Tree → Operands → Option Bool → Option Bool
-  joined_truth params d no_operands x = x
-  joined_truth params d (more_operands s e rest) x =
-      joined_truth params d rest (junction s x (condition_truth params d e))
+  pub run_truth : Pairs → Tree → Operands → Option Bool → Option Bool
+  run_truth params d no_operands x = x
+  run_truth params d (more_operands s e rest) x =
+      run_truth params d rest (junction s x (condition_truth params d e))
 
 -- the truth of the condition of a first step in brackets, and of the query that it stands in
 abbrev pub step_truth : Pairs → Tree → Step → Bool

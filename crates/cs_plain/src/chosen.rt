@@ -1,7 +1,7 @@
 //! The keys of a plain predicate.
 ghost use Rattle.std.specs.Prelude.{◌≡◌, IfOk, map, option_map};
 ghost use Rattle.cs_syntax.specs.Expression.{steps_of};
-ghost use Rattle.cs_syntax.specs.View.{expression, step as step_of};
+ghost use Rattle.cs_syntax.specs.View.{expression, step_of};
 ghost use Rattle.cs_value.specs.Tree.{null as null_tree};
 ghost use Rattle.cs_value.specs.View.{tree, fields};
 ghost use Rattle.cs_plain.specs.Keyed.{predicate_keys, step_condition, first_condition, query_condition};
@@ -14,7 +14,7 @@ use cs_value::{Fields, NoMemory, Val};
 use cs_view::{Key, Scope};
 use std::alloc::Global;
 
-#[tactic(auto, unfolding(cs_syntax::specs::View::step, cs_syntax::specs::View::expression))]
+#[tactic(auto, unfolding(cs_syntax::specs::View::step_of, cs_syntax::specs::View::expression))]
 fn step_condition(step: &Step) -> Option<&Expr>
     ensures { option_map (λ e. expression e.now) result ≡ step_condition (step_of step.now) }
 {

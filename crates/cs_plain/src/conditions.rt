@@ -1,42 +1,20 @@
 //! The truth of conditions over one document.
 ghost use Rattle.std.specs.Prelude.{◌≡◌, map};
 ghost use Rattle.cs_syntax.specs.Expression.{arguments_of, elements_of, operands_of};
-ghost use Rattle.cs_syntax.specs.View.{expression, arg as argument_of, elem as element_of, operands};
-ghost use Rattle.cs_syntax.specs.Faults.{is_path};
-ghost use Rattle.cs_ops.specs.Truth.{both, either, opposite};
+ghost use Rattle.cs_syntax.specs.View.{expression, argument_of, element_of, operands};
 ghost use Rattle.cs_value.specs.View.{tree, fields};
 ghost use Rattle.cs_parts.specs.Callees.{meant};
-ghost use Rattle.cs_plain.specs.Operands.{tree_of};
-ghost use Rattle.cs_plain.specs.Truths.{first_value, rest_of, some_referred, some_equal, contained, tested, comparison, compared, junction, decides, is_joining, flipped, condition_truth, joined_truth};
+ghost use Rattle.cs_operand.specs.Operands.{operand};
+ghost use Rattle.cs_plain.specs.Truths.{first_value, rest_of, some_referred, some_equal, contained, tested, comparison, compared, junction, decides, is_joining, flipped, condition_truth, run_truth};
 
-use crate::operand::{
-    Operand, begins, between, defined, equal, matches_path, partial, refers_to, truth, within,
-};
+use crate::references::refers_to;
 use crate::values::{argument, one, operand};
 use cs_func::Function;
+use cs_operand::Operand;
+use cs_ops::{both, either, opposite};
 use cs_parts::{Callee, callee_of};
-use cs_syntax::{Arg, BinSign, Elem, Expr, PreSign};
+use cs_syntax::{Arg, BinSign, Elem, Expr, PreSign, is_path};
 use cs_value::{Fields, Val};
-
-fn both(a: Option<bool>, b: Option<bool>) -> Option<bool>
-    ensures { result ≡ both a b }
-{
-    match (a, b) {
-        (Some(false), _) | (_, Some(false)) => Some(false),
-        (Some(true), Some(true)) => Some(true),
-        _ => None,
-    }
-}
-
-fn either(a: Option<bool>, b: Option<bool>) -> Option<bool>
-    ensures { result ≡ either a b }
-{
-    match (a, b) {
-        (Some(true), _) | (_, Some(true)) => Some(true),
-        (Some(false), Some(false)) => Some(false),
-        _ => None,
-    }
-}
 
 fn junction(sign: BinSign, a: Option<bool>, b: Option<bool>) -> Option<bool>
     ensures { result ≡ junction sign a b }
@@ -60,27 +38,15 @@ fn decides(sign: BinSign, left: Option<bool>) -> bool
 }
 
 fn comparison(sign: BinSign, a: Operand<'_>, b: Operand<'_>) -> Option<bool>
-    ensures { result ≡ comparison sign (tree_of a.entry) (tree_of b.entry) }
+    ensures { result ≡ comparison sign (operand a.entry) (operand b.entry) }
 {
     match sign {
-        BinSign::Eq => Some(equal(a, b)),
-        BinSign::Ne => Some(!equal(a, b)),
-        BinSign::Lt => match partial(a, b) {
-            Some(order) => Some(order.is_lt()),
-            None => None,
-        },
-        BinSign::Le => match partial(a, b) {
-            Some(order) => Some(order.is_le()),
-            None => None,
-        },
-        BinSign::Gt => match partial(a, b) {
-            Some(order) => Some(order.is_gt()),
-            None => None,
-        },
-        BinSign::Ge => match partial(a, b) {
-            Some(order) => Some(order.is_ge()),
-            None => None,
-        },
+        BinSign::Eq => Some(a.is_equal(b)),
+        BinSign::Ne => Some(!a.is_equal(b)),
+        BinSign::Lt => Some(a.compared(b)?.is_lt()),
+        BinSign::Le => Some(a.compared(b)?.is_le()),
+        BinSign::Gt => Some(a.compared(b)?.is_gt()),
+        BinSign::Ge => Some(a.compared(b)?.is_ge()),
         _ => None,
     }
 }
@@ -88,7 +54,7 @@ fn comparison(sign: BinSign, a: Operand<'_>, b: Operand<'_>) -> Option<bool>
 #[tactic(auto, unfolding(cs_syntax::specs::View::operands))]
 fn compared(rest: &[(BinSign, Expr)], params: &Fields, doc: &Val, a: Operand<'_>) -> Option<bool>
     ensures { result ≡ compared (fields params.now) (tree doc.now)
-        (operands_of (operands rest.now)) (tree_of a.entry) }
+        (operands_of (operands rest.now)) (operand a.entry) }
 {
     let (first, others) = rest.split_first()?;
     if let Some(_) = others.split_first() {
@@ -110,15 +76,6 @@ fn is_joining(rest: &[(BinSign, Expr)]) -> bool
     }
 }
 
-fn opposite(a: Option<bool>) -> Option<bool>
-    ensures { result ≡ opposite a }
-{
-    match a {
-        Some(b) => Some(!b),
-        None => None,
-    }
-}
-
 fn flipped(signs: &[PreSign], a: Option<bool>) -> Option<bool>
     ensures { result ≡ flipped signs.now a }
 {
@@ -135,7 +92,7 @@ fn flipped(signs: &[PreSign], a: Option<bool>) -> Option<bool>
 }
 
 fn first<'v>(args: &'v [Arg], params: &'v Fields, doc: &'v Val) -> Operand<'v>
-    ensures { tree_of result ≡ first_value (fields params.now) (tree doc.now)
+    ensures { operand result ≡ first_value (fields params.now) (tree doc.now)
         (arguments_of (map argument_of args.now)) }
 {
     match args.split_first() {
@@ -169,15 +126,15 @@ fn some_referred(args: &[Arg], params: &Fields, doc: &Val) -> bool
     false
 }
 
-#[tactic(auto, unfolding(cs_syntax::specs::View::elem, cs_syntax::specs::View::expression))]
+#[tactic(auto, unfolding(cs_syntax::specs::View::element_of, cs_syntax::specs::View::expression))]
 fn some_equal(elements: &[Elem], params: &Fields, doc: &Val, a: Operand<'_>) -> bool
     ensures { result ≡ some_equal (fields params.now) (tree doc.now)
-        (elements_of (map element_of elements.now)) (tree_of a.entry) }
+        (elements_of (map element_of elements.now)) (operand a.entry) }
 {
     let mut left = elements;
     while let Some((element, later)) = left.split_first() {
         if let Elem::One(expr) = element {
-            if equal(operand(expr, params, doc), a) {
+            if operand(expr, params, doc).is_equal(a) {
                 return true;
             }
         }
@@ -186,29 +143,22 @@ fn some_equal(elements: &[Elem], params: &Fields, doc: &Val, a: Operand<'_>) -> 
     false
 }
 
-/// Whether a call is one of `path`.
-pub(crate) fn is_path(name: &str) -> bool
-    ensures { result ≡ is_path name.now }
-{
-    name == "path"
-}
-
 // Whether the value is in what stands on the right of `in`.
 #[tactic(auto, using(crate::proofs::Sets::array), unfolding(cs_syntax::specs::View::expression))]
 fn contained(right: &Expr, params: &Fields, doc: &Val, a: Operand<'_>) -> Option<bool>
     ensures { result ≡ contained (fields params.now) (tree doc.now) (expression right.now)
-        (tree_of a.entry) }
+        (operand a.entry) }
 {
     match right {
         Expr::Array(elements) => Some(some_equal(elements, params, doc, a)),
         Expr::Call { name, args } => {
             if is_path(name.as_str()) {
-                matches_path(a, one(args, params, doc))
+                a.matches_path(one(args, params, doc))
             } else {
-                within(a, operand(right, params, doc))
+                a.is_among(operand(right, params, doc))
             }
         }
-        _ => within(a, operand(right, params, doc)),
+        _ => a.is_among(operand(right, params, doc)),
     }
 }
 
@@ -218,9 +168,9 @@ fn tested(callee: Callee, args: &[Arg], params: &Fields, doc: &Val) -> Option<bo
         (arguments_of (map argument_of args.now)) }
 {
     match callee {
-        Callee::Values(Some(Function::Defined)) => defined(one(args, params, doc)),
+        Callee::Values(Some(Function::Defined)) => Some(one(args, params, doc).is_defined()),
         Callee::Values(Some(Function::StartsWith)) => {
-            begins(first(args, params, doc), one(rest(args), params, doc))
+            first(args, params, doc).begins(one(rest(args), params, doc))
         }
         Callee::References => Some(some_referred(args, params, doc)),
         _ => None,
@@ -237,7 +187,7 @@ pub(crate) fn condition(expr: &Expr, params: &Fields, doc: &Val) -> Option<bool>
         Expr::Round(inner) => condition(inner, params, doc),
         Expr::Run { first, rest } => {
             if is_joining(rest) {
-                joined(condition(first, params, doc), rest, params, doc)
+                run(condition(first, params, doc), rest, params, doc)
             } else {
                 compared(rest, params, doc, operand(first, params, doc))
             }
@@ -249,22 +199,21 @@ pub(crate) fn condition(expr: &Expr, params: &Fields, doc: &Val) -> Option<bool>
             from,
             to,
             closed,
-        } => between(
-            operand(left, params, doc),
+        } => operand(left, params, doc).is_between(
             operand(from, params, doc),
             operand(to, params, doc),
             *closed,
         ),
         Expr::Call { name, args } => tested(callee_of(name.as_str()), args, params, doc),
-        _ => truth(operand(expr, params, doc)),
+        _ => operand(expr, params, doc).truth(),
     }
 }
 
 // The truth of a run of `&&` or `||`.
 #[cycle(condition)]
 #[tactic(auto, unfolding(cs_syntax::specs::View::operands))]
-fn joined(first: Option<bool>, rest: &[(BinSign, Expr)], params: &Fields, doc: &Val) -> Option<bool>
-    ensures { result ≡ joined_truth (fields params.now) (tree doc.now)
+fn run(first: Option<bool>, rest: &[(BinSign, Expr)], params: &Fields, doc: &Val) -> Option<bool>
+    ensures { result ≡ run_truth (fields params.now) (tree doc.now)
         (operands_of (operands rest.now)) first }
 {
     let mut truth = first;

@@ -1,35 +1,21 @@
 //! Which expressions are operands and conditions.
-ghost use Rattle.std.specs.Prelude.{◌≡◌, ◌&&◌, is_some, map};
-ghost use Rattle.cs_syntax.specs.Expression.{arguments_of, elements_of, operands_of, steps_of};
-ghost use Rattle.cs_syntax.specs.View.{expression, arg as argument_of, elem as element_of, operands, step as step_of};
+ghost use Rattle.std.specs.Prelude.{◌≡◌, ◌&&◌, map};
+ghost use Rattle.cs_syntax.specs.Expression.{arguments_of, elements_of, operands_of};
+ghost use Rattle.cs_syntax.specs.View.{expression, argument_of, element_of, operands};
 ghost use Rattle.cs_parts.specs.Callees.{meant};
-ghost use Rattle.cs_plan.specs.Steps.{names_of};
 ghost use Rattle.cs_plain.specs.Forms.{argument_is_operand, element_is_operand};
-ghost use Rattle.cs_plain.specs.Plain.{is_word, is_negative, is_measure, is_operand, is_one, are_operands, are_some, are_two, is_test, are_elements, are_some_elements, is_container, is_comparison, is_compared, is_junction, all_not, is_plain, are_joined};
+ghost use Rattle.cs_plain.specs.Plain.{is_word, is_negative, is_measure, is_operand, is_one, are_operands, are_some, are_two, is_test, are_elements, are_some_elements, is_container, is_comparison, is_compared, is_junction, all_not, is_plain, are_junctions};
 
-use crate::conditions::is_path;
-use crate::values::{name_of, number_behind};
 use cs_func::Function;
 use cs_parts::{Callee, callee_of};
-use cs_syntax::{Arg, BinSign, Elem, Expr, PreSign, Step};
+use cs_plan::{are_names, negative_of};
+use cs_syntax::{Arg, BinSign, Elem, Expr, PreSign, is_path};
 
 #[tactic(auto, unfolding(cs_syntax::specs::View::expression))]
 fn is_word(expr: &Expr) -> bool
     ensures { result ≡ is_word (expression expr.now) }
 {
     matches!(expr, Expr::Word(_))
-}
-
-#[tactic(auto, using(crate::proofs::Shapes::names_more))]
-fn are_names(steps: &[Step]) -> bool
-    ensures { result ≡ is_some (names_of (steps_of (map step_of steps.now))) }
-{
-    for step in steps {
-        if name_of(step).is_none() {
-            return false;
-        }
-    }
-    true
 }
 
 fn is_measure(callee: Callee) -> bool
@@ -46,7 +32,7 @@ fn is_measure(callee: Callee) -> bool
 fn is_negative(signs: &[PreSign], operand: &Expr) -> bool
     ensures { result ≡ is_negative signs.now (expression operand.now) }
 {
-    number_behind(signs, operand).is_some()
+    negative_of(signs, operand).is_some()
 }
 
 /// Whether the expression is an operand.
@@ -85,7 +71,7 @@ fn is_one(args: &[Arg]) -> bool
 }
 
 #[cycle(is_operand)]
-#[tactic(auto, unfolding(cs_syntax::specs::View::arg, cs_syntax::specs::View::expression))]
+#[tactic(auto, unfolding(cs_syntax::specs::View::argument_of, cs_syntax::specs::View::expression))]
 fn argument_is_operand(arg: &Arg) -> bool
     ensures { result ≡ argument_is_operand (argument_of arg.now) }
 {
@@ -141,7 +127,7 @@ fn is_test(callee: Callee, args: &[Arg]) -> bool
     }
 }
 
-#[tactic(auto, unfolding(cs_syntax::specs::View::elem, cs_syntax::specs::View::expression))]
+#[tactic(auto, unfolding(cs_syntax::specs::View::element_of, cs_syntax::specs::View::expression))]
 fn element_is_operand(elem: &Elem) -> bool
     ensures { result ≡ element_is_operand (element_of elem.now) }
 {
@@ -245,7 +231,7 @@ pub(crate) fn is_plain(expr: &Expr) -> bool
     match expr {
         Expr::Round(inner) => is_plain(inner),
         Expr::Run { first, rest } => {
-            (is_plain(first) && are_joined(rest)) || (is_operand(first) && is_compared(rest))
+            (is_plain(first) && are_junctions(rest)) || (is_operand(first) && is_compared(rest))
         }
         Expr::Prefix { signs, operand } => {
             (all_not(signs) && is_plain(operand)) || is_negative(signs, operand)
@@ -262,11 +248,11 @@ pub(crate) fn is_plain(expr: &Expr) -> bool
 // Each sign is `&&` or `||`, and what stands behind it a condition.
 #[cycle(is_plain)]
 #[tactic(auto, unfolding(cs_syntax::specs::View::operands))]
-fn are_joined(rest: &[(BinSign, Expr)]) -> bool
-    ensures { result ≡ are_joined (operands_of (operands rest.now)) }
+fn are_junctions(rest: &[(BinSign, Expr)]) -> bool
+    ensures { result ≡ are_junctions (operands_of (operands rest.now)) }
 {
     for (sign, right) in rest {
-        if !is_joined(*sign, right) {
+        if !is_junction_of(*sign, right) {
             return false;
         }
     }
@@ -274,7 +260,7 @@ fn are_joined(rest: &[(BinSign, Expr)]) -> bool
 }
 
 #[cycle(is_plain)]
-fn is_joined(sign: BinSign, right: &Expr) -> bool
+fn is_junction_of(sign: BinSign, right: &Expr) -> bool
     ensures { result ≡ (is_junction sign && is_plain (expression right.now)) }
 {
     is_junction(sign) && is_plain(right)

@@ -1,9 +1,9 @@
 //! Whether a plain predicate is true of a document.
 ghost use Rattle.std.specs.Prelude.{◌≡◌, unwrap_or, false, map};
 ghost use Rattle.cs_syntax.specs.Expression.{steps_of};
-ghost use Rattle.cs_syntax.specs.View.{expression, step as step_of};
+ghost use Rattle.cs_syntax.specs.View.{expression, step_of};
 ghost use Rattle.cs_value.specs.View.{tree, fields};
-ghost use Rattle.cs_view.specs.View.{doc as document};
+ghost use Rattle.cs_view.specs.View.{document_of};
 ghost use Rattle.cs_plain.specs.Holds.{holds};
 ghost use Rattle.cs_plain.specs.Predicates.{filter};
 ghost use Rattle.cs_plain.specs.Truths.{first_truth, step_truth, query_truth};
@@ -20,7 +20,7 @@ fn or_false(truth: Option<bool>) -> bool
     truth.unwrap_or(false)
 }
 
-#[tactic(auto, unfolding(cs_syntax::specs::View::step, cs_syntax::specs::View::expression))]
+#[tactic(auto, unfolding(cs_syntax::specs::View::step_of, cs_syntax::specs::View::expression))]
 fn step_truth(step: &Step, params: &Fields, doc: &Val) -> bool
     ensures { result ≡ step_truth (fields params.now) (tree doc.now) (step_of step.now) }
 {
@@ -54,7 +54,7 @@ fn query_truth(expr: &Expr, params: &Fields, doc: &Val) -> bool
 /// Whether the filter is true of the document: null is not true. It takes no memory, and looks at
 /// no other document.
 pub fn test(predicate: &Plain, params: &Fields, doc: &Doc) -> bool
-    ensures { result ≡ holds (filter predicate.now) (fields params.now) (document doc.now) }
+    ensures { result ≡ holds (filter predicate.now) (fields params.now) (document_of doc.now) }
 {
     query_truth(predicate.expr(), params, doc.val())
 }

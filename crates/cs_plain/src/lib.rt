@@ -8,8 +8,8 @@ mod forms;
 mod holds;
 mod laws;
 mod listened;
-mod operand;
 mod predicate;
+mod references;
 mod values;
 
 pub use chosen::keys;

@@ -1,7 +1,7 @@
 //! Which queries a listener may have.
 ghost use Rattle.std.specs.Prelude.{◌≡◌, is_some, map};
 ghost use Rattle.cs_syntax.specs.Expression.{steps_of};
-ghost use Rattle.cs_syntax.specs.View.{expression, step as step_of};
+ghost use Rattle.cs_syntax.specs.View.{expression, step_of};
 ghost use Rattle.cs_plain.specs.Plain.{filter_in, filter_alone, listened_filter};
 
 use crate::forms::is_plain;

@@ -3,7 +3,7 @@ use Rattle.std.proofs.Common.{◌≡◌, sym, ap, ◌∙◌, List, [], ◌∷◌
 use Rattle.std.specs.Prelude.{◌&&◌}
 use Rattle.cs_syntax.specs.Expression.{Expression, number_literal, text_literal, prefix, chain, steps_of}
 use Rattle.cs_syntax.specs.Brackets.{is_position, is_text}
-use Rattle.cs_syntax.specs.View.{expression, step}
+use Rattle.cs_syntax.specs.View.{expression, step_of}
 use Rattle.cs_syntax.specs.declared.tree.PreSign.TheVariants as sign
 use Rattle.cs_syntax.specs.declared.tree.Expr.{Expr}
 use Rattle.cs_syntax.specs.declared.tree.Expr as code
@@ -27,7 +27,7 @@ neither_position_nor_text _ = refl
 
 pub simple_chain : (e : Expr) (base : Box Expr Global) (v : Vec CodeStep Global) (b : Expr)
     (ss : List CodeStep) → e ≡ code.Chain base v → b ≡ base.value → b ≡ code.All → ss ≡ v.items
-    → is_simple_rest (steps_of (map step ss)) ≡ is_simple (expression e)
+    → is_simple_rest (steps_of (map step_of ss)) ≡ is_simple (expression e)
 simple_chain e base v b ss is there all same =
     sym (ap is_simple (chain_parts e base v b ss is there same
-    ∙ ap (λ x. chain x (steps_of (map step ss))) (ap expression all ∙ expression_all)))
+    ∙ ap (λ x. chain x (steps_of (map step_of ss))) (ap expression all ∙ expression_all)))

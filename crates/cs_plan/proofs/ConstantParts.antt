@@ -2,7 +2,7 @@
 use Rattle.std.proofs.Common.{◌≡◌, ℕ, List, [], ◌∷◌, map, Option, Some, None, option_map, option_and_then, refl, ap}
 use Rattle.std.proofs.Common.{Vec, Box, Global, sym, ◌∙◌}
 use Rattle.cs_syntax.specs.Expression.{chain, steps_of}
-use Rattle.cs_syntax.specs.View.{expression, step}
+use Rattle.cs_syntax.specs.View.{expression, step_of}
 use Rattle.cs_syntax.specs.declared.tree.Step.{Step as CodeStep}
 use Rattle.cs_syntax.specs.declared.tree.Expr.{Expr}
 use Rattle.cs_syntax.specs.declared.tree.Expr as code
@@ -12,35 +12,33 @@ use Rattle.std.specs.Str.{bytes_eq}
 use Rattle.std.specs.Option.{option_map_or}
 use Rattle.std.specs.Prelude.{if◌then◌else◌, codes, Bool, true, false, cond, ℤ, pos, neg_ℤ}
 use Rattle.cs_value.specs.Tree.{Tree, Pairs, null, integer}
-use Rattle.cs_ops.specs.Arithmetic.{number, is_whole}
+use Rattle.cs_ops.specs.Arithmetic.{number, is_of_64_bits}
 use Rattle.cs_syntax.specs.Numbers.{written_number}
 use Rattle.cs_ops.specs.Operators as operators
 use Rattle.cs_ops.specs.declared.op.Pre.TheVariants.{Minus}
 use Rattle.cs_syntax.specs.declared.tree.PreSign.{PreSign}
 use Rattle.cs_syntax.specs.declared.tree.PreSign.TheVariants as sign
 use Rattle.cs_syntax.specs.declared.tree.BinSign.TheVariants as sg
-use Rattle.cs_syntax.specs.Expression.{Expression, number_literal, prefix, run, Operands, no_operands, more_operands, Steps, more_steps, Step, Arguments, no_arguments, more_arguments, argument, when_argument}
+use Rattle.cs_syntax.specs.Expression.{Expression, number_literal, prefix, run, Operands, no_operands, more_operands, Arguments, no_arguments, more_arguments, argument, when_argument}
 use Rattle.cs_syntax.specs.Functions.{without_global}
 use Rattle.cs_view.specs.declared.key.Key.TheVariants.{Ref}
-use Rattle.cs_plan.specs.Steps.{field, name_of, names_of}
+use Rattle.cs_plan.specs.Steps.{names_of}
 use Rattle.cs_plan.specs.Constants.{constant, scalar_of, literal, at_names}
 use Rattle.cs_plan.specs.Filters.{reference_key, scalar_text, conjunct_key, equality_key}
-use Rattle.cs_plan.specs.Parts.{number_scalar, scalar_at, negative_of, sole_argument, sole_equal}
+use Rattle.cs_plan.specs.Parts.{number_scalar, tree_at, negative_of, sole_argument, sole_equal}
 
-more : (name : Option (List ℕ)) (names : Option (List (List ℕ))) (v : Tree) → option_and_then (λ ns. scalar_of (at_names ns v)) (option_and_then (λ n. option_map (λ ns. n ∷ ns) names) name) ≡ option_and_then (λ n. option_and_then (λ ns. scalar_of (at_names ns (field n v))) names) name
-more None names v = refl
-more (Some n) None v = refl
-more (Some n) (Some ns) v = refl
-
-pub scalar_at_more : (s : Step) (ss : Steps) (v : Tree) → scalar_at (more_steps s ss) v ≡ option_and_then (λ name. scalar_at ss (field name v)) (name_of s)
-scalar_at_more s ss v = more (name_of s) (names_of ss) v
+at_some_names : (names : Option (List (List ℕ))) (v : Tree)
+    → scalar_of (option_map_or (λ ns. at_names ns v) names null)
+    ≡ option_and_then (λ ns. scalar_of (at_names ns v)) names
+at_some_names None v = refl
+at_some_names (Some ns) v = refl
 
 one_number : (b : Bool) (n : ℤ) → number_scalar (cond b (integer n) null) ≡ scalar_of (cond b (integer n) null)
 one_number true n = refl
 one_number false n = refl
 
 some_number : (n : ℤ) → number_scalar (number n) ≡ scalar_of (number n)
-some_number n = one_number (is_whole n) n
+some_number n = one_number (is_of_64_bits n) n
 
 number_or_null : (o : Option ℕ)
     → number_scalar (option_map_or (λ k. integer (pos k)) o null)
@@ -76,6 +74,8 @@ conjunct_run e (more_operands sg.Eq right (more_operands s f rest)) scope params
 conjunct_run e (more_operands _ right rest) scope params = refl
 
 pub constant_chain : (e : Expr) (base : Box Expr Global) (v : Vec CodeStep Global) (b : Expr) (ss : List CodeStep) (n : ℕ) (scope : List Tree) (params : Pairs) → e ≡ code.Chain base v → b ≡ base.value → b ≡ code.Up n → ss ≡ v.items
-    → scalar_at (steps_of (map step ss)) (in_scope n (null ∷ scope)) ≡ constant (expression e) scope params
+    → scalar_of (tree_at (steps_of (map step_of ss)) (in_scope n (null ∷ scope)))
+    ≡ constant (expression e) scope params
 constant_chain e base v b ss n scope params is there up same =
-    sym (ap (λ x. constant x scope params) (chain_parts e base v b ss is there same ∙ ap (λ x. chain x (steps_of (map step ss))) (ap expression up ∙ expression_up n)))
+    at_some_names (names_of (steps_of (map step_of ss))) (in_scope n (null ∷ scope))
+    ∙ sym (ap (λ x. constant x scope params) (chain_parts e base v b ss is there same ∙ ap (λ x. chain x (steps_of (map step_of ss))) (ap expression up ∙ expression_up n)))

@@ -4,7 +4,7 @@ use Rattle.std.proofs.Common.{◌≡◌, ℕ, ◌<◌, ◌+◌, sym, ◌∙◌, 
 use Rattle.std.proofs.lemmas.List.{length-map}
 use Rattle.cs_syntax.specs.Expression.{Step, Steps, more_steps, steps_of}
 use Rattle.cs_syntax.specs.declared.tree.Step.{Step as CodeStep}
-use Rattle.cs_syntax.specs.View.{step}
+use Rattle.cs_syntax.specs.View.{step_of}
 use Rattle.cs_plan.specs.Steps.{name_of, names_of}
 use Rattle.std.proofs.Common.{Vec, Box, Global}
 use Rattle.cs_syntax.specs.Expression.{chain}
@@ -14,8 +14,12 @@ use Rattle.cs_syntax.specs.declared.tree.Expr as code
 use Rattle.std.specs.Prelude.{codes, unwrap_or, ◌&&◌}
 use Rattle.std.specs.Str.{bytes_eq}
 use Rattle.cs_plan.specs.Filters.{few, path_of, is_id_path}
-use Rattle.cs_plan.specs.Parts.{path_names}
+use Rattle.cs_plan.specs.Constants.{at_names}
+use Rattle.cs_plan.specs.Parts.{path_names, tree_at}
 use Rattle.cs_syntax.proofs.Views.{chain_parts, expression_word}
+use Rattle.std.specs.Option.{option_map_or}
+use Rattle.cs_value.specs.Tree.{Tree, null}
+use Rattle.cs_value.specs.Words.{field}
 
 both_named : (name : Option (List ℕ)) (names : Option (List (List ℕ))) → is_some (option_and_then (λ n. option_map (λ ns. n ∷ ns) names) name) ≡ is_some name && is_some names
 both_named None names = refl
@@ -24,6 +28,19 @@ both_named (Some n) (Some ns) = refl
 
 pub named_more : (s : Step) (ss : Steps) → is_some (names_of (more_steps s ss)) ≡ is_some (name_of s) && is_some (names_of ss)
 named_more s ss = both_named (name_of s) (names_of ss)
+
+more : (name : Option (List ℕ)) (names : Option (List (List ℕ))) (v : Tree)
+    → option_map_or (λ ns. at_names ns v)
+    (option_and_then (λ n. option_map (λ ns. n ∷ ns) names) name) null
+    ≡ option_map_or (λ n. option_map_or (λ ns. at_names ns (field n v)) names null) name null
+more None names v = refl
+more (Some n) None v = refl
+more (Some n) (Some ns) v = refl
+
+-- the value at the names of steps is that of the others at the attribute of the first
+pub tree_at_more : (s : Step) (ss : Steps) (v : Tree) → tree_at (more_steps s ss) v
+    ≡ option_map_or (λ name. tree_at ss (field name v)) (name_of s) null
+tree_at_more s ss v = more (name_of s) (names_of ss) v
 
 named_in_front : (n : List ℕ) (name : Option (List ℕ)) (names : Option (List (List ℕ))) → name ≡ Some n → is_some names ≡ true
     → unwrap_or (option_and_then (λ a. option_map (λ ns. a ∷ ns) names) name) [] ≡ n ∷ unwrap_or names []
@@ -48,8 +65,8 @@ many : (front : List (List ℕ)) (ss : List Step) → 4 < length front + length 
 many front [] long = not_few (front ++ []) (omega (arith, length-append front []))
 many front (s ∷ ss) long = behind front (names_of (steps_of ss)) (name_of s) (λ n. many (front ++ n ∷ []) ss (omega (arith, length-append front (n ∷ []))))
 
-pub too_many : (name : List ℕ) (ss : List CodeStep) → 3 < length ss → None ≡ option_and_then (λ names. few (name ∷ names)) (names_of (steps_of (map step ss)))
-too_many name ss long = sym (many (name ∷ []) (map step ss) (omega (arith, length-map ss step)))
+pub too_many : (name : List ℕ) (ss : List CodeStep) → 3 < length ss → None ≡ option_and_then (λ names. few (name ∷ names)) (names_of (steps_of (map step_of ss)))
+too_many name ss long = sym (many (name ∷ []) (map step_of ss) (omega (arith, length-map ss step_of)))
 
 one_more : (name : Option (List ℕ)) (names : Option (List (List ℕ))) (n : ℕ) → length (unwrap_or names []) ≤ n
     → length (unwrap_or (option_and_then (λ a. option_map (λ ns. a ∷ ns) names) name) []) ≤ suc n
@@ -68,9 +85,9 @@ all_few : (w : List ℕ) (o : Option (List (List ℕ))) → length (unwrap_or o 
 all_few w None short is = absurd (true≢false (sym is))
 all_few w (Some ns) short is = sym (is_few (w ∷ ns) (omega (arith, short)))
 
-pub few_names : (w : List ℕ) (ss : List CodeStep) → length ss ≤ 3 → is_some (names_of (steps_of (map step ss))) ≡ true
-    → Some (path_names w (steps_of (map step ss))) ≡ option_and_then (λ names. few (w ∷ names)) (names_of (steps_of (map step ss)))
-few_names w ss short is = all_few w (names_of (steps_of (map step ss))) (omega (arith, length-map ss step, no_more (map step ss))) is
+pub few_names : (w : List ℕ) (ss : List CodeStep) → length ss ≤ 3 → is_some (names_of (steps_of (map step_of ss))) ≡ true
+    → Some (path_names w (steps_of (map step_of ss))) ≡ option_and_then (λ names. few (w ∷ names)) (names_of (steps_of (map step_of ss)))
+few_names w ss short is = all_few w (names_of (steps_of (map step_of ss))) (omega (arith, length-map ss step_of, no_more (map step_of ss))) is
 
 unnamed : (w : List ℕ) (o : Option (List (List ℕ))) → is_some o ≡ false → None ≡ option_and_then (λ names. few (w ∷ names)) o
 unnamed w None is = refl
@@ -86,14 +103,14 @@ longer w (Some a) None is = absurd (true≢false (sym is))
 longer w (Some a) (Some ns) is = refl
 
 -- a path of a word and steps is not `_id` alone
-pub id_longer : (w : List ℕ) (ss : List CodeStep) → 0 < length ss → is_some (names_of (steps_of (map step ss))) ≡ true → false ≡ is_id_path (path_names w (steps_of (map step ss)))
+pub id_longer : (w : List ℕ) (ss : List CodeStep) → 0 < length ss → is_some (names_of (steps_of (map step_of ss))) ≡ true → false ≡ is_id_path (path_names w (steps_of (map step_of ss)))
 id_longer w [] some is = absurd (omega (arith, some))
-id_longer w (s ∷ ss) some is = longer w (name_of (step s)) (names_of (steps_of (map step ss))) is
+id_longer w (s ∷ ss) some is = longer w (name_of (step_of s)) (names_of (steps_of (map step_of ss))) is
 
-pub id_alone : (w : List ℕ) (ss : List CodeStep) → length ss ≡ 0 → bytes_eq w (codes "_id") ≡ is_id_path (path_names w (steps_of (map step ss)))
+pub id_alone : (w : List ℕ) (ss : List CodeStep) → length ss ≡ 0 → bytes_eq w (codes "_id") ≡ is_id_path (path_names w (steps_of (map step_of ss)))
 id_alone w [] none = refl
 id_alone w (s ∷ ss) none = absurd (omega (arith, none))
 
 pub path_word : (e : Expr) (base : Box Expr Global) (v : Vec CodeStep Global) (b : Expr) (ss : List CodeStep) (w : List ℕ) → e ≡ code.Chain base v → b ≡ base.value → b ≡ code.Word w → ss ≡ v.items
-    → option_and_then (λ names. few (w ∷ names)) (names_of (steps_of (map step ss))) ≡ path_of (expression e)
-path_word e base v b ss w is there word same = sym (ap path_of (chain_parts e base v b ss is there same ∙ ap (λ x. chain x (steps_of (map step ss))) (ap expression word ∙ expression_word w)))
+    → option_and_then (λ names. few (w ∷ names)) (names_of (steps_of (map step_of ss))) ≡ path_of (expression e)
+path_word e base v b ss w is there word same = sym (ap path_of (chain_parts e base v b ss is there same ∙ ap (λ x. chain x (steps_of (map step_of ss))) (ap expression word ∙ expression_word w)))

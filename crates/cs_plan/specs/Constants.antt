@@ -11,7 +11,8 @@ use Rattle.cs_syntax.specs.Expression.{Expression, bool_literal, number_literal,
 use Rattle.cs_syntax.specs.Numbers.{written_number}
 use Rattle.cs_view.specs.declared.key.Scalar.{Scalar}
 use Rattle.cs_view.specs.declared.key.Scalar.TheVariants.{Bool as Boolean, Num, Text}
-use Rattle.cs_plan.specs.Steps.{in_scope, field, names_of}
+use Rattle.cs_plan.specs.Steps.{in_scope, names_of}
+use Rattle.cs_value.specs.Words.{field}
 
 -- The value of a number as it is written; null where the profile refuses it, for a fraction, an
 -- exponent or more than 64 bits: GROQ-1.revision1, "Number".

@@ -2,19 +2,15 @@
 use Rattle.std.specs.Prelude.{ℕ, List, [], ◌∷◌, ℤ, pos, neg_ℤ, Bool, Option, Some, None, option_and_then, option_map, unwrap_or, codes, slice_get}
 use Rattle.std.specs.Str.{bytes_eq}
 use Rattle.cs_value.specs.Tree.{Tree, null}
-use Rattle.cs_value.specs.Pairs.{attribute}
 use Rattle.cs_syntax.specs.declared.tree.PreSign.TheVariants as sign
-use Rattle.cs_syntax.specs.Expression.{Expression, number_literal, text_literal, prefix, Step, attr, bracket, Steps, no_steps, more_steps}
+use Rattle.cs_syntax.specs.Expression.{Expression, number_literal, prefix, Step, attr, bracket, Steps, no_steps, more_steps}
 use Rattle.cs_syntax.specs.Numbers.{written_number}
+use Rattle.cs_syntax.specs.Brackets.{text_alone}
 
 -- The value so many levels out in a scope, 0 being `@` and 1 `^`; null where the scope is too
 -- short: "This", "Parent".
 abbrev pub in_scope : ℕ → List Tree → Tree
 in_scope level scope = unwrap_or (slice_get scope level) null
-
--- The attribute of a value, null where it is no object or lacks the name: "Attribute access".
-abbrev pub field : List ℕ → Tree → Tree
-field name v = unwrap_or (attribute name v) null
 
 -- The number that an expression is, if it is one alone: one that the profile refuses has no value.
 abbrev pub number_of : Expression → Option (Option ℕ)
@@ -27,11 +23,6 @@ abbrev pub position_of : Expression → Option (Option ℤ)
 position_of (prefix (sign.Minus ∷ []) e) =
     option_map (option_map (λ n. neg_ℤ (pos n))) (number_of e)
 position_of e = option_map (option_map pos) (number_of e)
-
--- The text that an expression is, if it is one alone.
-abbrev pub text_of : Expression → Option (List ℕ)
-text_of (text_literal s) = Some s
-text_of _ = None
 
 -- What a bracket asks for: the element at a position, the attribute of a name, or the elements that
 -- meet a condition.
@@ -49,7 +40,7 @@ bracketed_by None None = condition
 
 -- What the bracket around this expression asks for.
 abbrev pub bracketed : Expression → Bracketed
-bracketed e = bracketed_by (position_of e) (text_of e)
+bracketed e = bracketed_by (position_of e) (text_alone e)
 
 -- The name of a piped call is `order`, the one that the profile has: "Order pipe function".
 abbrev pub is_order_name : List ℕ → Bool
@@ -58,7 +49,7 @@ is_order_name name = bytes_eq name (codes "order")
 -- The name of a step `.w` or `["w"]`; none of another step.
 abbrev pub name_of : Step → Option (List ℕ)
 name_of (attr w) = Some w
-name_of (bracket e) = text_of e
+name_of (bracket e) = text_alone e
 name_of _ = None
 
 -- The names of steps that are all `.w` or `["w"]`; none where another step is among them.

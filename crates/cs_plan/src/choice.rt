@@ -6,7 +6,7 @@ ghost use Rattle.cs_plan.specs.Picked.{picked};
 ghost use Rattle.cs_syntax.specs.Expression.{operands_of};
 ghost use Rattle.cs_syntax.specs.View.{expression, operands};
 ghost use Rattle.cs_value.specs.View.{fields};
-ghost use Rattle.cs_view.specs.Scopes.{scope as values_of};
+ghost use Rattle.cs_view.specs.Scopes.{scope_of};
 
 use crate::conjuncts::conjunct;
 use crate::lent::LentKey;
@@ -57,7 +57,7 @@ fn best<'f>(
 ) -> LentKey<'f>
     ensures { key_lent result
         ≡ fold picked (key_lent so_far.entry)
-        (keys_given (values_of scope.now) (fields params.now) (conjuncts (expression expr.now))) }
+        (keys_given (scope_of scope.now) (fields params.now) (conjuncts (expression expr.now))) }
 {
     match expr {
         Expr::Round(inner) => best(so_far, inner, scope, params),
@@ -82,7 +82,7 @@ fn best_of_operands<'f>(
 ) -> LentKey<'f>
     ensures { key_lent result
         ≡ fold picked (key_lent so_far.entry)
-        (keys_given (values_of scope.now) (fields params.now)
+        (keys_given (scope_of scope.now) (fields params.now)
         (operand_conjuncts (operands_of (operands rest.now)))) }
 {
     let mut key = so_far;
@@ -104,7 +104,7 @@ pub fn choose<'f>(
     params: &'f Fields,
 ) -> Result<Key, NoMemory>
     ensures { IfOk result (λ k. k
-        ≡ key_in (expression filter.now) (values_of scope.now) (fields params.now)) }
+        ≡ key_in (expression filter.now) (scope_of scope.now) (fields params.now)) }
 {
     best(LentKey::All, filter, scope, params).copied(alloc)
 }

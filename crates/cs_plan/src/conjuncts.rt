@@ -5,9 +5,9 @@ ghost use Rattle.cs_plan.specs.Filters.{path_of, equals_key, of_both, equality_k
 ghost use Rattle.cs_plan.specs.Parts.{sole_argument, sole_equal};
 ghost use Rattle.cs_plan.specs.Lent.{key_lent, scalar_lent};
 ghost use Rattle.cs_syntax.specs.Expression.{arguments_of, operands_of};
-ghost use Rattle.cs_syntax.specs.View.{expression, arg as argument_of, operands};
+ghost use Rattle.cs_syntax.specs.View.{expression, argument_of, operands};
 ghost use Rattle.cs_value.specs.View.{fields};
-ghost use Rattle.cs_view.specs.Scopes.{scope as values_of};
+ghost use Rattle.cs_view.specs.Scopes.{scope_of};
 
 use crate::constants::constant;
 use crate::lent::{LentKey, LentScalar};
@@ -40,7 +40,7 @@ fn path_equals<'f>(
 ) -> Option<LentKey<'f>>
     ensures { option_map key_lent result
         ≡ of_both equals_key (path_of (expression path.now))
-        (constant (expression value.now) (values_of scope.now) (fields params.now)) }
+        (constant (expression value.now) (scope_of scope.now) (fields params.now)) }
 {
     let names = path_of(path)?;
     let scalar = constant(value, scope, params)?;
@@ -56,7 +56,7 @@ fn equality<'f>(
 ) -> Option<LentKey<'f>>
     ensures { option_map key_lent result
         ≡ equality_key (expression left.now) (expression right.now)
-        (values_of scope.now) (fields params.now) }
+        (scope_of scope.now) (fields params.now) }
 {
     match path_equals(left, right, scope, params) {
         Some(key) => Some(key),
@@ -73,7 +73,7 @@ fn element<'f>(
 ) -> Option<LentKey<'f>>
     ensures { option_map key_lent result
         ≡ element_key (expression left.now) (expression right.now)
-        (values_of scope.now) (fields params.now) }
+        (scope_of scope.now) (fields params.now) }
 {
     let names = path_of(right)?;
     let scalar = constant(left, scope, params)?;
@@ -81,7 +81,7 @@ fn element<'f>(
 }
 
 // The one argument of a call, where it has one alone and without `=>`.
-#[tactic(auto, unfolding(cs_syntax::specs::View::arg, cs_syntax::specs::View::expression))]
+#[tactic(auto, unfolding(cs_syntax::specs::View::argument_of, cs_syntax::specs::View::expression))]
 fn sole_argument(args: &[Arg]) -> Option<&Expr>
     ensures { option_map (λ e. expression e.now) result
         ≡ sole_argument (arguments_of (map argument_of args.now)) }
@@ -106,7 +106,7 @@ fn reference<'f>(
 ) -> Option<LentKey<'f>>
     ensures { option_map key_lent result
         ≡ reference_key name.now (arguments_of (map argument_of args.now))
-        (values_of scope.now) (fields params.now) }
+        (scope_of scope.now) (fields params.now) }
 {
     let target = sole_argument(args)?;
     if without_global(name) != "references".as_bytes() {
@@ -142,7 +142,7 @@ pub(crate) fn conjunct<'f>(
     params: &'f Fields,
 ) -> Option<LentKey<'f>>
     ensures { option_map key_lent result
-        ≡ conjunct_key (expression expr.now) (values_of scope.now) (fields params.now) }
+        ≡ conjunct_key (expression expr.now) (scope_of scope.now) (fields params.now) }
 {
     match expr {
         Expr::Run { first, rest } => equality(first, sole_equal(rest)?, scope, params),

@@ -1,20 +1,18 @@
 //! Constants: the values that a filter can name before any document is looked at.
-ghost use Rattle.std.specs.Prelude.{◌≡◌, map, option_map};
+ghost use Rattle.std.specs.Prelude.{◌≡◌, option_map};
 ghost use Rattle.cs_plan.specs.Constants.{constant, scalar_of};
-ghost use Rattle.cs_plan.specs.Parts.{negative_of, number_scalar, scalar_at, value_or_null};
+ghost use Rattle.cs_plan.specs.Parts.{number_scalar, value_or_null};
 ghost use Rattle.cs_plan.specs.Lent.{scalar_lent};
-ghost use Rattle.cs_plan.specs.Steps.{field as named_field};
-ghost use Rattle.cs_syntax.specs.Expression.{steps_of};
-ghost use Rattle.cs_syntax.specs.View.{expression, step as step_of};
+ghost use Rattle.cs_syntax.specs.View.{expression};
 ghost use Rattle.cs_value.specs.View.{tree, fields};
-ghost use Rattle.cs_view.specs.Scopes.{scope as values_of};
+ghost use Rattle.cs_view.specs.Scopes.{scope_of};
 
 use crate::lent::LentScalar;
-use crate::numbers::literal;
+use crate::numbers::{literal, negative_of};
 use crate::scopes::up_from_unknown;
-use crate::steps::name_of;
+use crate::steps::at_names;
 use cs_ops::{Pre, prefix};
-use cs_syntax::{Expr, PreSign, Step};
+use cs_syntax::Expr;
 use cs_value::{Fields, Val};
 use cs_view::Scope;
 
@@ -40,43 +38,6 @@ fn scalar_of(val: Option<&Val>) -> Option<LentScalar<'_>>
     }
 }
 
-// The number alone behind one `-`.
-#[tactic(auto, unfolding(cs_syntax::specs::View::expression))]
-fn negative_of<'f>(signs: &[PreSign], operand: &'f Expr) -> Option<&'f str>
-    ensures { option_map (λ s. s.now) result ≡ negative_of signs.now (expression operand.now) }
-{
-    match signs {
-        [PreSign::Minus] => match operand {
-            Expr::Number(number) => Some(number.as_str()),
-            _ => None,
-        },
-        _ => None,
-    }
-}
-
-fn field<'v>(val: Option<&'v Val>, name: &str) -> Option<&'v Val>
-    ensures { value_or_null result ≡ named_field name.now (value_or_null val.entry) }
-{
-    val?.field(name)
-}
-
-// The value at these names. A step that is no name leads to none, as a value that is not there
-// does.
-#[tactic(auto, using(crate::proofs::ConstantParts::scalar_at_more))]
-fn at_names<'v>(val: Option<&'v Val>, steps: &[Step]) -> Option<&'v Val>
-    ensures { scalar_of (value_or_null result)
-        ≡ scalar_at (steps_of (map step_of steps.now)) (value_or_null val.entry) }
-{
-    let mut here = val;
-    let mut left = steps;
-    while let Some((step, later)) = left.split_first() {
-        let name = name_of(step)?;
-        here = field(here, name);
-        left = later;
-    }
-    here
-}
-
 /// The constant that an expression is, in the scope in which the filter's chain stands: `None`
 /// exactly where it is none.
 #[tactic(auto, using(crate::proofs::Sets::constant), unfolding(cs_syntax::specs::View::expression))]
@@ -86,7 +47,7 @@ pub(crate) fn constant<'f>(
     params: &'f Fields,
 ) -> Option<LentScalar<'f>>
     ensures { option_map scalar_lent result
-        ≡ constant (expression expr.now) (values_of scope.now) (fields params.now) }
+        ≡ constant (expression expr.now) (scope_of scope.now) (fields params.now) }
 {
     match expr {
         Expr::Text(text) => Some(LentScalar::Text(text.as_str())),

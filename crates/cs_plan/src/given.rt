@@ -5,7 +5,7 @@ ghost use Rattle.cs_plan.specs.Lent.{key_lent};
 ghost use Rattle.cs_syntax.specs.Expression.{operands_of};
 ghost use Rattle.cs_syntax.specs.View.{expression, operands};
 ghost use Rattle.cs_value.specs.View.{fields};
-ghost use Rattle.cs_view.specs.Scopes.{scope as values_of};
+ghost use Rattle.cs_view.specs.Scopes.{scope_of};
 
 use crate::choice::all_and;
 use crate::conjuncts::conjunct;
@@ -37,7 +37,7 @@ fn push_given<'f>(
     keys: &mut Vec<Key>,
 ) -> Result<(), NoMemory>
     ensures { OnOk result (keys.new.items ≡ keys.old.items
-        ++ keys_given (values_of scope.now) (fields params.now)
+        ++ keys_given (scope_of scope.now) (fields params.now)
         (conjuncts (expression expr.now))) }
 {
     match expr {
@@ -63,7 +63,7 @@ fn push_given_by_operands<'f>(
     keys: &mut Vec<Key>,
 ) -> Result<(), NoMemory>
     ensures { OnOk result (keys.new.items ≡ keys.old.items
-        ++ keys_given (values_of scope.now) (fields params.now)
+        ++ keys_given (scope_of scope.now) (fields params.now)
         (operand_conjuncts (operands_of (operands rest.now)))) }
 {
     for (_, operand) in rest {
@@ -82,7 +82,7 @@ pub fn filter_keys<'f>(
     params: &'f Fields,
 ) -> Result<Vec<Key>, NoMemory>
     ensures { IfOk result (λ ks. ks.items
-        ≡ filter_keys (expression filter.now) (values_of scope.now) (fields params.now)) }
+        ≡ filter_keys (expression filter.now) (scope_of scope.now) (fields params.now)) }
 {
     let mut keys = Vec::new(alloc);
     push_given(alloc, filter, scope, params, &mut keys)?;

@@ -16,8 +16,8 @@ mod tails;
 
 pub use choice::choose;
 pub use given::filter_keys;
-pub use numbers::literal;
+pub use numbers::{literal, negative_of};
 pub use quiet::is_quiet;
 pub use scopes::up;
-pub use steps::text_of;
+pub use steps::{are_names, at_names, name_of};
 pub use tails::{is_condition, simple};

@@ -4,7 +4,7 @@ ghost use Rattle.cs_plan.specs.Filters.{few, path_of, is_id_path};
 ghost use Rattle.cs_plan.specs.Parts.{path_names};
 ghost use Rattle.cs_plan.specs.Steps.{names_of};
 ghost use Rattle.cs_syntax.specs.Expression.{steps_of};
-ghost use Rattle.cs_syntax.specs.View.{expression, step as step_of};
+ghost use Rattle.cs_syntax.specs.View.{expression, step_of};
 
 use crate::steps::{are_names, name_of};
 use cs_syntax::{Expr, Step};
@@ -26,7 +26,7 @@ pub(crate) struct LentNames<'f> {
 impl<'f> Model for LentNames<'f> {
     ghost use Rattle.std.specs.Prelude.{ℕ, List, map, length, ◌≤◌, ◌≡◌, is_some, true};
     ghost use Rattle.cs_syntax.specs.Expression.{steps_of};
-    ghost use Rattle.cs_syntax.specs.View.{step as step_of};
+    ghost use Rattle.cs_syntax.specs.View.{step_of};
     ghost use Rattle.cs_plan.specs.Steps.{names_of};
     ghost use Rattle.cs_plan.specs.Parts.{path_names};
 

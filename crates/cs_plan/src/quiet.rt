@@ -1,7 +1,7 @@
 //! Whether neither `*` as a value nor `->` stands anywhere.
 ghost use Rattle.std.specs.Prelude.{◌≡◌, map};
 ghost use Rattle.cs_syntax.specs.Expression.{arguments_of, elements_of, entries_of, keys_of, operands_of, steps_of};
-ghost use Rattle.cs_syntax.specs.View.{arg as argument_of, elem as element_of, entry as entry_of, expression, key as order_key_of, operands, step as step_of};
+ghost use Rattle.cs_syntax.specs.View.{argument_of, element_of, entry_of, expression, order_key_of, operands, step_of};
 ghost use Rattle.cs_plan.specs.Simple.{is_quiet, quiet_operands, quiet_argument, quiet_arguments, quiet_element, quiet_elements, quiet_entry, quiet_entries, quiet_step, quiet_steps, quiet_keys};
 
 use cs_syntax::{Arg, BinSign, Elem, Entry, Expr, OrderKey, Step};
@@ -42,7 +42,7 @@ fn quiet_operands(rest: &[(BinSign, Expr)]) -> bool
 }
 
 #[cycle(quiet)]
-#[tactic(auto, unfolding(cs_syntax::specs::View::arg, cs_syntax::specs::View::expression))]
+#[tactic(auto, unfolding(cs_syntax::specs::View::argument_of, cs_syntax::specs::View::expression))]
 fn quiet_argument(arg: &Arg) -> bool
     ensures { result ≡ quiet_argument (argument_of arg.now) }
 {
@@ -65,7 +65,7 @@ fn quiet_arguments(args: &[Arg]) -> bool
 }
 
 #[cycle(quiet)]
-#[tactic(auto, unfolding(cs_syntax::specs::View::elem, cs_syntax::specs::View::expression))]
+#[tactic(auto, unfolding(cs_syntax::specs::View::element_of, cs_syntax::specs::View::expression))]
 fn quiet_element(elem: &Elem) -> bool
     ensures { result ≡ quiet_element (element_of elem.now) }
 {
@@ -88,7 +88,7 @@ fn quiet_elements(elements: &[Elem]) -> bool
 }
 
 #[cycle(quiet)]
-#[tactic(auto, unfolding(cs_syntax::specs::View::entry, cs_syntax::specs::View::expression))]
+#[tactic(auto, unfolding(cs_syntax::specs::View::entry_of, cs_syntax::specs::View::expression))]
 fn quiet_entry(entry: &Entry) -> bool
     ensures { result ≡ quiet_entry (entry_of entry.now) }
 {
@@ -113,7 +113,7 @@ fn quiet_entries(entries: &[Entry]) -> bool
 }
 
 #[cycle(quiet)]
-#[tactic(auto, using(crate::proofs::Sets::steps), unfolding(cs_syntax::specs::View::step))]
+#[tactic(auto, using(crate::proofs::Sets::steps), unfolding(cs_syntax::specs::View::step_of))]
 pub(crate) fn quiet_step(step: &Step) -> bool
     ensures { result ≡ quiet_step (step_of step.now) }
 {
@@ -140,7 +140,7 @@ pub(crate) fn quiet_steps(steps: &[Step]) -> bool
 }
 
 #[cycle(quiet)]
-#[tactic(auto, unfolding(cs_syntax::specs::View::key, cs_syntax::specs::View::expression))]
+#[tactic(auto, unfolding(cs_syntax::specs::View::order_key_of, cs_syntax::specs::View::expression))]
 fn quiet_keys(keys: &[OrderKey]) -> bool
     ensures { result ≡ quiet_keys (keys_of (map order_key_of keys.now)) }
 {

@@ -4,7 +4,7 @@ ghost use Rattle.cs_plan.specs.Parts.{value_or_null};
 ghost use Rattle.cs_plan.specs.Steps.{in_scope};
 ghost use Rattle.cs_value.specs.Tree.{null};
 ghost use Rattle.cs_value.specs.View.{tree};
-ghost use Rattle.cs_view.specs.Scopes.{scope as values_of};
+ghost use Rattle.cs_view.specs.Scopes.{scope_of};
 
 use cs_value::Val;
 use cs_view::Scope;
@@ -13,7 +13,7 @@ use cs_view::Scope;
 /// is too short.
 #[tactic(auto, using(crate::proofs::Levels::one_out))]
 pub fn up<'s>(scope: &Scope<'s>, level: u32) -> Option<&'s Val>
-    ensures { option_map (λ v. tree v.now) result ≡ slice_get (values_of scope.now) level }
+    ensures { option_map (λ v. tree v.now) result ≡ slice_get (scope_of scope.now) level }
 {
     if level == 0 {
         return Some(scope.this);
@@ -28,7 +28,7 @@ pub fn up<'s>(scope: &Scope<'s>, level: u32) -> Option<&'s Val>
 /// null, so for no value.
 #[tactic(auto, using(crate::proofs::Levels::one_out))]
 pub(crate) fn up_from_unknown<'s>(scope: &Scope<'s>, level: u32) -> Option<&'s Val>
-    ensures { value_or_null result ≡ in_scope level (null ∷ values_of scope.now) }
+    ensures { value_or_null result ≡ in_scope level (null ∷ scope_of scope.now) }
 {
     if level == 0 {
         return None;

@@ -1,8 +1,8 @@
 //! The form of a simple query.
 ghost use Rattle.std.specs.Prelude.{◌≡◌, map};
 ghost use Rattle.cs_syntax.specs.Expression.{steps_of};
-ghost use Rattle.cs_syntax.specs.Queries.{query as expression_of};
-ghost use Rattle.cs_syntax.specs.View.{expression, step as step_of};
+ghost use Rattle.cs_syntax.specs.Queries.{expression_of};
+ghost use Rattle.cs_syntax.specs.View.{expression, step_of};
 ghost use Rattle.cs_plan.specs.Simple.{is_simple, is_simple_rest, is_filter, is_tail_step, are_tail_steps, is_condition};
 ghost use Rattle.cs_plan.specs.Steps.{bracketed};
 
@@ -18,7 +18,7 @@ pub fn is_condition(expr: &Expr) -> bool
     !expr.is_position() && !expr.is_text()
 }
 
-#[tactic(auto, unfolding(cs_syntax::specs::View::step, cs_syntax::specs::View::expression))]
+#[tactic(auto, unfolding(cs_syntax::specs::View::step_of, cs_syntax::specs::View::expression))]
 fn is_filter(step: &Step) -> bool
     ensures { result ≡ is_filter (step_of step.now) }
 {
@@ -28,7 +28,7 @@ fn is_filter(step: &Step) -> bool
     }
 }
 
-#[tactic(auto, unfolding(cs_syntax::specs::View::step, cs_syntax::specs::View::expression))]
+#[tactic(auto, unfolding(cs_syntax::specs::View::step_of, cs_syntax::specs::View::expression))]
 fn is_tail_step(step: &Step) -> bool
     ensures { result ≡ is_tail_step (step_of step.now) }
 {

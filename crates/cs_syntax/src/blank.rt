@@ -1,4 +1,4 @@
-// What stands between tokens: blanks and comments.
+//! What stands between tokens: blanks and comments.
 ghost use Rattle.std.specs.Prelude.{◌≡◌, ◌<◌, ◌≤◌, drop, length, slice_index};
 ghost use Rattle.cs_syntax.specs.Lex.{is_blank, opens_comment, past_blank};
 

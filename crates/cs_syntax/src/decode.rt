@@ -1,4 +1,4 @@
-// What a text token means.
+//! What a text token means.
 ghost use Rattle.std.specs.Prelude.{◌≡◌, ◌≢◌, ◌+◌, ◌<◌, ◌≤◌, IfOk, IsSome, Some, length, slice_index};
 ghost use Rattle.cs_syntax.specs.Ends.{past_plain};
 ghost use Rattle.cs_syntax.specs.Escapes.{decoded};

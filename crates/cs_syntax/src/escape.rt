@@ -1,4 +1,4 @@
-// The escapes of a text.
+//! The escapes of a text.
 ghost use Rattle.std.specs.Prelude.{◌≡◌, ◌+◌, ◌-◌, ◌<◌, ◌≤◌, IfSome, OnSome, length, slice_index};
 ghost use Rattle.cs_syntax.specs.Ends.{braced_at, by_unit_at, escape_at, four_at, hex, unicode_at, unit_at};
 ghost use Rattle.std.specs.Char.{InScalarRange};

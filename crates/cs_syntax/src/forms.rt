@@ -1,9 +1,9 @@
-// The forms of expressions that brackets, slices and entries ask for.
+//! The forms of expressions that brackets, slices and entries ask for.
 ghost use Rattle.std.specs.Prelude.{◌≡◌, map, option_map};
-ghost use Rattle.cs_syntax.specs.Brackets.{is_number, is_position, is_text, keeps_key, keep_key};
-ghost use Rattle.cs_syntax.specs.Brackets.{key_of};
+ghost use Rattle.cs_syntax.specs.Brackets.{is_number, is_position, is_text, text_alone};
+ghost use Rattle.cs_syntax.specs.Brackets.{keeps_key, keep_key, key_of};
 ghost use Rattle.cs_syntax.specs.Expression.{steps_of};
-ghost use Rattle.cs_syntax.specs.View.{expression, step as step_of};
+ghost use Rattle.cs_syntax.specs.View.{expression, step_of};
 
 use crate::tree::{Expr, PreSign, Step};
 
@@ -29,6 +29,17 @@ impl Expr {
         }
     }
 
+    /// The text that the expression is, if it is one alone.
+    #[tactic(auto, unfolding(crate::specs::View::expression))]
+    pub fn text(&self) -> Option<&str>
+        ensures { option_map (λ s. s.now) result ≡ text_alone (expression self.now) }
+    {
+        match self {
+            Expr::Text(text) => Some(text.as_str()),
+            _ => None,
+        }
+    }
+
     /// Whether the expression is a text alone, by which a bracket takes an attribute.
     #[tactic(auto, unfolding(crate::specs::View::expression))]
     pub fn is_text(&self) -> bool
@@ -40,7 +51,7 @@ impl Expr {
     /// The key of an entry that is the expression alone: the word with which the expression
     /// begins. `None` exactly where it begins otherwise, or where a step takes an attribute or is
     /// a piped call.
-    #[tactic(auto, unfolding(crate::specs::View::expression, crate::specs::View::step))]
+    #[tactic(auto, unfolding(crate::specs::View::expression, crate::specs::View::step_of))]
     pub fn key(&self) -> Option<&str>
         ensures { option_map (λ k. k.now) result ≡ key_of (expression self.now) }
     {
@@ -56,7 +67,7 @@ impl Expr {
 }
 
 // Whether the step leaves a word its key.
-#[tactic(auto, unfolding(crate::specs::View::step, crate::specs::View::expression))]
+#[tactic(auto, unfolding(crate::specs::View::step_of, crate::specs::View::expression))]
 fn keeps_key(step: &Step) -> bool
     ensures { result ≡ keeps_key (step_of step.now) }
 {

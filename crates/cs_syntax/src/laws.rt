@@ -1,5 +1,5 @@
-// What the tokens of all texts have in common. The functions do nothing: each is there for its
-// clauses, which hold for all values.
+//! What the tokens of all texts have in common. The functions do nothing: each is there for its
+//! clauses, which hold for all values.
 ghost use Rattle.std.specs.Prelude.{◌≡◌, ℕ, List, IsSome, Some};
 ghost use Rattle.cs_syntax.specs.declared.token.Kind.TheVariants as kind;
 ghost use Rattle.cs_syntax.specs.declared.token.Token.{Token};

@@ -21,7 +21,9 @@ pub use query::Query;
 pub use sign::Sign;
 pub use token::{Kind, Token, TokenFault, next_token, tokens};
 pub use tree::{Arg, BinSign, Elem, Entry, Expr, OrderKey, PreSign, Step};
-pub use written::{has_exponent, has_fraction, whole_number, without_global, written_number};
+pub use written::{
+    has_exponent, has_fraction, is_path, whole_number, without_global, written_number,
+};
 
 #[cfg(test)]
 mod tests;

@@ -1,4 +1,4 @@
-// How far the longest token at a place reaches.
+//! How far the longest token at a place reaches.
 ghost use Rattle.std.specs.Prelude.{◌≡◌, ◌<◌, ◌≤◌, length};
 ghost use Rattle.cs_syntax.specs.Ends.{is_one, is_two, kind_of, param_end, past_word, sign_end, sign_len, token_end};
 ghost use Rattle.cs_syntax.specs.Escapes.{is_quote};

@@ -1,4 +1,4 @@
-// How far a number reaches.
+//! How far a number reaches.
 ghost use Rattle.std.specs.Prelude.{◌≡◌, ◌<◌, ◌≤◌, length};
 ghost use Rattle.cs_syntax.specs.Ends.{exponent_end, fraction_end, number_end, past_digits, past_sign};
 

@@ -1,9 +1,9 @@
-// Queries: expressions without a fault.
+//! Queries: expressions without a fault.
 ghost use Rattle.std.specs.Prelude.{◌≡◌, None, true};
 ghost use Rattle.cs_value.specs.Tree.{null as null_tree};
 ghost use Rattle.cs_value.specs.View.{tree};
 ghost use Rattle.cs_syntax.specs.Faults.{fault};
-ghost use Rattle.cs_syntax.specs.Nulls.{is_null};
+ghost use Rattle.cs_value.specs.Words.{is_null};
 ghost use Rattle.cs_syntax.specs.View.{expression};
 
 use crate::tree::Expr;
@@ -22,13 +22,13 @@ pub struct Query {
 }
 
 impl Query {
-    ghost use Rattle.cs_syntax.specs.Queries.{query};
+    ghost use Rattle.cs_syntax.specs.Queries.{expression_of};
 
     /// The query of the expression, which has no fault. The tree is moved and not copied.
     #[tactic(auto, using(crate::proofs::Nulls::tree_of_null))]
     pub fn of(expr: Expr) -> Query
         requires { fault (expression expr) ≡ None }
-        ensures { query result ≡ expression expr }
+        ensures { expression_of result ≡ expression expr }
     {
         Query {
             expr,
@@ -38,7 +38,7 @@ impl Query {
 
     /// The tree of the query, borrowed.
     pub fn expr(&self) -> &Expr
-        ensures kept { expression result.now ≡ query self.now }
+        ensures kept { expression result.now ≡ expression_of self.now }
         ensures has_no_fault { fault (expression result.now) ≡ None }
     {
         &self.expr

@@ -1,4 +1,4 @@
-// The signs by their bytes.
+//! The signs by their bytes.
 ghost use Rattle.std.specs.Prelude.{◌≡◌};
 ghost use Rattle.cs_syntax.specs.Ends.{one_of, three_of, two_of};
 ghost use Rattle.cs_syntax.specs.Signs.{sign_of};

@@ -1,4 +1,4 @@
-// Tokens of small texts, and what they mean.
+//! Tokens of small texts, and what they mean.
 ghost use Rattle.cs_syntax.specs.Lex.{IsTokenOf};
 
 use super::*;

@@ -1,4 +1,4 @@
-// How far a text token reaches.
+//! How far a text token reaches.
 ghost use Rattle.std.specs.Prelude.{◌≡◌, ◌+◌, ◌<◌, IfSome, length, slice_index};
 ghost use Rattle.cs_syntax.specs.Ends.{piece_end, text_end};
 

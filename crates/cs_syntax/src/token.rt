@@ -1,4 +1,4 @@
-// The tokens of a text.
+//! The tokens of a text.
 ghost use Rattle.std.specs.Prelude.{◌≡◌, ◌^◌, ◌<◌, ◌≤◌, All, IfErr, IfOk, IfSome, Some, length, option_and_then, vec_len};
 ghost use Rattle.cs_syntax.specs.declared.token.Kind.TheVariants as kind;
 ghost use Rattle.cs_syntax.specs.Expression.{param_tok};

@@ -1,4 +1,4 @@
-// The syntax tree of a query.
+//! The syntax tree of a query.
 
 use cs_value::Txt;
 

@@ -1,5 +1,6 @@
-// What the name of a function and a number say as they are written.
+//! What the name of a function and a number say as they are written.
 ghost use Rattle.std.specs.Prelude.{◌≡◌, ◌<◌, ◌≤◌, IfSome, MatchOption, Some, option_map, pos};
+ghost use Rattle.cs_syntax.specs.Faults.{is_path};
 ghost use Rattle.cs_syntax.specs.Functions.{without_global};
 ghost use Rattle.cs_syntax.specs.Numbers.{has_exponent, has_fraction, whole_number, written_number};
 
@@ -13,6 +14,13 @@ pub fn without_global(name: &str) -> &[u8]
     } else {
         bytes
     }
+}
+
+/// Whether a name is `path`, which stands on the right of `in` alone.
+pub fn is_path(name: &str) -> bool
+    ensures { result ≡ is_path name.now }
+{
+    name == "path"
 }
 
 /// Whether a number as it is written has an exponent.

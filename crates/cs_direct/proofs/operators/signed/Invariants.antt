@@ -1,6 +1,6 @@
 use Rattle.std.proofs.Common.{◌≡◌, ◌≤◌, drop, length}
 use Rattle.cs_meaning.specs.Operators.{signed}
-use Rattle.cs_direct.specs.Operand.{operand}
+use Rattle.cs_operand.specs.Operands.{operand}
 use Rattle.cs_direct.proofs.operators.signed.Given as goal
 
 abbrev pub invariant-loop-at : goal.invariant-loop-at

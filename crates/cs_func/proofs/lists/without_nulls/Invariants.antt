@@ -1,6 +1,6 @@
 use Rattle.std.proofs.Common.{◌≡◌, ◌++◌, drop, not, filter}
 use Rattle.cs_value.specs.View.{list_tree}
-use Rattle.cs_func.specs.Lists.{is_null}
+use Rattle.cs_value.specs.Words.{is_null}
 use Rattle.cs_func.proofs.lists.without_nulls.Given as goal
 
 abbrev pub invariant-loop-item : goal.invariant-loop-item

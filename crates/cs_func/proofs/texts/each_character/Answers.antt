@@ -2,7 +2,7 @@ use Rattle.std.proofs.Common.{◌++◌, map, encode_utf8, sym, ap, ◌∙◌}
 use Rattle.std.proofs.lemmas.Str.{IsUtf8-past_char, chars_past_char}
 use Rattle.cs_value.specs.Tree.{text}
 use Rattle.cs_value.specs.View.{list_tree}
-use Rattle.cs_func.proofs.Characters.{characters-ended}
+use Rattle.cs_func.proofs.CodePoints.{characters-ended}
 use Rattle.cs_func.proofs.Pushed.{push-front}
 use Rattle.cs_func.proofs.texts.each_character.Goals as goal
 
