@@ -3,9 +3,10 @@ use Rattle.std.proofs.Common.{◌≡◌, ℕ, List, ◌∷◌, Option, Ordering,
 use Rattle.std.specs.Cmp.Lexicographic.{slice_cmp}
 use Rattle.std.specs.Ordering.{match_ordering, ordering_reverse}
 use Rattle.std.proofs.lemmas.Cmp.{nat_list_cmp_total}
-use Rattle.cs_value.specs.Tree.{Tree, null, object, Pairs, no_pairs, more_pairs}
-use Rattle.cs_value.specs.Pairs.{find, put}
-use Rattle.cs_alter.specs.Within.{given, object_pairs, at_name}
+use Rattle.cs_value.specs.Tree.{Tree, null, boolean, integer, text, list, object, Pairs, no_pairs, more_pairs}
+use Rattle.cs_value.specs.Pairs.{attribute, find, put}
+use Rattle.cs_alter.specs.Within.{given, object_pairs}
+use Rattle.cs_value.specs.Words.{field}
 
 own_reverse : (o : Ordering) → o ≡ ordering_reverse o → o ≡ Equal
 own_reverse Less h = absurd (cc)
@@ -26,12 +27,22 @@ pub put_twice : (k : List ℕ) (t u : Tree) (ps : Pairs) → put k t (put k u ps
 put_twice k t u no_pairs = rw (same k) refl
 put_twice k t u (more_pairs l v ps) = twice_by (slice_cmp nat_cmp k l) k l t u v ps refl (put_twice k t u ps)
 
+-- an attribute is found among the attributes of an object
+pub found_in : (n : List ℕ) (v : Tree) → find n (object_pairs v) ≡ attribute n v
+found_in n null = refl
+found_in n (boolean b) = refl
+found_in n (integer m) = refl
+found_in n (text s) = refl
+found_in n (list ts) = refl
+found_in n (object ps) = refl
+
 pub gift_step : (names rest : List (List ℕ)) (n k l : List ℕ) (val new held below inner : Tree) (old : Option Tree) (ps qs rs : Pairs)
     → names ≡ n ∷ rest → k ≡ n → l ≡ n → ps ≡ object_pairs val → old ≡ find k ps → qs ≡ put k held ps → below ≡ unwrap_or old null → inner ≡ given rest new below → rs ≡ put l inner qs
     → object rs ≡ given names new val
 gift_step names rest n k l val new held below inner old ps qs rs is k_is l_is ps_is old_is qs_is below_is inner_is rs_is =
     let twice = put_twice n inner held ps in
     let left : rs ≡ put n inner ps = rs_is ∙ ap (λ x. put x inner qs) l_is ∙ ap (put n inner) (qs_is ∙ ap (λ x. put x held ps) k_is) ∙ twice in
-    let deep : inner ≡ given rest new (at_name n val) =
-    inner_is ∙ ap (given rest new) (below_is ∙ ap (λ o. unwrap_or o null) (old_is ∙ ap (λ x. find x ps) k_is ∙ ap (find n) ps_is)) in
-    rw is (ap object (left ∙ ap (λ x. put n x ps) deep ∙ ap (put n (given rest new (at_name n val))) ps_is))
+    let deep : inner ≡ given rest new (field n val) =
+    inner_is ∙ ap (given rest new) (below_is ∙ ap (λ o. unwrap_or o null) (old_is ∙ ap (λ x. find x ps) k_is
+    ∙ ap (find n) ps_is ∙ found_in n val)) in
+    rw is (ap object (left ∙ ap (λ x. put n x ps) deep ∙ ap (put n (given rest new (field n val))) ps_is))

@@ -1,6 +1,6 @@
 -- What stands at a location of a value, and the value with something else there: this project's
 -- profile of Sanity's HTTP documentation, "Patches".
-use Rattle.std.specs.Prelude.{ℕ, ℤ, zero, suc, List, [], ◌∷◌, Bool, true, false, ◌&&◌, Option, Some, None, option_and_then, unwrap_or, bytes_eq, nat_eq}
+use Rattle.std.specs.Prelude.{ℕ, ℤ, zero, suc, List, [], ◌∷◌, Bool, true, false, ◌&&◌, Option, Some, None, option_and_then, bytes_eq, nat_eq}
 use Rattle.std.specs.Ordering.{nat_cmp, match_ordering}
 use Rattle.std.specs.Cmp.Lexicographic.{slice_cmp}
 use Rattle.cs_value.specs.Tree.{Tree, null, integer, list, object, Trees, no_trees, more_trees, Pairs, no_pairs, more_pairs}
@@ -9,6 +9,7 @@ use Rattle.cs_ops.specs.Arithmetic.{number}
 use Rattle.cs_jsonmatch.specs.Places.{Location}
 use Rattle.cs_jsonmatch.specs.declared.places.Part.{Part}
 use Rattle.cs_jsonmatch.specs.declared.places.Part.TheVariants.{Name, Pos}
+use Rattle.cs_value.specs.Words.{field}
 
 -- the element at a position
 abbrev pub nth : ℕ → Trees → Option Tree
@@ -96,15 +97,11 @@ abbrev pub object_pairs : Tree → Pairs
 object_pairs (object ps) = ps
 object_pairs _ = no_pairs
 
--- what stands under a name; null where nothing does
-abbrev pub at_name : List ℕ → Tree → Tree
-at_name n t = unwrap_or (find n (object_pairs t)) null
-
 -- The value with `new` where the names lead from it. Where nothing stands on the way, objects are
 -- made.
 abbrev pub given : List (List ℕ) → Tree → Tree → Tree
 given [] new t = new
-given (n ∷ ns) new t = object (put n (given ns new (at_name n t)) (object_pairs t))
+given (n ∷ ns) new t = object (put n (given ns new (field n t)) (object_pairs t))
 
 -- a number with f of it, null where that is no whole number of 64 bits; anything else as it is
 abbrev pub recount : (ℤ → ℤ) → Tree → Tree

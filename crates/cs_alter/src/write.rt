@@ -6,7 +6,6 @@ ghost use Rattle.cs_alter.specs.Within.{changed, removed, update_pair, update_it
 ghost use Rattle.cs_alter.specs.Alterations.{altered};
 
 use crate::alteration::Alteration;
-use crate::parts::copy_part;
 use crate::perform::perform;
 use cs_jsonmatch::Part;
 use cs_value::{Fields, NoMemory, Txt, Val};
@@ -93,6 +92,6 @@ pub fn remove(alloc: Global, val: &mut Val, location: &[Part]) -> Result<(), NoM
         *val = Val::Null;
         return Ok(());
     };
-    let alteration = Alteration::Remove(copy_part(alloc, part)?);
+    let alteration = Alteration::Remove(part.copy(alloc)?);
     alter(alloc, val, before, &alteration)
 }

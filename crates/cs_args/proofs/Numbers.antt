@@ -1,5 +1,5 @@
 -- What the library on which words are read says of the number of `--gen`.
-use Rattle.std.proofs.Common.{◌≡◌, ◌∙◌, ◌<◌, ◌≤◌, ◌^◌, refl, ap, sym, subst, ℕ, zero, suc, Bool, true, false, not, ◌&&◌, ◌==◌, cond, drop, length, List, [], ◌∷◌, inl, inr, Option, Some, None, map, option_map, codes, arith}
+use Rattle.std.proofs.Common.{◌≡◌, ◌∙◌, ◌<◌, ◌≤◌, ◌^◌, refl, ap, sym, subst, ℕ, zero, suc, Bool, true, false, ◌&&◌, ◌==◌, cond, drop, length, List, [], ◌∷◌, inl, inr, Option, Some, None, map, option_map, codes, arith}
 use Rattle.std.specs.Prelude.{IfSome, Ok, Err, Result, pos, slice_get, slice_index, unwrap_or}
 use Rattle.std.specs.Borrow.{Bor}
 use Rattle.std.specs.List.{All, slice_index_or}

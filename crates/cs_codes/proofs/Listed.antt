@@ -1,5 +1,5 @@
 -- A document that has a key has the key's code among its codes.
-use Rattle.std.proofs.Common.{◌≡◌, ℕ, ℤ, ◌-◌, ◌<◌, ◌≤◌, ◌==◌, length, List, [], ◌∷◌, ◌++◌, map, Option, Some, None, Ordering, Less, Equal, Greater, nat_cmp, Bool, true, false, cond, ◌||◌, refl, sym, ap, ◌∙◌, subst, bytes_eq, arith, true≢false, codes as bytes_of, eq-eqb, ne_eqb}
+use Rattle.std.proofs.Common.{◌≡◌, ℕ, ℤ, ◌-◌, ◌<◌, ◌≤◌, ◌==◌, length, List, [], ◌∷◌, ◌++◌, map, Option, Some, None, Ordering, Less, Equal, Greater, nat_cmp, Bool, true, false, cond, ◌||◌, refl, sym, ap, ◌∙◌, subst, bytes_eq, arith, true≢false, eq-eqb, ne_eqb}
 use Rattle.std.specs.Cmp.Lexicographic.{slice_cmp}
 use Rattle.std.specs.Ordering.{match_ordering}
 use Rattle.std.specs.List.{list_any}
@@ -13,7 +13,7 @@ use Rattle.std.proofs.lemmas.Map.Lookups.{exact_bytes}
 use Rattle.std.proofs.Math.Bool.{or-true}
 use Rattle.cs_value.specs.Tree.{Tree, null, boolean, integer, text, list, object, Trees, no_trees, more_trees, Pairs, no_pairs, more_pairs, members}
 use Rattle.cs_value.specs.Pairs.{find}
-use Rattle.cs_value.specs.Words.{as_text, followed}
+use Rattle.cs_value.specs.Words.{followed, ref_of}
 use Rattle.cs_view.specs.Document.{passes}
 use Rattle.cs_view.specs.Keys.{has, equals, has_element, has_ref, some_has_ref, some_pair_has_ref}
 use Rattle.cs_view.specs.declared.key.Scalar.{Scalar}
@@ -21,7 +21,7 @@ use Rattle.cs_view.specs.declared.key.Scalar.TheVariants.{Bool as Boolean, Num, 
 use Rattle.cs_view.specs.declared.key.Key.{Key}
 use Rattle.cs_view.specs.declared.key.Key.TheVariants.{All, Id, Path, Elem, Ref}
 use Rattle.cs_view.specs.Limits.{most_names}
-use Rattle.cs_codes.specs.Codes.{Seed, Hash, start, with_text, with_names, with_value, with_element, boolean_code, scalar_code, ref_code, key_code, scalar_codes, elements_codes, here, inside, pairs_inside, own_refs, refs, trees_refs, pairs_refs, codes, is_among}
+use Rattle.cs_codes.specs.Codes.{Seed, Hash, start, with_text, with_names, with_value, with_element, boolean_code, scalar_code, ref_code, key_code, scalar_codes, elements_codes, here, inside, pairs_inside, own_refs, refs, trees_refs, pairs_refs, key_codes, is_among}
 use Rattle.cs_codes.specs.Kept.{IsKept}
 
 first : (c : ℕ) → is_among c (c ∷ []) ≡ true
@@ -135,7 +135,7 @@ mutual
   ref_listed seed target (integer n) h = h
   ref_listed seed target (text s) h = h
   ref_listed seed target (list ts) h = trees_listed seed target ts h
-  ref_listed seed target (object ps) h = either _ _ (ref_code seed target) (own_refs seed ps) (pairs_refs seed ps) (own_listed seed target (option_and_then as_text (find (bytes_of "_ref") ps))) (pairs_listed seed target ps) h
+  ref_listed seed target (object ps) h = either _ _ (ref_code seed target) (own_refs seed ps) (pairs_refs seed ps) (own_listed seed target (ref_of ps)) (pairs_listed seed target ps) h
 
   trees_listed : (seed : Seed) (target : List ℕ) (ts : Trees) → some_has_ref target ts ≡ true → is_among (ref_code seed target) (trees_refs seed ts) ≡ true
   trees_listed seed target no_trees h = h
@@ -146,7 +146,7 @@ mutual
   pairs_listed seed target (more_pairs k t ps) h = either _ _ (ref_code seed target) (refs seed t) (pairs_refs seed ps) (ref_listed seed target t) (pairs_listed seed target ps) h
 
 -- ---- any key that is kept
-pub listed : (seed : Seed) (q : Key) (d : Tree) → IsKept q → has q d ≡ true → is_among (key_code seed q) (codes seed d) ≡ true
+pub listed : (seed : Seed) (q : Key) (d : Tree) → IsKept q → has q d ≡ true → is_among (key_code seed q) (key_codes seed d) ≡ true
 listed seed All d kept h = absurd kept
 listed seed (Id t) d kept h = absurd kept
 listed seed (Path ns s) d kept h = among-right _ (refs seed d) (inside most_names (start seed) d) (few_listed seed false s ns kept.0 kept.1 d h)

@@ -1,7 +1,7 @@
 -- Codes: a number for each key that an index keeps, and the numbers of the keys that a document
 -- has: this project's profile. They come of a hash whose seed is the index's own. Keys that differ
 -- may have one code.
-use Rattle.std.specs.Prelude.{ℕ, ℤ, ◌-◌, ◌==◌, Bool, cond, List, [], ◌∷◌, ◌++◌, map, option_and_then, codes as bytes_of}
+use Rattle.std.specs.Prelude.{ℕ, ℤ, ◌-◌, ◌==◌, Bool, cond, List, [], ◌∷◌, ◌++◌, map, Option, Some, None}
 use Rattle.std.specs.List.{list_any, fold}
 use Rattle.std.specs.Bool.{nat_eq}
 use Rattle.std.specs.Option.{option_to_list}
@@ -11,8 +11,7 @@ use Rattle.std.specs.RandomState.{initial_hasher}
 use Rattle.std.specs.declared.hash.DefaultHasher.{DefaultHasher}
 use Rattle.std.specs.declared.hash.RandomState.{RandomState}
 use Rattle.cs_value.specs.Tree.{Tree, null, boolean, integer, text, list, object, Trees, no_trees, more_trees, Pairs, no_pairs, more_pairs}
-use Rattle.cs_value.specs.Pairs.{find}
-use Rattle.cs_value.specs.Words.{as_text}
+use Rattle.cs_value.specs.Words.{ref_of}
 use Rattle.cs_view.specs.Limits.{most_names}
 use Rattle.cs_view.specs.declared.key.Scalar.{Scalar}
 use Rattle.cs_view.specs.declared.key.Scalar.TheVariants.{Bool as Boolean, Num, Text}
@@ -119,8 +118,7 @@ abbrev mutual
 
 -- the code of the text that an object has as `_ref`
 abbrev pub own_refs : Seed → Pairs → List ℕ
-own_refs seed ps =
-    map (ref_code seed) (option_to_list (option_and_then as_text (find (bytes_of "_ref") ps)))
+own_refs seed ps = map (ref_code seed) (option_to_list (ref_of ps))
 
 abbrev mutual
   pub refs : Seed → Tree → List ℕ
@@ -140,8 +138,13 @@ abbrev mutual
   pairs_refs seed (more_pairs k t ps) = refs seed t ++ pairs_refs seed ps
 
 -- the codes of a document
-abbrev pub codes : Seed → Tree → List ℕ
-codes seed d = refs seed d ++ inside most_names (start seed) d
+abbrev pub key_codes : Seed → Tree → List ℕ
+key_codes seed d = refs seed d ++ inside most_names (start seed) d
+
+-- the codes of what stands on a side of a change
+abbrev pub side_codes : Seed → Option Tree → List ℕ
+side_codes seed None = []
+side_codes seed (Some d) = key_codes seed d
 
 abbrev pub is_among : ℕ → List ℕ → Bool
 is_among c cs = list_any (λ x. nat_eq c x) cs

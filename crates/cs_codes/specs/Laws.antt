@@ -3,11 +3,11 @@ use Rattle.std.specs.Prelude.{◌≡◌, true}
 use Rattle.cs_value.specs.Tree.{Tree}
 use Rattle.cs_view.specs.Keys.{has}
 use Rattle.cs_view.specs.declared.key.Key.{Key}
-use Rattle.cs_codes.specs.Codes.{Seed, key_code, codes, is_among}
+use Rattle.cs_codes.specs.Codes.{Seed, key_code, key_codes, is_among}
 use Rattle.cs_codes.specs.Kept.{IsKept}
 
 -- a document that has a key which an index keeps has the key's code among its codes
 abbrev pub KeysAreListed : Type 0
 KeysAreListed =
     (seed : Seed) (q : Key) (d : Tree) → IsKept q → has q d ≡ true
-    → is_among (key_code seed q) (codes seed d) ≡ true
+    → is_among (key_code seed q) (key_codes seed d) ≡ true

@@ -2,8 +2,8 @@
 ghost use Rattle.std.specs.Prelude.{◌≡◌, ◌<◌, ◌++◌, IfOk, OnOk};
 ghost use Rattle.cs_value.specs.Tree.{trees};
 ghost use Rattle.cs_value.specs.View.{tree, fields, list_tree};
-ghost use Rattle.cs_view.specs.View.{doc as document};
-ghost use Rattle.cs_codes.specs.Codes.{scalar_codes, elements_codes, here, inside, pairs_inside, own_refs, refs, trees_refs, pairs_refs, codes};
+ghost use Rattle.cs_view.specs.View.{document_of};
+ghost use Rattle.cs_codes.specs.Codes.{scalar_codes, elements_codes, here, inside, pairs_inside, own_refs, refs, trees_refs, pairs_refs, key_codes};
 
 use crate::code::{
     boolean_code, number_code, ref_code, start, text_code, with_element, with_text, with_value,
@@ -130,7 +130,7 @@ fn put_own_ref(seed: &RandomState, object: &Fields, out: &mut Vec<u64>) -> Resul
     ensures { OnOk result (out.new.items
         ≡ out.old.items ++ own_refs seed.now (fields object.now)) }
 {
-    if let Some(Val::Text(target)) = object.get("_ref") {
+    if let Some(target) = object.reference() {
         out.push(ref_code(seed, target))?;
     }
     Ok(())
@@ -140,7 +140,8 @@ fn put_own_ref(seed: &RandomState, object: &Fields, out: &mut Vec<u64>) -> Resul
 /// and those of the scalars at its attribute paths of at most four names and in the lists there.
 /// `NoMemory` where the allocator has no room for them.
 pub fn put_codes(seed: &RandomState, doc: &Doc, out: &mut Vec<u64>) -> Result<(), NoMemory>
-    ensures { OnOk result (out.new.items ≡ out.old.items ++ codes seed.now (document doc.now)) }
+    ensures { OnOk result (out.new.items ≡ out.old.items
+        ++ key_codes seed.now (document_of doc.now)) }
 {
     put_refs(seed, doc.val(), out)?;
     put_inside(MOST_NAMES, start(seed), doc.val(), out)
@@ -149,7 +150,7 @@ pub fn put_codes(seed: &RandomState, doc: &Doc, out: &mut Vec<u64>) -> Result<()
 /// The codes of the keys of a document that an index keeps, as [`put_codes`] adds them. `NoMemory`
 /// where the allocator has no room for them.
 pub fn codes_of(alloc: Global, seed: &RandomState, doc: &Doc) -> Result<Vec<u64>, NoMemory>
-    ensures { IfOk result (λ cs. cs.items ≡ codes seed.now (document doc.now)) }
+    ensures { IfOk result (λ cs. cs.items ≡ key_codes seed.now (document_of doc.now)) }
 {
     let mut out = Vec::with_capacity(alloc, USUAL_CODES)?;
     put_codes(seed, doc, &mut out)?;

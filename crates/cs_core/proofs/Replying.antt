@@ -12,7 +12,7 @@ use Rattle.cs_reply.specs.Refusal.{Refusal, deep_query, syntax, bad_token as bad
 use Rattle.cs_reply.specs.View.{Appended}
 use Rattle.cs_machine.specs.Causes.{of_fault, why_none}
 use Rattle.cs_machine.specs.Fold.{Stepped}
-use Rattle.cs_wire.specs.Blank.{is_blank}
+use Rattle.cs_wire.specs.Blank.{is_blank_line}
 use Rattle.cs_machine.specs.Machine.{deepest_line, heard, step}
 use Rattle.cs_machine.specs.Refused.{refuse, by_reading, with_query}
 use Rattle.cs_machine.specs.Replies.{reply_lines, numbered, said}
@@ -58,13 +58,13 @@ silent before tally core n usable tallied =
     }
 
 pub step_blank : (s : State) (n : ℕ) (line : List ℕ)
-    → is_blank line ≡ true
+    → is_blank_line line ≡ true
     → step s n line ≡ record { state = s; replies = [] }
 unfolding step
 step_blank s n line b = rw b refl
 
 pub step_heard : (s : State) (n : ℕ) (line : List ℕ)
-    → is_blank line ≡ false
+    → is_blank_line line ≡ false
     → step s n line ≡ heard row s n (outcome deepest_line line)
 unfolding step
 step_heard s n line b = rw b refl

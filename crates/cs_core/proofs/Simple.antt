@@ -7,7 +7,7 @@ use Rattle.cs_syntax.specs.Expression.{Expression}
 use Rattle.cs_parse.specs.Verdict.{Reading, query, bad_token, too_deep as deep_query, no_syntax, faulty, verdict}
 use Rattle.cs_plan.specs.Simple.{is_simple}
 use Rattle.cs_json.specs.Reading.{Outcome, not_json, too_deep, not_whole, value, outcome}
-use Rattle.cs_wire.specs.Blank.{is_blank}
+use Rattle.cs_wire.specs.Blank.{is_blank_line}
 use Rattle.cs_wire.specs.Commands.{Request, mutate, query as ask, live, listen, stop, at}
 use Rattle.cs_wire.specs.Moments.{is_moment}
 use Rattle.cs_wire.specs.Rows.{command}
@@ -20,7 +20,7 @@ use Rattle.cs_reply.specs.Refusal.{bad_moment, full_subscriptions, name_used, no
 use Rattle.cs_reply.specs.Reply.{found, set, stopped}
 use Rattle.cs_listen.specs.Events.{Listener}
 use Rattle.cs_meaning.specs.Values.{query_value}
-use Rattle.cs_live.specs.Lives.{LiveQuery, are_simple_lives, all_refreshed, has_live_name, made, most_lives, without_name}
+use Rattle.cs_live.specs.Lives.{LiveQuery, are_simple_lives, all_refreshed, has_live_name, made, most_subscriptions, without_name}
 use Rattle.cs_machine.specs.Fold.{Stepped}
 use Rattle.cs_machine.specs.Machine.{by_command, deepest_line, heard, step}
 use Rattle.cs_machine.specs.Refused.{by_reading, refuse}
@@ -95,9 +95,9 @@ module _ (s : State) (simple : are_simple_lives s.lives ≡ true) where
   subscribing_keeps : (name : List ℕ) (count : ℕ) (next : Stepped State) → Keeps next
       → Keeps (subscribing s name count next)
   subscribing_keeps name count next h =
-      let full : Stepped State = refuse s (full_subscriptions most_lives) in
-      either (is_taken name s) (refuse s (name_used name)) (cond (nat_le most_lives count) full next)
-      simple (either (nat_le most_lives count) full next simple h)
+      let full : Stepped State = refuse s (full_subscriptions most_subscriptions) in
+      either (is_taken name s) (refuse s (name_used name)) (cond (nat_le most_subscriptions count) full next)
+      simple (either (nat_le most_subscriptions count) full next simple h)
 
   live_keeps : (name text : List ℕ) (params : Pairs) → is_simple_reading (verdict text) ≡ true
       → Keeps (row_live s name text params)
@@ -154,8 +154,8 @@ module _ (s : State) (simple : are_simple_lives s.lives ≡ true) where
         (row_keeps n request h)
 
 pub keep_simple : SimpleLinesKeepLivesSimple
-keep_simple s n line h simple = by_blank (is_blank line) refl h where
-  by_blank : (b : Bool) → is_blank line ≡ b
+keep_simple s n line h simple = by_blank (is_blank_line line) refl h where
+  by_blank : (b : Bool) → is_blank_line line ≡ b
       → is_simple_command n (cond b None (read_command (outcome deepest_line line))) ≡ true
       → are_simple_lives (step s n line).state.lives ≡ true
   by_blank true is h =

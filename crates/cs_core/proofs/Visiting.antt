@@ -2,7 +2,7 @@
 use Rattle.std.proofs.Common.{◌≡◌, sym, subst, ℕ, List, Bool, false, cond, Option, None}
 use Rattle.cs_view.specs.Changes.{changes_between}
 use Rattle.cs_json.specs.Reading.{outcome}
-use Rattle.cs_wire.specs.Blank.{is_blank}
+use Rattle.cs_wire.specs.Blank.{is_blank_line}
 use Rattle.cs_wire.specs.Commands.{Request}
 use Rattle.cs_docs.specs.Store.{docs}
 use Rattle.cs_live.specs.Laws.{SimpleLivesAskNothing}
@@ -17,7 +17,7 @@ use Rattle.cs_core.specs.declared.machine.Core.{Core}
 use Rattle.cs_core.proofs.Replying.{step_heard}
 
 -- a line that is not blank
-pub few_heard : (core : Core) (n : ℕ) (line : List ℕ) (old new : ℕ) → is_blank line ≡ false
+pub few_heard : (core : Core) (n : ℕ) (line : List ℕ) (old new : ℕ) → is_blank_line line ≡ false
     → VisitsFew (is_simple_command n (read_command (outcome deepest_line line)))
     (command_cost (state core) n (read_command (outcome deepest_line line))) core
     (heard row (state core) n (outcome deepest_line line)) old new

@@ -2,7 +2,7 @@
 use Rattle.std.specs.Prelude.{◌≡◌, ◌≤◌, ℕ, ◌+◌, List, Bool, true, cond, Option, Some, None}
 use Rattle.cs_parse.specs.Verdict.{verdict}
 use Rattle.cs_json.specs.Reading.{Outcome, not_json, too_deep, not_whole, value, outcome}
-use Rattle.cs_wire.specs.Blank.{is_blank}
+use Rattle.cs_wire.specs.Blank.{is_blank_line}
 use Rattle.cs_wire.specs.Commands.{Request, mutate, query, live, listen, stop, at}
 use Rattle.cs_wire.specs.Rows.{command}
 use Rattle.cs_body.specs.Body.{body_of}
@@ -51,7 +51,7 @@ read_command (value t) = command t
 
 -- the command on a line, if there is one
 abbrev pub line_command : List ℕ → Option Request
-line_command line = cond (is_blank line) None (read_command (outcome deepest_line line))
+line_command line = cond (is_blank_line line) None (read_command (outcome deepest_line line))
 
 -- each query of the line is refused or simple
 abbrev pub is_simple_line : ℕ → List ℕ → Bool

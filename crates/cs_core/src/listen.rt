@@ -3,7 +3,7 @@ ghost use Rattle.std.specs.Prelude.{◌≡◌, ◌<◌, ◌^◌, IfOk, OnErr, Bo
 ghost use Rattle.cs_value.specs.Tree.{Pairs};
 ghost use Rattle.cs_value.specs.View.{fields};
 ghost use Rattle.cs_syntax.specs.Expression.{Expression};
-ghost use Rattle.cs_syntax.specs.Queries.{query as expression_of};
+ghost use Rattle.cs_syntax.specs.Queries.{expression_of};
 ghost use Rattle.cs_plain.specs.Plain.{listened_filter};
 ghost use Rattle.cs_plain.specs.Predicates.{filter as filter_of};
 ghost use Rattle.cs_listen.specs.Listeners.{NotTaken, listeners};

@@ -1,7 +1,7 @@
 //! The row of `live`: a query whose answer is told anew where a transaction changes it.
 ghost use Rattle.std.specs.Prelude.{◌≡◌, ◌<◌, ◌≤◌, ◌+◌, ◌^◌, IfOk, IfErr, OnOk, OnErr, length, true};
 ghost use Rattle.cs_value.specs.View.{fields};
-ghost use Rattle.cs_syntax.specs.Queries.{query as expression_of};
+ghost use Rattle.cs_syntax.specs.Queries.{expression_of};
 ghost use Rattle.cs_live.specs.Entries.{said};
 ghost use Rattle.cs_live.specs.Fits.{HasRoom, IsCause};
 ghost use Rattle.cs_live.specs.Lives.{made, say, without_name};

@@ -7,7 +7,7 @@ ghost use Rattle.cs_value.specs.Tree.{widest};
 ghost use Rattle.cs_wire.specs.View.{request};
 ghost use Rattle.cs_wire.specs.Within.{IsWithin};
 ghost use Rattle.cs_docs.specs.Store.{docs as docs_of};
-ghost use Rattle.cs_wire.specs.Blank.{is_blank};
+ghost use Rattle.cs_wire.specs.Blank.{is_blank_line};
 ghost use Rattle.cs_machine.specs.Machine.{deepest_line};
 ghost use Rattle.cs_gen.specs.Tally.{IsTally};
 ghost use Rattle.cs_core.specs.Core.{state, IsSound, IsUsable};
@@ -153,7 +153,7 @@ impl Core {
         ensures sound { IsSound self.new }
         ensures leaves { IfErr result (λ fault. LeavesAfter fault self.old self.new
             (step (state self.old) line.now.number line.now.bytes.items)) }
-        ensures blank { self.old.state.spent ≡ false → is_blank line.now.bytes.items ≡ true
+        ensures blank { self.old.state.spent ≡ false → is_blank_line line.now.bytes.items ≡ true
             → IsOk result }
         ensures visits { VisitsFew (is_simple_line line.now.number line.now.bytes.items)
             (line_cost (state self.old) line.now.number line.now.bytes.items) self.old
@@ -186,7 +186,7 @@ impl Core {
             line.now.number (step (state self.old) line.now.number line.now.bytes.items)) }
         ensures leaves { OnErr result (Leaves self.old self.new
             (step (state self.old) line.now.number line.now.bytes.items)) }
-        ensures blank { is_blank line.now.bytes.items ≡ true → IsOk result }
+        ensures blank { is_blank_line line.now.bytes.items ≡ true → IsOk result }
         ensures visits { VisitsFew (is_simple_line line.now.number line.now.bytes.items)
             (line_cost (state self.old) line.now.number line.now.bytes.items) self.old
             (step (state self.old) line.now.number line.now.bytes.items) steps.old steps.new }

@@ -1,7 +1,7 @@
 //! The row of `query`: the value of a query over the documents as they are.
 ghost use Rattle.std.specs.Prelude.{◌≡◌, ◌<◌, ◌≤◌, ◌+◌, ◌^◌, IfOk, OnOk, OnErr, length, true};
 ghost use Rattle.cs_value.specs.View.{fields};
-ghost use Rattle.cs_syntax.specs.Queries.{query as expression_of};
+ghost use Rattle.cs_syntax.specs.Queries.{expression_of};
 ghost use Rattle.cs_parts.specs.Parts.{got};
 ghost use Rattle.cs_meaning.specs.Hits.{cost};
 ghost use Rattle.cs_meaning.specs.Values.{query_value};

@@ -9,7 +9,7 @@ use Rattle.cs_view.specs.Document.{id_of}
 use Rattle.cs_view.specs.Dataset.{stands}
 use Rattle.cs_view.proofs.Booleans.{and-left, and-right}
 use Rattle.cs_docs.specs.Limits.{most_documents}
-use Rattle.cs_shelf.specs.Referring.{first_of}
+use Rattle.cs_value.specs.Words.{first_of}
 use Rattle.cs_docs.specs.References.{strong, missing, clean, dangling_in, first_dangling}
 use Rattle.cs_docs.specs.Verdict.{fits, full, of_pair, verdict}
 

@@ -6,9 +6,9 @@ use Rattle.std.specs.FinMap.Entries.{by_order}
 use Rattle.std.proofs.lemmas.Bool.{and_from}
 use Rattle.cs_value.specs.Tree.{Tree}
 use Rattle.cs_view.specs.Document.{id_of}
-use Rattle.cs_view.specs.Dataset.{id_cmp, same_id, At, stands, with_doc}
+use Rattle.cs_view.specs.Dataset.{id_cmp, same_id, standing, stands, with_doc}
 use Rattle.cs_view.proofs.Booleans.{and-left, and-right}
-use Rattle.cs_view.proofs.Datasets.{At-with_doc}
+use Rattle.cs_view.proofs.Datasets.{standing-with_doc}
 use Rattle.cs_docs.specs.Limits.{most_documents}
 use Rattle.cs_docs.specs.References.{strong, clean}
 
@@ -17,8 +17,8 @@ stands_still : (d : Tree) (docs : List Tree) (t : List ℕ)
     → stands t docs ≡ true
     → stands t (with_doc d docs) ≡ true
 stands_still d docs t h =
-    ap is_some (At-with_doc t d docs)
-    ∙ elim (same_id t (id_of d)) as (λ b. is_some (cond b (Some d) (At t docs)) ≡ true) [
+    ap is_some (standing-with_doc t d docs)
+    ∙ elim (same_id t (id_of d)) as (λ b. is_some (cond b (Some d) (standing t docs)) ≡ true) [
       | true ↦ refl
       | false ↦ h
     ]

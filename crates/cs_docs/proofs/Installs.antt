@@ -8,11 +8,11 @@ use Rattle.std.specs.FinMap.Entries.{find, below_all}
 use Rattle.std.proofs.lemmas.Bool.{and_from}
 use Rattle.cs_value.specs.Tree.{Tree}
 use Rattle.cs_view.specs.Document.{id_of, passes}
-use Rattle.cs_view.specs.Dataset.{id_cmp, same_id, keyed, At, stands, ascending, with_doc, without}
-use Rattle.cs_view.specs.Changes.{Edit, ids_ascend, is_of_id, are_changes, LeadFrom, After, after_of}
+use Rattle.cs_view.specs.Dataset.{id_cmp, same_id, keyed, standing, stands, ascending, with_doc, without}
+use Rattle.cs_view.specs.Changes.{Edit, ids_ascend, is_of_id, are_changes, LeadFrom, after_changes, after_of}
 use Rattle.cs_view.proofs.Booleans.{and-left, and-right}
-use Rattle.cs_view.proofs.Datasets.{same_id-same, same_id-sym, lower-differs, find-above, At-with_doc, At-without, ascending-placed, same_docs}
-use Rattle.cs_view.proofs.Changed.{OwnIds, own_ids, At-After, ascending-After, each_found, AreFoundIn}
+use Rattle.cs_view.proofs.Datasets.{same_id-same, same_id-sym, lower-differs, find-above, standing-with_doc, standing-without, ascending-placed, same_docs}
+use Rattle.cs_view.proofs.Changed.{OwnIds, own_ids, standing-after_changes, ascending-after_changes, each_found, AreFoundIn}
 use Rattle.cs_docs.specs.Limits.{most_documents}
 use Rattle.cs_docs.specs.References.{clean}
 use Rattle.cs_docs.specs.Installing.{Sides, entered, replaced, put, is_new, is_gone, picked, with_all, without_all}
@@ -51,32 +51,32 @@ or_now (Some d) now = Some d
 above_all : (q : List ℕ) (c : Edit) (cs : List Edit) → ids_ascend (c ∷ cs) ≡ true → same_id q c.0 ≡ true → find id_cmp q cs ≡ None
 above_all q c cs h e = subst (λ (z : List ℕ). find id_cmp z cs ≡ None) (sym (same_id-same q c.0 e)) (find-above c.0 cs (and-left _ _ h))
 
-pub At-with_all : (pick : Sides → Option Tree) (q : List ℕ) (cs : List Edit) (ds : List Tree) → ids_ascend cs ≡ true → Owned pick cs
-    → At q (with_all (picked pick cs) ds) ≡ or_now (option_and_then pick (find id_cmp q cs)) (At q ds)
-At-with_all pick q [] ds h own = refl
-At-with_all pick q (c ∷ cs) ds h own = by_side (λ es. At-with_all pick q cs es (and-right (below_all id_cmp c.0 cs) _ h) own.1) (pick c.1) refl own.0 (same_id q c.0) refl where
-  by_side : ((es : List Tree) → At q (with_all (picked pick cs) es) ≡ or_now (option_and_then pick (find id_cmp q cs)) (At q es))
+pub standing-with_all : (pick : Sides → Option Tree) (q : List ℕ) (cs : List Edit) (ds : List Tree) → ids_ascend cs ≡ true → Owned pick cs
+    → standing q (with_all (picked pick cs) ds) ≡ or_now (option_and_then pick (find id_cmp q cs)) (standing q ds)
+standing-with_all pick q [] ds h own = refl
+standing-with_all pick q (c ∷ cs) ds h own = by_side (λ es. standing-with_all pick q cs es (and-right (below_all id_cmp c.0 cs) _ h) own.1) (pick c.1) refl own.0 (same_id q c.0) refl where
+  by_side : ((es : List Tree) → standing q (with_all (picked pick cs) es) ≡ or_now (option_and_then pick (find id_cmp q cs)) (standing q es))
       → (o : Option Tree) → pick c.1 ≡ o → is_of_id c.0 o ≡ true → (b : Bool) → same_id q c.0 ≡ b
-      → At q (with_all (option_to_list o ++ picked pick cs) ds) ≡ or_now (option_and_then pick (cond b (Some c.1) (find id_cmp q cs))) (At q ds)
-  by_side later None p w true e = later ds ∙ ap (λ f. or_now (option_and_then pick f) (At q ds)) (above_all q c cs h e) ∙ sym (ap (λ o. or_now o (At q ds)) p)
+      → standing q (with_all (option_to_list o ++ picked pick cs) ds) ≡ or_now (option_and_then pick (cond b (Some c.1) (find id_cmp q cs))) (standing q ds)
+  by_side later None p w true e = later ds ∙ ap (λ f. or_now (option_and_then pick f) (standing q ds)) (above_all q c cs h e) ∙ sym (ap (λ o. or_now o (standing q ds)) p)
   by_side later None p w false e = later ds
   by_side later (Some d) p w true e =
-      later (with_doc d ds) ∙ ap (λ f. or_now (option_and_then pick f) (At q (with_doc d ds))) (above_all q c cs h e)
-      ∙ At-with_doc q d ds ∙ ap (λ b. cond b (Some d) (At q ds)) (ap (same_id q) (sym (same_id-same c.0 (id_of d) w)) ∙ e) ∙ sym (ap (λ o. or_now o (At q ds)) p)
+      later (with_doc d ds) ∙ ap (λ f. or_now (option_and_then pick f) (standing q (with_doc d ds))) (above_all q c cs h e)
+      ∙ standing-with_doc q d ds ∙ ap (λ b. cond b (Some d) (standing q ds)) (ap (same_id q) (sym (same_id-same c.0 (id_of d) w)) ∙ e) ∙ sym (ap (λ o. or_now o (standing q ds)) p)
   by_side later (Some d) p w false e =
-      later (with_doc d ds) ∙ ap (or_now (option_and_then pick (find id_cmp q cs))) (At-with_doc q d ds ∙ ap (λ b. cond b (Some d) (At q ds)) (ap (same_id q) (sym (same_id-same c.0 (id_of d) w)) ∙ e))
+      later (with_doc d ds) ∙ ap (or_now (option_and_then pick (find id_cmp q cs))) (standing-with_doc q d ds ∙ ap (λ b. cond b (Some d) (standing q ds)) (ap (same_id q) (sym (same_id-same c.0 (id_of d) w)) ∙ e))
 
-pub At-without_all : (gone : Sides → Bool) (q : List ℕ) (cs : List Edit) (ds : List Tree) → ids_ascend cs ≡ true
-    → At q (without_all gone cs ds) ≡ cond (passes gone (find id_cmp q cs)) None (At q ds)
-At-without_all gone q [] ds h = refl
-At-without_all gone q (c ∷ cs) ds h = by_test (λ es. At-without_all gone q cs es (and-right (below_all id_cmp c.0 cs) _ h)) (gone c.1) refl (same_id q c.0) refl where
-  by_test : ((es : List Tree) → At q (without_all gone cs es) ≡ cond (passes gone (find id_cmp q cs)) None (At q es)) → (g : Bool) → gone c.1 ≡ g → (b : Bool) → same_id q c.0 ≡ b
-      → At q (without_all gone cs (cond g (without c.0 ds) ds)) ≡ cond (passes gone (cond b (Some c.1) (find id_cmp q cs))) None (At q ds)
+pub standing-without_all : (gone : Sides → Bool) (q : List ℕ) (cs : List Edit) (ds : List Tree) → ids_ascend cs ≡ true
+    → standing q (without_all gone cs ds) ≡ cond (passes gone (find id_cmp q cs)) None (standing q ds)
+standing-without_all gone q [] ds h = refl
+standing-without_all gone q (c ∷ cs) ds h = by_test (λ es. standing-without_all gone q cs es (and-right (below_all id_cmp c.0 cs) _ h)) (gone c.1) refl (same_id q c.0) refl where
+  by_test : ((es : List Tree) → standing q (without_all gone cs es) ≡ cond (passes gone (find id_cmp q cs)) None (standing q es)) → (g : Bool) → gone c.1 ≡ g → (b : Bool) → same_id q c.0 ≡ b
+      → standing q (without_all gone cs (cond g (without c.0 ds) ds)) ≡ cond (passes gone (cond b (Some c.1) (find id_cmp q cs))) None (standing q ds)
   by_test later true p true e =
-      later (without c.0 ds) ∙ ap (λ f. cond (passes gone f) None (At q (without c.0 ds))) (above_all q c cs h e)
-      ∙ At-without q c.0 ds ∙ ap (λ b. cond b None (At q ds)) e ∙ sym (ap (λ b. cond b None (At q ds)) p)
-  by_test later true p false e = later (without c.0 ds) ∙ ap (cond (passes gone (find id_cmp q cs)) None) (At-without q c.0 ds ∙ ap (λ b. cond b None (At q ds)) e)
-  by_test later false p true e = later ds ∙ ap (λ f. cond (passes gone f) None (At q ds)) (above_all q c cs h e) ∙ sym (ap (λ b. cond b None (At q ds)) p)
+      later (without c.0 ds) ∙ ap (λ f. cond (passes gone f) None (standing q (without c.0 ds))) (above_all q c cs h e)
+      ∙ standing-without q c.0 ds ∙ ap (λ b. cond b None (standing q ds)) e ∙ sym (ap (λ b. cond b None (standing q ds)) p)
+  by_test later true p false e = later (without c.0 ds) ∙ ap (cond (passes gone (find id_cmp q cs)) None) (standing-without q c.0 ds ∙ ap (λ b. cond b None (standing q ds)) e)
+  by_test later false p true e = later ds ∙ ap (λ f. cond (passes gone f) None (standing q ds)) (above_all q c cs h e) ∙ sym (ap (λ b. cond b None (standing q ds)) p)
   by_test later false p false e = later ds
 
 pub ascending-with_doc : (d : Tree) (ds : List Tree) → ascending ds ≡ true → ascending (with_doc d ds) ≡ true
@@ -102,17 +102,17 @@ steps_at (Some (Some b, Some a)) now = refl
 
 -- the three steps are the dataset after the changes
 pub three_steps : (ds : List Tree) (cs : List Edit) → ascending ds ≡ true → are_changes cs ≡ true
-    → without_all is_gone cs (with_all (picked replaced cs) (with_all (picked entered cs) ds)) ≡ After ds cs
+    → without_all is_gone cs (with_all (picked replaced cs) (with_all (picked entered cs) ds)) ≡ after_changes ds cs
 three_steps ds cs h changes =
     let asc : ids_ascend cs ≡ true = and-left _ _ changes in
     let own = own_ids cs changes in
     let one : List Tree = with_all (picked entered cs) ds in
     let two : List Tree = with_all (picked replaced cs) one in
-    same_docs (without_all is_gone cs two) (After ds cs)
-    (ascending-without_all is_gone cs two (ascending-with_all (picked replaced cs) one (ascending-with_all (picked entered cs) ds h))) (ascending-After ds cs h)
-    (λ q. At-without_all is_gone q cs two asc
-    ∙ ap (cond (passes is_gone (find id_cmp q cs)) None) (At-with_all replaced q cs one asc (own_replaced cs own) ∙ ap (or_now (option_and_then replaced (find id_cmp q cs))) (At-with_all entered q cs ds asc (own_entered cs own)))
-    ∙ steps_at (find id_cmp q cs) (At q ds) ∙ sym (At-After q ds cs own))
+    same_docs (without_all is_gone cs two) (after_changes ds cs)
+    (ascending-without_all is_gone cs two (ascending-with_all (picked replaced cs) one (ascending-with_all (picked entered cs) ds h))) (ascending-after_changes ds cs h)
+    (λ q. standing-without_all is_gone q cs two asc
+    ∙ ap (cond (passes is_gone (find id_cmp q cs)) None) (standing-with_all replaced q cs one asc (own_replaced cs own) ∙ ap (or_now (option_and_then replaced (find id_cmp q cs))) (standing-with_all entered q cs ds asc (own_entered cs own)))
+    ∙ steps_at (find id_cmp q cs) (standing q ds) ∙ sym (standing-after_changes q ds cs own))
 
 put_at : (f : Option Sides) → or_now (option_and_then put f) None ≡ after_of f None
 put_at None = refl
@@ -120,11 +120,11 @@ put_at (Some (b, None)) = refl
 put_at (Some (b, Some a)) = refl
 
 -- what is put into the empty dataset is the dataset after the changes
-pub one_step : (cs : List Edit) → are_changes cs ≡ true → with_all (picked put cs) [] ≡ After [] cs
+pub one_step : (cs : List Edit) → are_changes cs ≡ true → with_all (picked put cs) [] ≡ after_changes [] cs
 one_step cs changes =
     let own = own_ids cs changes in
-    same_docs (with_all (picked put cs) []) (After [] cs) (ascending-with_all (picked put cs) [] refl) (ascending-After [] cs refl)
-    (λ q. At-with_all put q cs [] (and-left _ _ changes) (own_put cs own) ∙ put_at (find id_cmp q cs) ∙ sym (At-After q [] cs own))
+    same_docs (with_all (picked put cs) []) (after_changes [] cs) (ascending-with_all (picked put cs) [] refl) (ascending-after_changes [] cs refl)
+    (λ q. standing-with_all put q cs [] (and-left _ _ changes) (own_put cs own) ∙ put_at (find id_cmp q cs) ∙ sym (standing-after_changes q [] cs own))
 
 -- ---- the documents that are put are new
 below-picked : (pick : Sides → Option Tree) (k : List ℕ) (cs : List Edit) → Owned pick cs → below_all id_cmp k cs ≡ true → below_all id_cmp k (keyed (picked pick cs)) ≡ true
@@ -147,8 +147,8 @@ abbrev pub AreFree : List Tree → List Tree → Type 0
 AreFree docs es = AllByRecursion (λ e. stands (id_of e) docs ≡ false) es
 
 stands-with_doc : (q : List ℕ) (d : Tree) (ds : List Tree) → stands q (with_doc d ds) ≡ cond (same_id q (id_of d)) true (stands q ds)
-stands-with_doc q d ds = ap is_some (At-with_doc q d ds) ∙ by_test (same_id q (id_of d)) where
-  by_test : (b : Bool) → is_some (cond b (Some d) (At q ds)) ≡ cond b true (is_some (At q ds))
+stands-with_doc q d ds = ap is_some (standing-with_doc q d ds) ∙ by_test (same_id q (id_of d)) where
+  by_test : (b : Bool) → is_some (cond b (Some d) (standing q ds)) ≡ cond b true (is_some (standing q ds))
   by_test true = refl
   by_test false = refl
 
@@ -196,19 +196,19 @@ new-entered cs changes = new-entered-in cs cs (each_found cs (and-left _ _ chang
 
 -- only under new ids stands another
 abbrev pub KeepsOthers : List Edit → List Tree → List Tree → Type 0
-KeepsOthers cs old now = (q : List ℕ) → passes is_new (find id_cmp q cs) ≡ false → At q now ≡ At q old
+KeepsOthers cs old now = (q : List ℕ) → passes is_new (find id_cmp q cs) ≡ false → standing q now ≡ standing q old
 
 pub others_step : (cs : List Edit) (old now : List Tree) (d : Tree) → passes is_new (find id_cmp (id_of d) cs) ≡ true → KeepsOthers cs old now → KeepsOthers cs old (with_doc d now)
-others_step cs old now d new keeps q h = At-with_doc q d now ∙ by_test (same_id q (id_of d)) refl where
-  by_test : (b : Bool) → same_id q (id_of d) ≡ b → cond b (Some d) (At q now) ≡ At q old
+others_step cs old now d new keeps q h = standing-with_doc q d now ∙ by_test (same_id q (id_of d)) refl where
+  by_test : (b : Bool) → same_id q (id_of d) ≡ b → cond b (Some d) (standing q now) ≡ standing q old
   by_test true e = absurd (let k : passes is_new (find id_cmp q cs) ≡ true = ap (λ z. passes is_new (find id_cmp z cs)) (same_id-same q (id_of d) e) ∙ new in cc)
   by_test false e = keeps q h
 
-lead_at : (q : List ℕ) (docs : List Tree) (cs : List Edit) (s : Sides) → LeadFrom docs cs → find id_cmp q cs ≡ Some s → s.0 ≡ At q docs
+lead_at : (q : List ℕ) (docs : List Tree) (cs : List Edit) (s : Sides) → LeadFrom docs cs → find id_cmp q cs ≡ Some s → s.0 ≡ standing q docs
 lead_at q docs [] s leads h = absurd (cc)
 lead_at q docs (c ∷ cs) s leads h = by_test (lead_at q docs cs s leads.1) (same_id q c.0) refl h where
-  by_test : (find id_cmp q cs ≡ Some s → s.0 ≡ At q docs) → (b : Bool) → same_id q c.0 ≡ b → cond b (Some c.1) (find id_cmp q cs) ≡ Some s → s.0 ≡ At q docs
-  by_test rest true e g = let k : c.1 ≡ s = cc in sym (ap (λ (t : Sides). t.0) k) ∙ leads.0 ∙ ap (λ z. At z docs) (sym (same_id-same q c.0 e))
+  by_test : (find id_cmp q cs ≡ Some s → s.0 ≡ standing q docs) → (b : Bool) → same_id q c.0 ≡ b → cond b (Some c.1) (find id_cmp q cs) ≡ Some s → s.0 ≡ standing q docs
+  by_test rest true e g = let k : c.1 ≡ s = cc in sym (ap (λ (t : Sides). t.0) k) ∙ leads.0 ∙ ap (λ z. standing z docs) (sym (same_id-same q c.0 e))
   by_test rest false e g = rest g
 
 not_there : (o : Option Tree) → not (is_some o) ≡ true → o ≡ None
@@ -217,12 +217,12 @@ not_there (Some d) h = cc
 
 pub left_again : (cs : List Edit) (old now : List Tree) → ascending old ≡ true → ascending now ≡ true → ids_ascend cs ≡ true → LeadFrom old cs → KeepsOthers cs old now → without_all is_new cs now ≡ old
 left_again cs old now h g asc leads keeps =
-    same_docs (without_all is_new cs now) old (ascending-without_all is_new cs now g) h (λ q. At-without_all is_new q cs now asc ∙ by_side q (find id_cmp q cs) refl) where
-      by_new : (q : List ℕ) (s : Sides) → find id_cmp q cs ≡ Some s → (b : Bool) → is_new s ≡ b → cond b None (At q now) ≡ At q old
+    same_docs (without_all is_new cs now) old (ascending-without_all is_new cs now g) h (λ q. standing-without_all is_new q cs now asc ∙ by_side q (find id_cmp q cs) refl) where
+      by_new : (q : List ℕ) (s : Sides) → find id_cmp q cs ≡ Some s → (b : Bool) → is_new s ≡ b → cond b None (standing q now) ≡ standing q old
       by_new q s f true e = sym (not_there s.0 e) ∙ lead_at q old cs s leads f
       by_new q s f false e = keeps q (ap (passes is_new) f ∙ e)
 
-      by_side : (q : List ℕ) (f : Option Sides) → find id_cmp q cs ≡ f → cond (passes is_new f) None (At q now) ≡ At q old
+      by_side : (q : List ℕ) (f : Option Sides) → find id_cmp q cs ≡ f → cond (passes is_new f) None (standing q now) ≡ standing q old
       by_side q None f = keeps q (ap (passes is_new) f)
       by_side q (Some s) f = by_new q s f (is_new s) refl
 
@@ -263,10 +263,10 @@ fits-clean docs h = ((fits-within-clean docs).0 h).1
 pub fits-within : (docs : List Tree) → verdict docs ≡ fits → length docs ≤ most_documents
 fits-within docs h = ((fits-within-clean docs).0 h).0
 
-pub on_holding : {A E : Type 0} (r : Result A E) (old now : List Tree) (cs : List Edit) → OnOk r (now ≡ After old cs) → OnErr r (now ≡ old) → AreTaken old cs → clean old ≡ true → length old ≤ most_documents
+pub on_holding : {A E : Type 0} (r : Result A E) (old now : List Tree) (cs : List Edit) → OnOk r (now ≡ after_changes old cs) → OnErr r (now ≡ old) → AreTaken old cs → clean old ≡ true → length old ≤ most_documents
     → (clean now ≡ true) × (length now ≤ most_documents)
 on_holding (Ok a) old now cs is same taken c w =
-    (ap clean is ∙ fits-clean (After old cs) taken.holds, subst (λ (ds : List Tree). length ds ≤ most_documents) (sym is) (fits-within (After old cs) taken.holds))
+    (ap clean is ∙ fits-clean (after_changes old cs) taken.holds, subst (λ (ds : List Tree). length ds ≤ most_documents) (sym is) (fits-within (after_changes old cs) taken.holds))
 on_holding (Err e) old now cs is same taken c w = (ap clean same ∙ c, subst (λ (ds : List Tree). length ds ≤ most_documents) (sym same) w)
 
 -- ---- what one change puts, and what the others put

@@ -7,17 +7,18 @@ use Rattle.std.proofs.lemmas.Cmp.{nat_list_cmp_total}
 use Rattle.std.specs.FinMap.Entries.{find, below_all}
 use Rattle.cs_value.specs.Tree.{Tree}
 use Rattle.cs_view.specs.Document.{id_of}
-use Rattle.cs_view.specs.Dataset.{id_cmp, At, ascending}
+use Rattle.cs_view.specs.Dataset.{id_cmp, standing, ascending}
 use Rattle.std.proofs.lemmas.List.{drop_more, drop_all}
 use Rattle.std.proofs.lemmas.Bool.{and_left, and_right}
 use Rattle.cs_view.specs.View.{edit, edits}
 use Rattle.cs_view.specs.declared.change.Change.{Change}
-use Rattle.cs_view.specs.Changes.{Edit, ids_ascend, are_changes, After, after_of}
+use Rattle.cs_view.specs.Changes.{Edit, ids_ascend, are_changes, after_changes, after_of}
 use Rattle.cs_view.proofs.Booleans.{and-left, and-right}
-use Rattle.cs_view.proofs.Datasets.{same_id-refl, At-id, is_lt-Less}
-use Rattle.cs_view.proofs.Changed.{At-After, ascending-After, own_ids}
+use Rattle.cs_view.proofs.Datasets.{same_id-refl, standing-id, is_lt-Less}
+use Rattle.cs_view.proofs.Changed.{standing-after_changes, ascending-after_changes, own_ids}
 use Rattle.cs_view.specs.Keys.{has_ref}
-use Rattle.cs_shelf.specs.Referring.{first_of, above, next_referrer}
+use Rattle.cs_shelf.specs.Referring.{above, next_referrer}
+use Rattle.cs_value.specs.Words.{first_of}
 use Rattle.cs_docs.specs.References.{strong, missing, clean, dangling_in, first_dangling}
 use Rattle.cs_docs.specs.Missing.{first_missing}
 use Rattle.cs_docs.specs.Suspects.{is_changed, dangles, is_referrer, at_change, suspected, is_suspect, lesser}
@@ -130,16 +131,16 @@ keep_none f cs target q (Some d) h at =
 
 -- the unchanged referrers with a dangling reference are those of the dataset before
 pub referrer_either : (ds : List Tree) (cs : List Edit) (target : List ℕ) → ascending ds ≡ true → are_changes cs ≡ true
-    → filter (λ d. dangles (After ds cs) d && is_referrer cs target d) ds ≡ filter (λ d. dangles (After ds cs) d && is_referrer cs target d) (After ds cs)
+    → filter (λ d. dangles (after_changes ds cs) d && is_referrer cs target d) ds ≡ filter (λ d. dangles (after_changes ds cs) d && is_referrer cs target d) (after_changes ds cs)
 referrer_either ds cs target asc changes =
     let own = own_ids cs changes in
-    let g : Tree → Bool = λ d. dangles (After ds cs) d && is_referrer cs target d in
-    filter_agree g ds (After ds cs) asc (ascending-After ds cs asc) (λ q.
-    elim (find id_cmp q cs) as (λ o. find id_cmp q cs ≡ o → keep g (At q ds) ≡ keep g (At q (After ds cs))) [
-      | None ↦ λ e. ap (keep g) (sym (At-After q ds cs own ∙ ap (λ f. after_of f (At q ds)) e))
+    let g : Tree → Bool = λ d. dangles (after_changes ds cs) d && is_referrer cs target d in
+    filter_agree g ds (after_changes ds cs) asc (ascending-after_changes ds cs asc) (λ q.
+    elim (find id_cmp q cs) as (λ o. find id_cmp q cs ≡ o → keep g (standing q ds) ≡ keep g (standing q (after_changes ds cs))) [
+      | None ↦ λ e. ap (keep g) (sym (standing-after_changes q ds cs own ∙ ap (λ f. after_of f (standing q ds)) e))
       | Some s ↦ λ e.
           let changed : is_changed cs q ≡ true = ap is_some e in
-          keep_none (dangles (After ds cs)) cs target q (At q ds) changed (At-id q ds) ∙ sym (keep_none (dangles (After ds cs)) cs target q (At q (After ds cs)) changed (At-id q (After ds cs)))
+          keep_none (dangles (after_changes ds cs)) cs target q (standing q ds) changed (standing-id q ds) ∙ sym (keep_none (dangles (after_changes ds cs)) cs target q (standing q (after_changes ds cs)) changed (standing-id q (after_changes ds cs)))
     ] refl)
 
 -- the first pair is that of the first document with a dangling reference
@@ -152,11 +153,11 @@ first_pair docs (d ∷ ds) =
     ] refl
 
 -- all that dangles is suspect
-suspects_all : (docs ds : List Tree) (cs : List Edit) → clean docs ≡ true → are_changes cs ≡ true → AllByRecursion (λ d. At (id_of d) (After docs cs) ≡ Some d) ds
-    → AllByRecursion (λ d. (dangles (After docs cs) d && is_suspect cs cs d) ≡ dangles (After docs cs) d) ds
+suspects_all : (docs ds : List Tree) (cs : List Edit) → clean docs ≡ true → are_changes cs ≡ true → AllByRecursion (λ d. standing (id_of d) (after_changes docs cs) ≡ Some d) ds
+    → AllByRecursion (λ d. (dangles (after_changes docs cs) d && is_suspect cs cs d) ≡ dangles (after_changes docs cs) d) ds
 suspects_all docs [] cs is_clean h all = tt
 suspects_all docs (d ∷ ds) cs is_clean h all = (
-  elim (dangles (After docs cs) d) as (λ b. dangles (After docs cs) d ≡ b → (b && is_suspect cs cs d) ≡ b) [
+  elim (dangles (after_changes docs cs) d) as (λ b. dangles (after_changes docs cs) d ≡ b → (b && is_suspect cs cs d) ≡ b) [
     | true ↦ λ e. at_one docs cs d is_clean (own_ids cs h) all.0 e
     | false ↦ λ e. refl
   ] refl,
@@ -164,10 +165,10 @@ suspects_all docs (d ∷ ds) cs is_clean h all = (
 )
 
 pub all_suspects : (docs : List Tree) (cs : List Edit) → ascending docs ≡ true → clean docs ≡ true → are_changes cs ≡ true
-    → filter (λ d. dangles (After docs cs) d && is_suspect cs cs d) (After docs cs) ≡ filter (dangles (After docs cs)) (After docs cs)
+    → filter (λ d. dangles (after_changes docs cs) d && is_suspect cs cs d) (after_changes docs cs) ≡ filter (dangles (after_changes docs cs)) (after_changes docs cs)
 all_suspects docs cs asc is_clean h =
-    filter_same (λ d. dangles (After docs cs) d && is_suspect cs cs d) (dangles (After docs cs)) (After docs cs)
-    (suspects_all docs (After docs cs) cs is_clean h (members (After docs cs) (ascending-After docs cs asc)))
+    filter_same (λ d. dangles (after_changes docs cs) d && is_suspect cs cs d) (dangles (after_changes docs cs)) (after_changes docs cs)
+    (suspects_all docs (after_changes docs cs) cs is_clean h (members (after_changes docs cs) (ascending-after_changes docs cs asc)))
 
 none_suspect : (f : Tree → Bool) (ds : List Tree) → filter (λ d. f d && false) ds ≡ []
 none_suspect f [] = refl
@@ -194,17 +195,17 @@ one_more f cs done c ds asc =
 
 -- what a change put there is suspect itself
 pub put_suspect : (docs : List Tree) (cs : List Edit) (c : Edit) (a : Tree) → ascending docs ≡ true → are_changes cs ≡ true → find id_cmp c.0 cs ≡ Some c.1 → c.1.1 ≡ Some a
-    → first_of (filter (λ d. dangles (After docs cs) d && suspected cs d c) (After docs cs)) ≡ cond (dangles (After docs cs) a) (Some a) None
+    → first_of (filter (λ d. dangles (after_changes docs cs) d && suspected cs d c) (after_changes docs cs)) ≡ cond (dangles (after_changes docs cs) a) (Some a) None
 put_suspect docs cs c a asc h there put =
-    let f : Tree → Bool = dangles (After docs cs) in
-    ap (λ (o : Option Tree). first_of (filter (λ d. f d && at_change cs c.0 o d) (After docs cs))) put
-    ∙ first_at f c.0 (After docs cs) (ascending-After docs cs asc)
-    ∙ ap (keep f) (At-After c.0 docs cs (own_ids cs h) ∙ ap (λ g. after_of g (At c.0 docs)) there ∙ put)
+    let f : Tree → Bool = dangles (after_changes docs cs) in
+    ap (λ (o : Option Tree). first_of (filter (λ d. f d && at_change cs c.0 o d) (after_changes docs cs))) put
+    ∙ first_at f c.0 (after_changes docs cs) (ascending-after_changes docs cs asc)
+    ∙ ap (keep f) (standing-after_changes c.0 docs cs (own_ids cs h) ∙ ap (λ g. after_of g (standing c.0 docs)) there ∙ put)
 
 pub taken_suspect : (docs : List Tree) (cs : List Edit) (c : Edit) → ascending docs ≡ true → are_changes cs ≡ true → c.1.1 ≡ None
-    → first_of (filter (λ d. dangles (After docs cs) d && suspected cs d c) (After docs cs)) ≡ first_of (filter (λ d. dangles (After docs cs) d && is_referrer cs c.0 d) docs)
+    → first_of (filter (λ d. dangles (after_changes docs cs) d && suspected cs d c) (after_changes docs cs)) ≡ first_of (filter (λ d. dangles (after_changes docs cs) d && is_referrer cs c.0 d) docs)
 taken_suspect docs cs c asc h taken =
-    ap (λ (o : Option Tree). first_of (filter (λ d. dangles (After docs cs) d && at_change cs c.0 o d) (After docs cs))) taken
+    ap (λ (o : Option Tree). first_of (filter (λ d. dangles (after_changes docs cs) d && at_change cs c.0 o d) (after_changes docs cs))) taken
     ∙ ap first_of (sym (referrer_either docs cs c.0 asc h))
 
 pub is_some_map : {A B : Type 0} (f : A → B) (o : Option A) → is_some (option_map f o) ≡ is_some o
@@ -212,10 +213,10 @@ is_some_map f None = refl
 is_some_map f (Some x) = refl
 
 -- the document that stands at the id of the next referrer
-pub next_stands : (ds given : List Tree) (target : List ℕ) (low : Option (List ℕ)) (k : List ℕ) (o : Option Tree) → ascending ds ≡ true → given ≡ ds → Some k ≡ next_referrer given target low → o ≡ At k ds
+pub next_stands : (ds given : List Tree) (target : List ℕ) (low : Option (List ℕ)) (k : List ℕ) (o : Option Tree) → ascending ds ≡ true → given ≡ ds → Some k ≡ next_referrer given target low → o ≡ standing k ds
     → o ≡ first_of (filter (λ d. has_ref target d && above low (id_of d)) ds)
 next_stands ds given target low k o asc same_ds is at =
-    at ∙ ap (option_and_then (λ j. At j ds)) (is ∙ ap (λ x. next_referrer x target low) same_ds) ∙ first_stands (λ d. has_ref target d && above low (id_of d)) ds asc
+    at ∙ ap (option_and_then (λ j. standing j ds)) (is ∙ ap (λ x. next_referrer x target low) same_ds) ∙ first_stands (λ d. has_ref target d && above low (id_of d)) ds asc
 
 -- an unchanged document that has_ref to the target and has a dangling reference
 abbrev pub Wanted : List Tree → List Edit → List ℕ → Tree → Bool

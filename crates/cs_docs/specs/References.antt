@@ -5,26 +5,20 @@ use Rattle.std.specs.List.{filter, list_all}
 use Rattle.std.specs.Option.{option_to_list}
 use Rattle.cs_value.specs.Tree.{Tree, null, boolean, integer, text, list, object, Trees, no_trees, more_trees, Pairs, no_pairs, more_pairs}
 use Rattle.cs_value.specs.Pairs.{find}
-use Rattle.cs_value.specs.Words.{as_boolean, as_text}
+use Rattle.cs_value.specs.Words.{as_boolean, ref_of, first_of}
 use Rattle.cs_view.specs.Document.{id_of}
 use Rattle.cs_view.specs.Dataset.{stands}
-use Rattle.cs_shelf.specs.Referring.{first_of}
 
 -- whether the boolean true is there
 abbrev pub is_yes : Option Tree → Bool
 is_yes t = unwrap_or (option_and_then as_boolean t) false
-
--- the text that is there, if one is
-abbrev pub texts : Option Tree → List (List ℕ)
-texts t = option_to_list (option_and_then as_text t)
 
 -- the target of an object that is a strong reference: one with a text `_ref`, with no
 -- `_dataset`, and whose `_weak` is not true
 abbrev pub own_target : Pairs → List (List ℕ)
 own_target ps =
     cond (is_some (find (codes "_dataset") ps) || is_yes (find (codes "_weak") ps))
-    []
-    (texts (find (codes "_ref") ps))
+    [] (option_to_list (ref_of ps))
 
 -- the strong targets in a value, in document order: an object before what is inside it
 abbrev mutual

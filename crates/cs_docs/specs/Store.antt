@@ -1,7 +1,7 @@
 -- What contracts see of the store, and of changes that are prepared for it.
 use Rattle.std.specs.Prelude.{◌≡◌, ℕ, List, Option, true}
 use Rattle.cs_value.specs.Tree.{Tree}
-use Rattle.cs_view.specs.Changes.{Edit, After, are_changes}
+use Rattle.cs_view.specs.Changes.{Edit, after_changes, are_changes}
 use Rattle.cs_view.specs.View.{edits}
 use Rattle.cs_view.specs.declared.change.Change.{Change}
 use Rattle.cs_shelf.specs.View as shelf
@@ -18,7 +18,7 @@ doc_at d place = shelf.doc_at d.shelf place
 
 -- the dataset after changes
 abbrev pub after : Docs → List Change → List Tree
-after d cs = After (docs d) (edits cs)
+after d cs = after_changes (docs d) (edits cs)
 
 -- the condition on the changes of a call
 abbrev pub AreChanges : List Change → Type 0

@@ -8,7 +8,7 @@ use Rattle.cs_view.specs.Document.{id_of}
 use Rattle.cs_view.specs.Dataset.{id_cmp, same_id}
 use Rattle.cs_view.specs.Changes.{Edit}
 use Rattle.cs_view.specs.Keys.{has_ref}
-use Rattle.cs_shelf.specs.Referring.{first_of}
+use Rattle.cs_value.specs.Words.{first_of}
 use Rattle.cs_docs.specs.References.{missing}
 
 abbrev pub is_changed : List Edit → List ℕ → Bool

@@ -2,7 +2,7 @@
 -- profile.
 use Rattle.std.specs.Prelude.{◌≡◌, ℕ, List, length, nat_lt, cond, Option, Some, None}
 use Rattle.cs_value.specs.Tree.{Tree}
-use Rattle.cs_view.specs.Changes.{Edit, LeadFrom, After}
+use Rattle.cs_view.specs.Changes.{Edit, LeadFrom, after_changes}
 use Rattle.cs_docs.specs.Limits.{most_documents}
 use Rattle.cs_docs.specs.References.{first_dangling}
 
@@ -23,4 +23,4 @@ verdict docs = cond (nat_lt most_documents (length docs)) full (of_pair (first_d
 -- changes that lead from the dataset to one that a store can hold
 pub record AreTaken (docs : List Tree) (cs : List Edit) : Type 0 where
   pub leads : LeadFrom docs cs
-  pub holds : verdict (After docs cs) ≡ fits
+  pub holds : verdict (after_changes docs cs) ≡ fits

@@ -5,9 +5,10 @@ ghost use Rattle.std.specs.FinMap.Entries.{find};
 ghost use Rattle.cs_view.specs.Document.{id_of};
 ghost use Rattle.cs_view.specs.Dataset.{id_cmp};
 ghost use Rattle.cs_view.specs.Changes.{LeadFrom};
-ghost use Rattle.cs_view.specs.View.{doc, edit, edits};
+ghost use Rattle.cs_view.specs.View.{document_of, edit, edits};
 ghost use Rattle.cs_view.specs.Keys.{has_ref};
-ghost use Rattle.cs_shelf.specs.Referring.{first_of, above};
+ghost use Rattle.cs_shelf.specs.Referring.{above};
+ghost use Rattle.cs_value.specs.Words.{first_of};
 ghost use Rattle.cs_docs.specs.References.{clean, first_dangling};
 ghost use Rattle.cs_docs.specs.Suspects.{dangles, is_referrer, suspected, lesser};
 ghost use Rattle.cs_docs.specs.Store.{docs, after, AreChanges};
@@ -30,8 +31,9 @@ pub struct Dangling<'d> {
 
 // Of two documents the one with the lesser id.
 fn lesser<'d>(one: Option<&'d Doc>, other: Option<&'d Doc>) -> Option<&'d Doc>
-    ensures { option_map (λ d. doc d.now) result ≡ lesser (option_map (λ d. doc d.now) one.entry)
-        (option_map (λ d. doc d.now) other.entry) }
+    ensures { option_map (λ d. document_of d.now) result
+        ≡ lesser (option_map (λ d. document_of d.now) one.entry)
+        (option_map (λ d. document_of d.now) other.entry) }
 {
     let Some(a) = one else { return other };
     let Some(b) = other else { return Some(a) };
@@ -50,7 +52,7 @@ fn next_doc<'d, R: Referrers>(
     low: Option<&Txt>,
 ) -> Option<&'d Doc>
     requires { R.dataset referrers.now ≡ docs store.now }
-    ensures { option_map (λ d. doc d.now) result
+    ensures { option_map (λ d. document_of d.now) result
         ≡ first_of (filter (λ d. has_ref target.now d
         && above (option_map (λ i. i.now) low.entry) (id_of d)) (docs store.now)) }
 {
@@ -70,7 +72,7 @@ fn removed_referrer<'d, R: Referrers>(
 ) -> Option<&'d Doc>
     requires changes { AreChanges changes.now }
     requires same { R.dataset referrers.now ≡ docs store.now }
-    ensures { option_map (λ d. doc d.now) result
+    ensures { option_map (λ d. document_of d.now) result
         ≡ first_of (filter (λ d. dangles (after store.now changes.now) d
         && is_referrer (edits changes.now) target.now d) (docs store.now)) }
 {
@@ -95,7 +97,7 @@ fn suspect<'d, R: Referrers>(
     requires changes { AreChanges changes.now }
     requires same { R.dataset referrers.now ≡ docs store.now }
     requires one { find id_cmp change.now.id (edits changes.now) ≡ Some (edit change.now).1 }
-    ensures { option_map (λ d. doc d.now) result
+    ensures { option_map (λ d. document_of d.now) result
         ≡ first_of (filter (λ d. dangles (after store.now changes.now) d
         && suspected (edits changes.now) d (edit change.now)) (after store.now changes.now)) }
 {
@@ -120,7 +122,7 @@ fn first_document<'d, R: Referrers>(
     requires changes { AreChanges changes.now }
     requires leads { LeadFrom (docs store.now) (edits changes.now) }
     requires same { R.dataset referrers.now ≡ docs store.now }
-    ensures { option_map (λ d. doc d.now) result
+    ensures { option_map (λ d. document_of d.now) result
         ≡ first_of (filter (dangles (after store.now changes.now)) (after store.now changes.now)) }
 {
     let mut first = None;

@@ -1,9 +1,9 @@
 //! The documents of the store.
 ghost use Rattle.std.specs.Prelude.{◌≡◌, ◌≤◌, ◌<◌, All, length, [], true, false, option_map, map, Some, IsSome, IfSome, IfOk, OnOk, OnErr};
-ghost use Rattle.cs_view.specs.Dataset.{At, stands, with_doc};
+ghost use Rattle.cs_view.specs.Dataset.{standing, stands, with_doc};
 ghost use Rattle.cs_view.specs.Document.{id_of};
 ghost use Rattle.cs_view.specs.Keys.{selected};
-ghost use Rattle.cs_view.specs.View.{doc};
+ghost use Rattle.cs_view.specs.View.{document_of};
 ghost use Rattle.cs_shelf.specs.Places.{most_places};
 ghost use Rattle.cs_shelf.specs.View.{documents};
 ghost use Rattle.cs_docs.specs.Limits.{most_documents};
@@ -51,7 +51,7 @@ impl Docs {
     pub fn place(&self, id: &Txt) -> Option<u32>
         ensures place { result ≡ place_at self.now id.now }
         ensures found { option_map (doc_at self.now) result
-            ≡ option_map Some (At id.now (docs self.now)) }
+            ≡ option_map Some (standing id.now (docs self.now)) }
         ensures low { IfSome result (λ p. p < most_places) }
     {
         self.shelf.place(id)
@@ -59,7 +59,7 @@ impl Docs {
 
     /// What stands at a place, if a document does.
     pub fn found(&self, place: u32) -> Option<&Doc>
-        ensures { option_map (λ d. doc d.now) result ≡ doc_at self.now place }
+        ensures { option_map (λ d. document_of d.now) result ≡ doc_at self.now place }
     {
         self.shelf.found(place)
     }
@@ -87,14 +87,14 @@ impl Docs {
     /// The document at a place where one stands.
     pub fn at(&self, place: u32) -> &Doc
         requires { IsSome (doc_at self.now place) }
-        ensures { doc_at self.now place ≡ Some (doc result.now) }
+        ensures { doc_at self.now place ≡ Some (document_of result.now) }
     {
         self.shelf.at(place)
     }
 
     /// The document with the id. `None` exactly where there is none.
     pub fn get(&self, id: &Txt) -> Option<&Doc>
-        ensures { option_map (λ d. doc d.now) result ≡ At id.now (docs self.now) }
+        ensures { option_map (λ d. document_of d.now) result ≡ standing id.now (docs self.now) }
     {
         self.shelf.get(id)
     }
@@ -103,10 +103,11 @@ impl Docs {
     /// afterwards. It is moved, not copied. `NoMemory` where the allocator has none; nothing
     /// changes then.
     pub fn add(&mut self, document: Doc) -> Result<(), NoMemory>
-        requires fresh { stands (id_of (doc document)) (docs self.old) ≡ false }
+        requires fresh { stands (id_of (document_of document)) (docs self.old) ≡ false }
         requires room { length (docs self.old) < most_documents }
-        requires clean { clean (with_doc (doc document) (docs self.old)) ≡ true }
-        ensures put { OnOk result (docs self.new ≡ with_doc (doc document) (docs self.old)) }
+        requires clean { clean (with_doc (document_of document) (docs self.old)) ≡ true }
+        ensures put { OnOk result (docs self.new
+            ≡ with_doc (document_of document) (docs self.old)) }
         ensures kept { OnErr result (docs self.new ≡ docs self.old) }
     {
         self.shelf.add(document)

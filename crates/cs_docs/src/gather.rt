@@ -1,9 +1,9 @@
 //! The store of a data file's documents.
 ghost use Rattle.std.specs.Prelude.{◌≡◌, [], true, map, IfOk, MatchResult, None, Some};
-ghost use Rattle.cs_view.specs.Changes.{After, LeadFrom, are_changes};
+ghost use Rattle.cs_view.specs.Changes.{after_changes, LeadFrom, are_changes};
 ghost use Rattle.cs_view.specs.Dataset.{ascending};
 ghost use Rattle.cs_view.specs.Document.{id_of};
-ghost use Rattle.cs_view.specs.View.{doc, edit, edits};
+ghost use Rattle.cs_view.specs.View.{document_of, edit, edits};
 ghost use Rattle.cs_docs.specs.Faults.{IsFault};
 ghost use Rattle.cs_docs.specs.Gathered.{entering};
 ghost use Rattle.cs_docs.specs.Store.{docs};
@@ -17,7 +17,8 @@ use std::alloc::Global;
 
 // The change that puts the document where none stands.
 fn entering_change(alloc: Global, document: Doc) -> Result<Change, NoMemory>
-    ensures { IfOk result (λ c. edit c ≡ (id_of (doc document), (None, Some (doc document)))) }
+    ensures { IfOk result (λ c. edit c
+        ≡ (id_of (document_of document), (None, Some (document_of document)))) }
 {
     Ok(Change {
         id: document.id().copy(alloc)?,
@@ -28,7 +29,7 @@ fn entering_change(alloc: Global, document: Doc) -> Result<Change, NoMemory>
 
 // The changes that put the documents into the empty store.
 fn entering(alloc: Global, documents: Vec<Doc>) -> Result<Vec<Change>, NoMemory>
-    ensures { IfOk result (λ cs. edits cs.items ≡ entering documents.items) }
+    ensures { IfOk result (λ cs. edits cs.items ≡ entering (map document_of documents.items)) }
 {
     let mut changes = Vec::with_capacity(alloc, documents.len())?;
     for document in documents {
@@ -39,10 +40,11 @@ fn entering(alloc: Global, documents: Vec<Doc>) -> Result<Vec<Change>, NoMemory>
 
 // The changes that put documents of ascending ids into the empty store.
 fn entering_all(alloc: Global, documents: Vec<Doc>) -> Result<Vec<Change>, NoMemory>
-    requires { ascending (map doc documents.items) ≡ true }
+    requires { ascending (map document_of documents.items) ≡ true }
     ensures changes { IfOk result (λ cs. are_changes (edits cs.items) ≡ true) }
     ensures leads { IfOk result (λ cs. LeadFrom [] (edits cs.items)) }
-    ensures after { IfOk result (λ cs. After [] (edits cs.items) ≡ map doc documents.items) }
+    ensures after { IfOk result (λ cs. after_changes [] (edits cs.items)
+        ≡ map document_of documents.items) }
 {
     let changes = entering(alloc, documents)?;
     Ok(changes)
@@ -54,11 +56,11 @@ impl Docs {
     /// and a strong reference names none of them; it has the first such reference. The documents
     /// are moved, and none is copied. `NoMemory` where the allocator has no room for their places.
     pub fn gathered(alloc: Global, documents: Vec<Doc>) -> Result<Docs, PrepareFault>
-        requires { ascending (map doc documents.items) ≡ true }
+        requires { ascending (map document_of documents.items) ≡ true }
         ensures { MatchResult result
-            (λ d. (docs d ≡ map doc documents.items)
-            × (verdict (map doc documents.items) ≡ fits))
-            (λ e. IsFault e (verdict (map doc documents.items))) }
+            (λ d. (docs d ≡ map document_of documents.items)
+            × (verdict (map document_of documents.items) ≡ fits))
+            (λ e. IsFault e (verdict (map document_of documents.items))) }
     {
         let changes = match entering_all(alloc, documents) {
             Ok(changes) => changes,

@@ -3,10 +3,10 @@
 ghost use Rattle.std.specs.Prelude.{◌≡◌, ◌++◌, [], true, false, OnOk, OnErr, IfOk, map};
 ghost use Rattle.std.specs.List.{AllByRecursion};
 ghost use Rattle.std.specs.Option.{option_to_list};
-ghost use Rattle.cs_view.specs.Changes.{After, LeadFrom};
+ghost use Rattle.cs_view.specs.Changes.{after_changes, LeadFrom};
 ghost use Rattle.cs_view.specs.Dataset.{stands};
 ghost use Rattle.cs_view.specs.Document.{id_of};
-ghost use Rattle.cs_view.specs.View.{doc, edit, edits};
+ghost use Rattle.cs_view.specs.View.{document_of, edit, edits};
 ghost use Rattle.cs_shelf.specs.View.{documents, StayIn, AreSteady};
 ghost use Rattle.cs_docs.specs.Installing.{entered, replaced, put, is_new, is_gone, picked, with_all, without_all};
 ghost use Rattle.cs_docs.specs.Verdict.{AreTaken};
@@ -29,10 +29,12 @@ struct Copies {
 impl Copies {
     // One more copy, of what the change puts, if anything.
     fn add(&mut self, change: &Change) -> Result<(), NoMemory>
-        ensures entering { OnOk result (map doc self.new.entering.items
-            ≡ map doc self.old.entering.items ++ option_to_list (entered (edit change.now).1)) }
-        ensures replacing { OnOk result (map doc self.new.replacing.items
-            ≡ map doc self.old.replacing.items ++ option_to_list (replaced (edit change.now).1)) }
+        ensures entering { OnOk result (map document_of self.new.entering.items
+            ≡ map document_of self.old.entering.items
+            ++ option_to_list (entered (edit change.now).1)) }
+        ensures replacing { OnOk result (map document_of self.new.replacing.items
+            ≡ map document_of self.old.replacing.items
+            ++ option_to_list (replaced (edit change.now).1)) }
     {
         if let Some(after) = &change.after {
             let copy = after.copy()?;
@@ -47,9 +49,9 @@ impl Copies {
 
 fn make_copies(alloc: Global, changes: &[Change]) -> Result<Copies, NoMemory>
     ensures entering { IfOk result
-        (λ c. map doc c.entering.items ≡ picked entered (edits changes.now)) }
+        (λ c. map document_of c.entering.items ≡ picked entered (edits changes.now)) }
     ensures replacing { IfOk result
-        (λ c. map doc c.replacing.items ≡ picked replaced (edits changes.now)) }
+        (λ c. map document_of c.replacing.items ≡ picked replaced (edits changes.now)) }
 {
     let mut copies = Copies {
         entering: Vec::new(alloc),
@@ -78,7 +80,7 @@ fn leave(shelf: &mut Shelf, changes: &[Change])
 fn enter(shelf: &mut Shelf, changes: &[Change], entering: Vec<Doc>) -> Result<(), NoMemory>
     requires changes { AreChanges changes.now }
     requires leads { LeadFrom (documents shelf.old) (edits changes.now) }
-    requires these { map doc entering.items ≡ picked entered (edits changes.now) }
+    requires these { map document_of entering.items ≡ picked entered (edits changes.now) }
     ensures entered { OnOk result (documents shelf.new
         ≡ with_all (picked entered (edits changes.now)) (documents shelf.old)) }
     ensures kept { OnErr result (documents shelf.new ≡ documents shelf.old) }
@@ -100,9 +102,9 @@ fn enter(shelf: &mut Shelf, changes: &[Change], entering: Vec<Doc>) -> Result<()
 // Puts the documents in the place of those of their ids. It takes no memory.
 fn replace(shelf: &mut Shelf, replacing: Vec<Doc>)
     requires { AllByRecursion (λ d. stands (id_of d) (documents shelf.old) ≡ true)
-        (map doc replacing.items) }
+        (map document_of replacing.items) }
     ensures replaced { documents shelf.new
-        ≡ with_all (map doc replacing.items) (documents shelf.old) }
+        ≡ with_all (map document_of replacing.items) (documents shelf.old) }
     ensures stay { StayIn shelf.old shelf.new }
 {
     for document in replacing {
@@ -142,7 +144,7 @@ fn install(shelf: &mut Shelf, changes: &[Change]) -> Result<(), NoMemory>
     requires changes { AreChanges changes.now }
     requires leads { LeadFrom (documents shelf.old) (edits changes.now) }
     ensures installed { OnOk result (documents shelf.new
-        ≡ After (documents shelf.old) (edits changes.now)) }
+        ≡ after_changes (documents shelf.old) (edits changes.now)) }
     ensures kept { OnErr result (documents shelf.new ≡ documents shelf.old) }
     ensures steady { AreSteady shelf.old shelf.new }
 {
@@ -162,7 +164,7 @@ impl Docs {
     pub fn install(&mut self, prepared: &Prepared) -> Result<(), NoMemory>
         requires { AreTaken (docs self.old) (changes_of prepared.now) }
         ensures installed { OnOk result (docs self.new
-            ≡ After (docs self.old) (changes_of prepared.now)) }
+            ≡ after_changes (docs self.old) (changes_of prepared.now)) }
         ensures kept { OnErr result (docs self.new ≡ docs self.old) }
         ensures steady { ArePlacesSteady self.old self.new }
     {
@@ -173,7 +175,7 @@ impl Docs {
     /// is copied. `NoMemory` where the allocator has no room for their places.
     pub fn of(alloc: Global, prepared: Prepared) -> Result<Docs, NoMemory>
         requires { AreTaken [] (changes_of prepared) }
-        ensures { IfOk result (λ d. docs d ≡ After [] (changes_of prepared)) }
+        ensures { IfOk result (λ d. docs d ≡ after_changes [] (changes_of prepared)) }
     {
         let mut shelf = Shelf::new(alloc);
         let Prepared { changes, .. } = prepared;

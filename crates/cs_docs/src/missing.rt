@@ -5,7 +5,7 @@ ghost use Rattle.cs_value.specs.Pairs.{find as find_pair};
 ghost use Rattle.cs_value.specs.Tree.{trees};
 ghost use Rattle.cs_value.specs.View.{tree, fields, list_tree};
 ghost use Rattle.cs_view.specs.Dataset.{id_cmp, stands};
-ghost use Rattle.cs_view.specs.View.{edit, edits, doc};
+ghost use Rattle.cs_view.specs.View.{edit, edits, document_of};
 ghost use Rattle.cs_docs.specs.References.{is_yes, own_target, strong, strong_items, strong_pairs};
 ghost use Rattle.cs_docs.specs.Missing.{first_missing};
 ghost use Rattle.cs_docs.specs.Suspects.{dangles, is_changed};
@@ -28,7 +28,7 @@ pub(crate) fn change_of<'c>(changes: &'c [Change], id: &Txt) -> Option<&'c Chang
 }
 
 // Whether a document of the id stands after the changes.
-#[tactic(auto, using(crate::proofs::Standing::after_changes))]
+#[tactic(auto, using(crate::proofs::Standing::stands_after))]
 fn stands_after(store: &Docs, changes: &[Change], id: &Txt) -> bool
     requires { AreChanges changes.now }
     ensures { result ≡ stands id.now (after store.now changes.now) }
@@ -57,9 +57,7 @@ fn own_missing<'v>(object: &'v Fields, store: &Docs, changes: &[Change]) -> Opti
     ensures { option_map (λ t. t.now) result ≡ first_missing (after store.now changes.now)
         (own_target (fields object.now)) }
 {
-    let Some(Val::Text(target)) = object.get("_ref") else {
-        return None;
-    };
+    let target = object.reference()?;
     if may_dangle(object) || stands_after(store, changes, target) {
         None
     } else {
@@ -124,7 +122,7 @@ fn missing_member<'v>(object: &'v Fields, store: &Docs, changes: &[Change]) -> O
 // Whether a strong reference of the document dangles after the changes.
 pub(crate) fn dangles(it: &Doc, store: &Docs, changes: &[Change]) -> bool
     requires { AreChanges changes.now }
-    ensures { result ≡ dangles (after store.now changes.now) (doc it.now) }
+    ensures { result ≡ dangles (after store.now changes.now) (document_of it.now) }
 {
     first_missing(it.val(), store, changes).is_some()
 }
@@ -132,8 +130,8 @@ pub(crate) fn dangles(it: &Doc, store: &Docs, changes: &[Change]) -> bool
 // Whether the document has no change, and a strong reference of it dangles after the changes.
 pub(crate) fn dangles_unchanged(it: &Doc, store: &Docs, changes: &[Change]) -> bool
     requires { AreChanges changes.now }
-    ensures { result ≡ (not (is_changed (edits changes.now) (id_of (doc it.now)))
-        && dangles (after store.now changes.now) (doc it.now)) }
+    ensures { result ≡ (not (is_changed (edits changes.now) (id_of (document_of it.now)))
+        && dangles (after store.now changes.now) (document_of it.now)) }
 {
     change_of(changes, it.id()).is_none() && dangles(it, store, changes)
 }

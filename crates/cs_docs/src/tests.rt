@@ -1,6 +1,6 @@
 //! The documents of a store as a view, on three of them.
 ghost use Rattle.std.specs.Prelude.{◌≡◌, ◌<◌, [], ◌∷◌, IfOk};
-ghost use Rattle.cs_view.specs.View.{edits};
+ghost use Rattle.cs_view.specs.View.{document_of, edits};
 ghost use Rattle.cs_docs.specs.Gathered.{entering};
 
 use super::*;
@@ -33,7 +33,7 @@ fn document<'x>(alloc: Global, id: &'x str, word: &'x str) -> Result<Doc, Fail> 
 
 // The changes that put one document.
 fn one_change(alloc: Global, document: Doc) -> Result<Vec<Change>, NoMemory>
-    ensures { IfOk result (λ cs. edits cs.items ≡ entering (document ∷ [])) }
+    ensures { IfOk result (λ cs. edits cs.items ≡ entering (document_of document ∷ [])) }
 {
     let mut changes = Vec::new(alloc);
     changes.push(Change {

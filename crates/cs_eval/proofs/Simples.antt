@@ -4,10 +4,10 @@ use Rattle.std.specs.Prelude.{filter, IfSome}
 use Rattle.std.proofs.Common.{Option, None, Some}
 use Rattle.cs_value.specs.Words.{list_of}
 use Rattle.cs_value.specs.Tree.{Tree, null, Pairs}
-use Rattle.cs_view.specs.Keys.{Sel, has, has_all, selected}
+use Rattle.cs_view.specs.Keys.{having, has, has_all, selected}
 use Rattle.cs_view.specs.declared.key.Key.{Key}
 use Rattle.cs_syntax.specs.Expression.{Expression, everything, chain, bracket, Steps, more_steps, steps_of}
-use Rattle.cs_syntax.specs.View.{expression, step}
+use Rattle.cs_syntax.specs.View.{expression, step_of}
 use Rattle.cs_syntax.proofs.Views.{expression_chain, expression_all}
 use Rattle.cs_syntax.specs.declared.tree.Expr.{Expr}
 use Rattle.cs_syntax.specs.declared.tree.Expr as code
@@ -27,9 +27,9 @@ use Rattle.cs_window.specs.Windowed.{is_filtered}
 pub ruleset form = (expression_chain, expression_all)
 
 pub star_chain : (e : Expr) (base : Box Expr Global) (v : Vec CodeStep Global) (b : Expr) (ss : List CodeStep) → e ≡ code.Chain base v → b ≡ base.value → b ≡ code.All → ss ≡ v.items
-    → expression e ≡ chain everything (steps_of (map step ss))
+    → expression e ≡ chain everything (steps_of (map step_of ss))
 star_chain e base v b ss is there all same = ap expression is ∙ (expression_chain base v
-    ∙ (ap (λ (x : Expr). chain (expression x) (steps_of (map step v.items))) (sym there ∙ all) ∙ (ap (λ x. chain x (steps_of (map step v.items))) expression_all ∙ ap (λ (x : List CodeStep). chain everything (steps_of (map step x))) (sym same))))
+    ∙ (ap (λ (x : Expr). chain (expression x) (steps_of (map step_of v.items))) (sym there ∙ all) ∙ (ap (λ x. chain x (steps_of (map step_of v.items))) expression_all ∙ ap (λ (x : List CodeStep). chain everything (steps_of (map step_of x))) (sym same))))
 
 -- the hits are among the documents that have the keys of the query
 pub hits-within : (e : Expression) (params : Pairs) (docs : List Tree) → hits e params docs ≡ hits e params (selected (query_keys e params) docs)
@@ -70,7 +70,7 @@ fewer p q h (d ∷ ds) = by_tests (p d) (q d) (h d) (fewer p q h ds) where
   by_tests false true g few = omega (arith, few)
   by_tests false false g few = few
 
-pub all_fewer : (docs : List Tree) (params : Pairs) (e : Expression) (scope : List Tree) → length (selected (filter_keys e scope params) docs) ≤ length (Sel (key_in e scope params) docs)
+pub all_fewer : (docs : List Tree) (params : Pairs) (e : Expression) (scope : List Tree) → length (selected (filter_keys e scope params) docs) ≤ length (having (key_in e scope params) docs)
 all_fewer docs params e scope = fewer (has_all (filter_keys e scope params)) (has (key_in e scope params)) (all-have_key e scope params) docs
 
 pub simple_visits : (docs : List Tree) (params : Pairs) (scope : List Tree) (e f : Expression)
@@ -78,8 +78,8 @@ pub simple_visits : (docs : List Tree) (params : Pairs) (scope : List Tree) (e f
     → scope ≡ null ∷ [] → after ≤ before + length (selected (filter_keys f scope params) docs)
     → after ≤ before + cost e params docs
 simple_visits docs params scope e f later before after is root few =
-    let all : length (Sel (key_in f scope params) docs) ≡ cost e params docs =
-    ap (λ (k : Key). length (Sel k docs)) (is_key params scope e f later (key_in f scope params) is root refl) in
+    let all : length (having (key_in f scope params) docs) ≡ cost e params docs =
+    ap (λ (k : Key). length (having k docs)) (is_key params scope e f later (key_in f scope params) is root refl) in
     omega (arith, few, all_fewer docs params f scope, all)
 
 pub some_then : {A : Type 0} (r : Option A) {P Q : A → Type 0} → ((x : A) → P x → Q x) → IfSome r P → IfSome r Q
@@ -91,5 +91,5 @@ none_then None f h = f h
 none_then (Some x) f h = tt
 
 pub not_filtered : (e : Expr) (base : Box Expr Global) (v : Vec CodeStep Global) (b : Expr) (ss : List CodeStep) → e ≡ code.Chain base v → b ≡ base.value → b ≡ code.All → ss ≡ v.items
-    → starts_with_filter (steps_of (map step ss)) ≡ false → is_filtered (expression e) ≡ false
+    → starts_with_filter (steps_of (map step_of ss)) ≡ false → is_filtered (expression e) ≡ false
 not_filtered e base v b ss is there all same h = ap is_filtered (star_chain e base v b ss is there all same) ∙ h

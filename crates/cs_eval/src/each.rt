@@ -4,9 +4,9 @@ ghost use Rattle.cs_value.specs.Tree.{Tree};
 ghost use Rattle.cs_value.specs.View.{tree, fields};
 ghost use Rattle.cs_value.specs.Words.{list_of};
 ghost use Rattle.cs_syntax.specs.Expression.{steps_of};
-ghost use Rattle.cs_syntax.specs.Queries.{query as expression_of};
-ghost use Rattle.cs_syntax.specs.View.{step as step_of};
-ghost use Rattle.cs_view.specs.View.{doc as document};
+ghost use Rattle.cs_syntax.specs.Queries.{expression_of};
+ghost use Rattle.cs_syntax.specs.View.{step_of};
+ghost use Rattle.cs_view.specs.View.{document_of};
 ghost use Rattle.cs_window.specs.Mapped.{has_pipe, is_elementwise, is_mapped, is_piped, maps_each, share, share_looked};
 
 use crate::queries::parts;
@@ -100,9 +100,9 @@ pub fn share<V: View<L>, L: Ledger>(
 ) -> Result<Val, NoMemory>
     requires { is_mapped (expression_of query.now) ≡ true }
     ensures value { IfOk result (λ v. tree v ≡ share (V.docs view.now)
-        (expression_of query.now) (fields params.now) (document doc.now)) }
+        (expression_of query.now) (fields params.now) (document_of doc.now)) }
     ensures keys { OnOk result (keys.new ≡ keys.old ++ share_looked (V.docs view.now)
-        (expression_of query.now) (fields params.now) (document doc.now)) }
+        (expression_of query.now) (fields params.now) (document_of doc.now)) }
 {
     mapped_is_filtered();
     mapped_is_shares();

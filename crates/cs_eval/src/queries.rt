@@ -4,10 +4,10 @@ ghost use Rattle.cs_value.specs.Words.{list_of};
 ghost use Rattle.cs_value.specs.Tree.{null as null_tree};
 ghost use Rattle.cs_value.specs.View.{tree, fields};
 ghost use Rattle.cs_syntax.specs.Expression.{steps_of, chain, everything, more_steps, bracket as bracket_step};
-ghost use Rattle.cs_syntax.specs.Queries.{query as expression_of};
-ghost use Rattle.cs_syntax.specs.View.{expression, step as step_of};
-ghost use Rattle.cs_view.specs.Scopes.{scope};
-ghost use Rattle.cs_view.specs.View.{doc as document};
+ghost use Rattle.cs_syntax.specs.Queries.{expression_of};
+ghost use Rattle.cs_syntax.specs.View.{expression, step_of};
+ghost use Rattle.cs_view.specs.Scopes.{scope_of};
+ghost use Rattle.cs_view.specs.View.{document_of};
 ghost use Rattle.cs_plan.specs.Simple.{is_simple, query_key, query_keys};
 ghost use Rattle.cs_plan.specs.Steps.{bracketed, condition};
 ghost use Rattle.cs_meaning.specs.Hits.{is_hit, hits, tail, cost};
@@ -69,7 +69,7 @@ pub fn eval<'s, V: View<L>, L: Ledger>(
 pub fn hit(alloc: Global, query: &Query, params: &Fields, doc: &Doc) -> Result<bool, NoMemory>
     requires { is_filtered (expression_of query.now) ≡ true }
     ensures { IfOk result (λ b. b
-        ≡ is_hit (expression_of query.now) (fields params.now) (document doc.now)) }
+        ≡ is_hit (expression_of query.now) (fields params.now) (document_of doc.now)) }
 {
     let root = Scope {
         this: query.null(),
@@ -102,7 +102,7 @@ pub fn hits<V: View<L>, L: Ledger>(
     steps: &mut Steps<L>,
 ) -> Result<Vec<Doc>, NoMemory>
     requires { is_filtered (expression_of query.now) ≡ true }
-    ensures hits { IfOk result (λ v. map document v.items
+    ensures hits { IfOk result (λ v. map document_of v.items
         ≡ hits (expression_of query.now) (fields params.now) (V.docs view.now)) }
     ensures visits { steps.new
         ≤ steps.old + cost (expression_of query.now) (fields params.now) (V.docs view.now) }
@@ -125,9 +125,9 @@ fn push_hit(
     found: &mut Vec<Doc>,
 ) -> Result<(), NoMemory>
     requires { is_filtered (expression_of query.now) ≡ true }
-    ensures { OnOk result (map document found.new.items
-        ≡ map document found.old.items
-        ++ hits (expression_of query.now) (fields params.now) (document doc.now ∷ [])) }
+    ensures { OnOk result (map document_of found.new.items
+        ≡ map document_of found.old.items
+        ++ hits (expression_of query.now) (fields params.now) (document_of doc.now ∷ [])) }
 {
     if hit(alloc, query, params, doc)? {
         found.push(doc.copy()?)?;
@@ -179,7 +179,7 @@ pub fn tail<'s>(
 ) -> Result<Val, NoMemory>
     requires { is_filtered (expression_of query.now) ≡ true }
     ensures { IfOk result (λ v. tree v
-        ≡ tail (expression_of query.now) (fields params.now) (map document hits.now)) }
+        ≡ tail (expression_of query.now) (fields params.now) (map document_of hits.now)) }
 {
     let root = Scope {
         this: query.null(),
@@ -194,7 +194,7 @@ pub fn tail<'s>(
 
 // The documents as values.
 pub(crate) fn vals_of<'d>(alloc: Global, docs: &'d [Doc]) -> Result<Vec<&'d Val>, NoMemory>
-    ensures { IfOk result (λ v. map (λ r. tree r.now) v.items ≡ map document docs.now) }
+    ensures { IfOk result (λ v. map (λ r. tree r.now) v.items ≡ map document_of docs.now) }
 {
     let mut vals = Vec::new(alloc);
     for doc in docs {
@@ -229,8 +229,8 @@ fn tail_from<'s>(
     list: Got<'s>,
 ) -> Result<Got<'s>, NoMemory>
     ensures { IfOk result (λ g. let ss = steps_of (map step_of steps.now) in
-        got g ≡ pipes_value [] (fields params.now) ss (scope frame.now)
-        (enter_value [] (fields params.now) ss (scope frame.now) (got list.entry))) }
+        got g ≡ pipes_value [] (fields params.now) ss (scope_of frame.now)
+        (enter_value [] (fields params.now) ss (scope_of frame.now) (got list.entry))) }
 {
     let kinds = kinds(alloc, steps)?;
     let mut aside = Record::new(alloc);
@@ -269,10 +269,10 @@ fn tail_of_hits<'s>(
     docs: Vec<&'s Val>,
 ) -> Result<Got<'s>, NoMemory>
     ensures { IfOk result (λ g. let ss = steps_of (map step_of steps.now) in
-        got g ≡ pipes_value [] (fields params.now) ss (scope frame.now)
-        (enter_value [] (fields params.now) ss (scope frame.now) (list_of (filter
+        got g ≡ pipes_value [] (fields params.now) ss (scope_of frame.now)
+        (enter_value [] (fields params.now) ss (scope_of frame.now) (list_of (filter
         (λ x. is_true (value_of [] (fields params.now) (expression condition.now)
-        (x ∷ scope frame.now)))
+        (x ∷ scope_of frame.now)))
         (map (λ r. tree r.now) docs.entry.items))))) }
 {
     let mut aside = Record::new(alloc);
@@ -302,7 +302,7 @@ fn simple_value<'s, V: View<L>, L: Ledger>(
     count: &mut Steps<L>,
 ) -> Result<Got<'s>, NoMemory>
     requires simple { is_simple (expression_of query.now) ≡ true }
-    requires root { scope frame.now ≡ null_tree ∷ [] }
+    requires root { scope_of frame.now ≡ null_tree ∷ [] }
     ensures value { IfOk result (λ g. got g ≡ query_value (V.docs view.now) (fields params.now)
         (expression_of query.now)) }
     ensures keys { OnOk result (keys.new ≡ keys.old ++ query_looked (V.docs view.now)

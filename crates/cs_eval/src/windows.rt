@@ -4,10 +4,10 @@ ghost use Rattle.std.specs.Prelude.{◌≡◌, ◌<◌, ◌≤◌, ◌∷◌, �
 ghost use Rattle.cs_value.specs.Tree.{null};
 ghost use Rattle.cs_value.specs.View.{tree, fields};
 ghost use Rattle.cs_syntax.specs.Expression.{keys_of, steps_of};
-ghost use Rattle.cs_syntax.specs.Queries.{query as expression_of};
-ghost use Rattle.cs_syntax.specs.View.{step as step_of, key as order_key_of};
-ghost use Rattle.cs_view.specs.Scopes.{scope};
-ghost use Rattle.cs_view.specs.View.{doc as document};
+ghost use Rattle.cs_syntax.specs.Queries.{expression_of};
+ghost use Rattle.cs_syntax.specs.View.{step_of, order_key_of};
+ghost use Rattle.cs_view.specs.Scopes.{scope_of};
+ghost use Rattle.cs_view.specs.View.{document_of};
 ghost use Rattle.cs_plan.specs.Simple.{quiet_keys, tail_of};
 ghost use Rattle.cs_meaning.specs.Ordered.{ranked};
 ghost use Rattle.cs_order.specs.Ranked.{ranked as ranked_of};
@@ -58,7 +58,7 @@ pub fn window(query: &Query) -> Option<usize>
 }
 
 // Whether the keys of an order look nothing up.
-#[tactic(auto, unfolding(cs_syntax::specs::View::key, cs_syntax::specs::View::expression))]
+#[tactic(auto, unfolding(cs_syntax::specs::View::order_key_of, cs_syntax::specs::View::expression))]
 fn are_quiet(order: &[OrderKey]) -> bool
     ensures { result ≡ quiet_keys (keys_of (map order_key_of order.now)) }
 {
@@ -104,7 +104,7 @@ fn lent<'v>(alloc: Global, vals: &'v [Val]) -> Result<Vec<Item<'v>>, NoMemory>
 
 // Documents as elements that are lent.
 fn lent_docs<'d>(alloc: Global, docs: &'d [Doc]) -> Result<Vec<Item<'d>>, NoMemory>
-    ensures { IfOk result (λ v. map item v.items ≡ map document docs.now) }
+    ensures { IfOk result (λ v. map item v.items ≡ map document_of docs.now) }
 {
     let mut items = Vec::new(alloc);
     for doc in docs {
@@ -132,7 +132,7 @@ fn ranked<'k>(
     params: &'k Fields,
     this: &'k Val,
 ) -> Result<Ranked<'k, 'k>, NoMemory>
-    requires { scope root.now ≡ null ∷ [] }
+    requires { scope_of root.now ≡ null ∷ [] }
     ensures { IfOk result (λ r. ranked_of r ≡ ranked (order_keys
         (keys_of (map order_key_of order.now)) (fields params.now)) (tree this.now)) }
 {
@@ -163,9 +163,9 @@ fn first_ranked<'k>(
     params: &'k Fields,
     docs: &'k [Doc],
 ) -> Result<Vec<Ranked<'k, 'k>>, NoMemory>
-    requires { scope root.now ≡ null ∷ [] }
+    requires { scope_of root.now ≡ null ∷ [] }
     ensures { IfOk result (λ v. map ranked_of v.items ≡ take limit (by_order
-        (keys_of (map order_key_of order.now)) (fields params.now) (map document docs.now))) }
+        (keys_of (map order_key_of order.now)) (fields params.now) (map document_of docs.now))) }
 {
     let directions = directions(alloc, order)?;
     let items = lent_docs(alloc, docs)?;
@@ -197,7 +197,7 @@ pub fn is_near(
 ) -> Result<bool, NoMemory>
     requires { is_filtered (expression_of query.now) ≡ true }
     ensures { IfOk result (λ b. b ≡ is_near (expression_of query.now) (fields params.now)
-        (map tree bound.now) (document doc.now)) }
+        (map tree bound.now) (document_of doc.now)) }
 {
     let root = Scope {
         this: query.null(),
@@ -231,7 +231,7 @@ pub fn keys_at(
     requires filtered { is_filtered (expression_of query.now) ≡ true }
     requires within { place < length docs.now }
     ensures { IfOk result (λ o. option_map (λ bound. map tree bound.items) o
-        ≡ keys_at (expression_of query.now) (fields params.now) (map document docs.now) place) }
+        ≡ keys_at (expression_of query.now) (fields params.now) (map document_of docs.now) place) }
 {
     let root = Scope {
         this: query.null(),
@@ -260,9 +260,9 @@ pub fn tail_over<'s, V: View<L>, L: Ledger>(
 ) -> Result<Val, NoMemory>
     requires { is_filtered (expression_of query.now) ≡ true }
     ensures value { IfOk result (λ v. tree v ≡ tail_over (V.docs view.now)
-        (expression_of query.now) (fields params.now) (map document hits.now)) }
+        (expression_of query.now) (fields params.now) (map document_of hits.now)) }
     ensures keys { OnOk result (keys.new ≡ keys.old ++ tail_looked (V.docs view.now)
-        (expression_of query.now) (fields params.now) (map document hits.now)) }
+        (expression_of query.now) (fields params.now) (map document_of hits.now)) }
 {
     let root = Scope {
         this: query.null(),

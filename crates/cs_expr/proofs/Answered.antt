@@ -4,10 +4,10 @@ use Rattle.std.specs.Prelude.{filter, flat_map, OnOk, Result, Ok, Err}
 use Rattle.cs_value.specs.Words.{list_of}
 use Rattle.cs_value.specs.Tree.{Tree, Pairs}
 use Rattle.cs_value.proofs.Views.{members-trees}
-use Rattle.cs_view.specs.Keys.{Sel, has, has_all, selected}
+use Rattle.cs_view.specs.Keys.{having, has, has_all, selected}
 use Rattle.cs_view.specs.declared.key.Key.{Key}
 use Rattle.cs_syntax.specs.Expression.{Expression, Operands, everything, run, bracket, pipe, Step, Steps, more_steps, steps_of, operands_of, keys_of}
-use Rattle.cs_syntax.specs.View.{expression, operands, step, key}
+use Rattle.cs_syntax.specs.View.{expression, operands, step_of, order_key_of}
 use Rattle.cs_syntax.specs.declared.tree.BinSign.{BinSign}
 use Rattle.cs_syntax.specs.declared.tree.Expr.{Expr}
 use Rattle.cs_syntax.specs.declared.tree.Expr as code
@@ -40,8 +40,8 @@ pub run_parts : (e : Expr) (first : Box Expr Global) (rest : Vec (BinSign × Exp
 run_parts e first rest b xs is there same = ap expression is ∙ (expression_run first rest
     ∙ (ap (λ (x : Expr). run (expression x) (operands_of (operands rest.items))) (sym there) ∙ ap (λ (x : List (BinSign × Expr)). run (expression b) (operands_of (operands x))) (sym same)))
 
-pub pipe_parts : (s : CodeStep) (name : List ℕ) (order : Vec OrderKey Global) (ks : List OrderKey) → s ≡ step_code.Pipe name order → ks ≡ order.items → pipe name (keys_of (map key ks)) ≡ step s
-pipe_parts s name order ks is same = ap (λ (x : List OrderKey). pipe name (keys_of (map key x))) same ∙ (sym (step_pipe name order) ∙ sym (ap step is))
+pub pipe_parts : (s : CodeStep) (name : List ℕ) (order : Vec OrderKey Global) (ks : List OrderKey) → s ≡ step_code.Pipe name order → ks ≡ order.items → pipe name (keys_of (map order_key_of ks)) ≡ step_of s
+pipe_parts s name order ks is same = ap (λ (x : List OrderKey). pipe name (keys_of (map order_key_of x))) same ∙ (sym (step_pipe name order) ∙ sym (ap step_of is))
 
 pub run_keys : (docs : List Tree) (params : Pairs) (scope : List Tree) (e b : Expression) (rest : Operands) (v : Tree) → e ≡ run b rest → v ≡ value docs params b scope
     → looked docs params b scope ++ run_looked docs params rest scope v ≡ looked docs params e scope
@@ -56,17 +56,17 @@ filter_tried docs params e scope = by_test (is_quiet e) where
   p : Tree → Bool
   p x = is_true (value docs params e (x ∷ scope))
 
-  by_test : (b : Bool) → filter p (cond b (selected (filter_keys e scope params) docs) (Sel (key_in e scope params) docs)) ≡ filter p docs
+  by_test : (b : Bool) → filter p (cond b (selected (filter_keys e scope params) docs) (having (key_in e scope params) docs)) ≡ filter p docs
   by_test true = sym (filter-within p (has_all (filter_keys e scope params)) (λ x h. true-has_all docs params e scope x h) docs)
   by_test false = sym (filter-within p (has (key_in e scope params)) (λ x h. true-has_key docs params e scope x h) docs)
 
-looked_tried : (docs : List Tree) (params : Pairs) (e : Expression) (scope : List Tree) → flat_map (λ x. looked docs params e (x ∷ scope)) (tried docs params e scope) ≡ flat_map (λ x. looked docs params e (x ∷ scope)) (Sel (key_in e scope params) docs)
+looked_tried : (docs : List Tree) (params : Pairs) (e : Expression) (scope : List Tree) → flat_map (λ x. looked docs params e (x ∷ scope)) (tried docs params e scope) ≡ flat_map (λ x. looked docs params e (x ∷ scope)) (having (key_in e scope params) docs)
 looked_tried docs params e scope = by_test (is_quiet e) refl where
   f : Tree → List Key
   f x = looked docs params e (x ∷ scope)
 
-  by_test : (b : Bool) → is_quiet e ≡ b → flat_map f (cond b (selected (filter_keys e scope params) docs) (Sel (key_in e scope params) docs)) ≡ flat_map f (Sel (key_in e scope params) docs)
-  by_test true q = flat-none f (λ x. silent docs params e q (x ∷ scope)) (selected (filter_keys e scope params) docs) ∙ sym (flat-none f (λ x. silent docs params e q (x ∷ scope)) (Sel (key_in e scope params) docs))
+  by_test : (b : Bool) → is_quiet e ≡ b → flat_map f (cond b (selected (filter_keys e scope params) docs) (having (key_in e scope params) docs)) ≡ flat_map f (having (key_in e scope params) docs)
+  by_test true q = flat-none f (λ x. silent docs params e q (x ∷ scope)) (selected (filter_keys e scope params) docs) ∙ sym (flat-none f (λ x. silent docs params e q (x ∷ scope)) (having (key_in e scope params) docs))
   by_test false q = refl
 
 pub kept_docs : (docs : List Tree) (params : Pairs) (e : Expression) (scope : List Tree) (found items kept : List Tree)
@@ -78,15 +78,15 @@ kept_docs docs params e scope found items kept is-found is-items is-kept =
 
 pub kept_keys : (docs : List Tree) (params : Pairs) (e : Expression) (scope : List Tree) (k : Key) (found items : List Tree) (k0 k1 k2 ys zs : List Key)
     → k ≡ key_in e scope params → found ≡ tried docs params e scope → items ≡ found → k1 ≡ k0 ++ k ∷ [] → k2 ≡ k1 ++ flat_map (λ x. looked docs params e (x ∷ scope)) items → ys ≡ zs
-    → k2 ++ ys ≡ k0 ++ (key_in e scope params ∷ (flat_map (λ x. looked docs params e (x ∷ scope)) (Sel (key_in e scope params) docs) ++ zs))
+    → k2 ++ ys ≡ k0 ++ (key_in e scope params ∷ (flat_map (λ x. looked docs params e (x ∷ scope)) (having (key_in e scope params) docs) ++ zs))
 kept_keys docs params e scope k found items k0 k1 k2 ys zs is-k is-found is-items is-1 is-2 is-ys =
     let f = λ (x : Tree). looked docs params e (x ∷ scope) in
-    let same : flat_map f items ≡ flat_map f (Sel (key_in e scope params) docs) = ap (flat_map f) (is-items ∙ is-found) ∙ looked_tried docs params e scope in
+    let same : flat_map f items ≡ flat_map f (having (key_in e scope params) docs) = ap (flat_map f) (is-items ∙ is-found) ∙ looked_tried docs params e scope in
     ap (λ (ks : List Key). ks ++ ys) (is-2 ∙ (ap (λ (ks : List Key). ks ++ flat_map f items) is-1 ∙ append_assoc k0 (k ∷ []) (flat_map f items)))
     ∙ (append_assoc k0 (k ∷ flat_map f items) ys
     ∙ (ap (λ (x : Key). k0 ++ (x ∷ (flat_map f items ++ ys))) is-k
     ∙ (ap (λ (xs : List Key). k0 ++ (key_in e scope params ∷ (xs ++ ys))) same
-    ∙ ap (λ (ks : List Key). k0 ++ (key_in e scope params ∷ (flat_map f (Sel (key_in e scope params) docs) ++ ks))) is-ys)))
+    ∙ ap (λ (ks : List Key). k0 ++ (key_in e scope params ∷ (flat_map f (having (key_in e scope params) docs) ++ ks))) is-ys)))
 
 -- `*` with a filter in front of a rest
 pub star_value : (docs : List Tree) (params : Pairs) (b e : Expression) (ss later : Steps) (scope : List Tree) → b ≡ everything → ss ≡ more_steps (bracket e) later → bracketed e ≡ condition
@@ -101,11 +101,11 @@ is_filter_then : (b : Bracketed) → b ≡ condition → (x y : List Key) → co
 is_filter_then b h x y = ap (λ (z : Bracketed). cond (is_condition z) x y) h
 
 pub star_looked : (docs : List Tree) (params : Pairs) (b e : Expression) (ss later : Steps) (scope : List Tree) → b ≡ everything → ss ≡ more_steps (bracket e) later → bracketed e ≡ condition
-    → key_in e scope params ∷ (flat_map (λ d. looked docs params e (d ∷ scope)) (Sel (key_in e scope params) docs) ++ enter_looked docs params later scope (filtered (λ x. is_true (value docs params e (x ∷ scope))) (list_of docs)))
+    → key_in e scope params ∷ (flat_map (λ d. looked docs params e (d ∷ scope)) (having (key_in e scope params) docs) ++ enter_looked docs params later scope (filtered (λ x. is_true (value docs params e (x ∷ scope))) (list_of docs)))
     ≡ start_looked docs params b ss scope
 star_looked docs params b e ss later scope is-b is-ss is-e =
     let p = λ (x : Tree). is_true (value docs params e (x ∷ scope)) in
-    ap (λ (v : Tree). key_in e scope params ∷ (flat_map (λ d. looked docs params e (d ∷ scope)) (Sel (key_in e scope params) docs) ++ enter_looked docs params later scope v))
+    ap (λ (v : Tree). key_in e scope params ∷ (flat_map (λ d. looked docs params e (d ∷ scope)) (having (key_in e scope params) docs) ++ enter_looked docs params later scope v))
     (sym (ap (λ (x : Bracketed). in_bracket x p (list_of docs)) is-e))
     ∙ (sym (is_filter_then (bracketed e) is-e (filter_looked docs params (more_steps (bracket e) later) scope) _)
     ∙ (ap (λ (x : Expression). start_looked docs params x (more_steps (bracket e) later) scope) (sym is-b) ∙ ap (λ (x : Steps). start_looked docs params b x scope) (sym is-ss)))
@@ -124,11 +124,11 @@ is_everything_then everything h = refl
 is_everything_then _ h = absurd (true≢false (sym h))
 
 -- the kinds behind the first step
-pub kinds_behind : (xs : List CodeStep) (x : CodeStep) (ys : List CodeStep) (ks js : List Kind) → xs ≡ x ∷ ys → ks ≡ kinds_of (map step xs) → js ≡ drop 1 ks → js ≡ kinds_of (map step ys)
-kinds_behind xs x ys ks js is has behind = behind ∙ (ap (drop 1) has ∙ ap (λ (zs : List CodeStep). drop 1 (kinds_of (map step zs))) is)
+pub kinds_behind : (xs : List CodeStep) (x : CodeStep) (ys : List CodeStep) (ks js : List Kind) → xs ≡ x ∷ ys → ks ≡ kinds_of (map step_of xs) → js ≡ drop 1 ks → js ≡ kinds_of (map step_of ys)
+kinds_behind xs x ys ks js is has behind = behind ∙ (ap (drop 1) has ∙ ap (λ (zs : List CodeStep). drop 1 (kinds_of (map step_of zs))) is)
 
-pub kind_behind : (xs : List CodeStep) (x : CodeStep) (ys : List CodeStep) (ks js : List Kind) → xs ≡ x ∷ ys → ks ≡ kinds_of (map step xs) → js ≡ drop 1 ks → first_kind js ≡ kind (steps_of (map step ys))
-kind_behind xs x ys ks js is has behind = ap first_kind (kinds_behind xs x ys ks js is has behind) ∙ first_of_kinds (map step ys)
+pub kind_behind : (xs : List CodeStep) (x : CodeStep) (ys : List CodeStep) (ks js : List Kind) → xs ≡ x ∷ ys → ks ≡ kinds_of (map step_of xs) → js ≡ drop 1 ks → first_kind js ≡ kind (steps_of (map step_of ys))
+kind_behind xs x ys ks js is has behind = ap first_kind (kinds_behind xs x ys ks js is has behind) ∙ first_of_kinds (map step_of ys)
 
 -- a fact that the result does not change
 pub on_ok : {A E : Type 0} (r : Result A E) {P : Type 0} → P → OnOk r P

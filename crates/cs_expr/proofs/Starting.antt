@@ -4,7 +4,7 @@ use Rattle.std.specs.Prelude.{IfSome, unwrap_or, ◌&&◌}
 use Rattle.cs_value.specs.Tree.{Tree, Pairs}
 use Rattle.cs_view.specs.declared.key.Key.{Key}
 use Rattle.cs_syntax.specs.Expression.{Expression, Step, Steps, OrderKeys, pipe, no_steps, more_steps}
-use Rattle.cs_syntax.specs.View.{step}
+use Rattle.cs_syntax.specs.View.{step_of}
 use Rattle.cs_meaning.specs.declared.join.Kind.{Kind}
 use Rattle.cs_meaning.specs.declared.join.Entrance.{Entrance}
 use Rattle.cs_meaning.specs.declared.join.Entrance.TheVariants.{Whole, Mapped, Flat}
@@ -54,24 +54,24 @@ entering_weight Mapped g r = refl
 entering_weight Flat g r = refl
 
 -- a value that enters a rest as an array does
-kind_in : (k : Kind) (r : Remaining) → k ≡ first_kind r.kinds.now → r.kinds.now ≡ kinds_of (map step r.steps.now) → k ≡ kind (steps_in r)
-kind_in k r is has = is ∙ (ap first_kind has ∙ first_of_kinds (map step r.steps.now))
+kind_in : (k : Kind) (r : Remaining) → k ≡ first_kind r.kinds.now → r.kinds.now ≡ kinds_of (map step_of r.steps.now) → k ≡ kind (steps_in r)
+kind_in k r is has = is ∙ (ap first_kind has ∙ first_of_kinds (map step_of r.steps.now))
 
 pub array_enters : (docs : List Tree) (params : Pairs) (scope : List Tree) (h : Reached) (e : Entrance) (k : Kind) (g : Got) (r : Remaining)
-    → h ≡ entering e g r → e ≡ entrance k → k ≡ first_kind r.kinds.now → r.kinds.now ≡ kinds_of (map step r.steps.now)
+    → h ≡ entering e g r → e ≡ entrance k → k ≡ first_kind r.kinds.now → r.kinds.now ≡ kinds_of (map step_of r.steps.now)
     → stop_value docs params scope (stopped h) ≡ enter_value docs params (steps_in r) scope (got g)
 array_enters docs params scope h e k g r is is-e is-k has =
     ap (λ x. stop_value docs params scope (stopped x)) is ∙ (entering_value docs params scope e g r
     ∙ ap (λ x. entered x (rest_value docs params (steps_in r) scope) (got g)) (is-e ∙ ap entrance (kind_in k r is-k has)))
 
 pub array_looks : (docs : List Tree) (params : Pairs) (scope : List Tree) (h : Reached) (e : Entrance) (k : Kind) (g : Got) (r : Remaining)
-    → h ≡ entering e g r → e ≡ entrance k → k ≡ first_kind r.kinds.now → r.kinds.now ≡ kinds_of (map step r.steps.now)
+    → h ≡ entering e g r → e ≡ entrance k → k ≡ first_kind r.kinds.now → r.kinds.now ≡ kinds_of (map step_of r.steps.now)
     → stop_looked docs params scope (stopped h) ≡ enter_looked docs params (steps_in r) scope (got g)
 array_looks docs params scope h e k g r is is-e is-k has =
     ap (λ x. stop_looked docs params scope (stopped x)) is ∙ (entering_looks docs params scope e g r
     ∙ ap (λ x. entered_looked x (rest_looked docs params (steps_in r) scope) (got g)) (is-e ∙ ap entrance (kind_in k r is-k has)))
 
-pub array_fits : (h : Reached) (e : Entrance) (g : Got) (r : Remaining) → h ≡ entering e g r → r.kinds.now ≡ kinds_of (map step r.steps.now) → ReachedFits (reached_weight h) h
+pub array_fits : (h : Reached) (e : Entrance) (g : Got) (r : Remaining) → h ≡ entering e g r → r.kinds.now ≡ kinds_of (map step_of r.steps.now) → ReachedFits (reached_weight h) h
 array_fits h e g r is has = subst (λ x. ReachedFits (reached_weight x) x) (sym is)
     (entering_fits (reached_weight (entering e g r)) e g r (has, omega (arith, entering_weight e g r)))
 
@@ -138,7 +138,7 @@ pipe_turn_looks docs params ss later scope name ks limit v l h k0 k1 k2 is asks 
 
 -- a base that is no `*` with a filter
 pub base_enters : (docs : List Tree) (params : Pairs) (scope : List Tree) (b : Expression) (h : Reached) (e : Entrance) (k : Kind) (g : Got) (r : Remaining)
-    → h ≡ entering e g r → e ≡ base_entrance b k → k ≡ first_kind r.kinds.now → r.kinds.now ≡ kinds_of (map step r.steps.now) → got g ≡ value docs params b scope
+    → h ≡ entering e g r → e ≡ base_entrance b k → k ≡ first_kind r.kinds.now → r.kinds.now ≡ kinds_of (map step_of r.steps.now) → got g ≡ value docs params b scope
     → stop_value docs params scope (stopped h) ≡ start_value docs params b (steps_in r) scope
 base_enters docs params scope b h e k g r is is-e is-k has is-g =
     ap (λ x. stop_value docs params scope (stopped x)) is ∙ (entering_value docs params scope e g r
@@ -146,7 +146,7 @@ base_enters docs params scope b h e k g r is is-e is-k has is-g =
     ∙ ap (entered (base_entrance b (kind (steps_in r))) (rest_value docs params (steps_in r) scope)) is-g))
 
 pub base_looks : (docs : List Tree) (params : Pairs) (scope : List Tree) (b : Expression) (h : Reached) (e : Entrance) (k : Kind) (g : Got) (r : Remaining) (k0 k1 : List Key)
-    → h ≡ entering e g r → e ≡ base_entrance b k → k ≡ first_kind r.kinds.now → r.kinds.now ≡ kinds_of (map step r.steps.now) → got g ≡ value docs params b scope
+    → h ≡ entering e g r → e ≡ base_entrance b k → k ≡ first_kind r.kinds.now → r.kinds.now ≡ kinds_of (map step_of r.steps.now) → got g ≡ value docs params b scope
     → (is_everything b && starts_with_filter (steps_in r)) ≡ false → k1 ≡ k0 ++ looked docs params b scope
     → k1 ++ stop_looked docs params scope (stopped h) ≡ k0 ++ start_looked docs params b (steps_in r) scope
 base_looks docs params scope b h e k g r k0 k1 is is-e is-k has is-g plain looks =
@@ -160,7 +160,7 @@ base_looks docs params scope b h e k g r k0 k1 is is-e is-k has is-g plain looks
     ∙ ap (entered_looked (base_entrance b (kind ss)) rk) is-g)))))
 
 -- what a chain starts with, fits
-pub starting_fits : (n : ℕ) (h : Reached) (e : Entrance) (g : Got) (r : Remaining) → h ≡ entering e g r → r.kinds.now ≡ kinds_of (map step r.steps.now) → steps_weight (steps_in r) ≤ n → ReachedFits n h
+pub starting_fits : (n : ℕ) (h : Reached) (e : Entrance) (g : Got) (r : Remaining) → h ≡ entering e g r → r.kinds.now ≡ kinds_of (map step_of r.steps.now) → steps_weight (steps_in r) ≤ n → ReachedFits n h
 starting_fits n h e g r is has le = subst (ReachedFits n) (sym is) (entering_fits n e g r (has, le))
 
 -- what a step and the rest behind it look up

@@ -1,6 +1,6 @@
 -- What is left of a chain weighs no more than a chain does.
 use Rattle.std.specs.Prelude.{◌≡◌, ℕ, ◌≤◌, ⊤, List, [], ◌∷◌, map}
-use Rattle.cs_syntax.specs.View.{step}
+use Rattle.cs_syntax.specs.View.{step_of}
 use Rattle.cs_parts.specs.Kinds.{kinds_of}
 use Rattle.cs_levels.specs.Levels.{Waiting}
 use Rattle.cs_levels.specs.Nodes.{steps_in}
@@ -11,7 +11,7 @@ use Rattle.cs_expr.specs.Weight.{steps_weight}
 
 -- the kinds of a rest are those of its steps, and it weighs no more than this
 abbrev pub Fits : ℕ → Remaining → Type 0
-Fits n r = (r.kinds.now ≡ kinds_of (map step r.steps.now)) × (steps_weight (steps_in r) ≤ n)
+Fits n r = (r.kinds.now ≡ kinds_of (map step_of r.steps.now)) × (steps_weight (steps_in r) ≤ n)
 
 -- each of them fits
 abbrev pub AllFit : ℕ → List Waiting → Type 0

@@ -2,8 +2,8 @@
 ghost use Rattle.std.specs.Prelude.{◌≡◌, ◌++◌, IfOk, OnOk, map, option_map};
 ghost use Rattle.cs_value.specs.View.{fields};
 ghost use Rattle.cs_syntax.specs.Expression.{arguments_of, call as call_node};
-ghost use Rattle.cs_syntax.specs.View.{expression, arg as argument_of};
-ghost use Rattle.cs_view.specs.Scopes.{scope};
+ghost use Rattle.cs_syntax.specs.View.{expression, argument_of};
+ghost use Rattle.cs_view.specs.Scopes.{scope_of};
 ghost use Rattle.cs_meaning.specs.Values.{value as value_of, argument_value, arguments_values, coalesced, selected};
 ghost use Rattle.cs_meaning.specs.Looked.{looked, argument_looked, arguments_looked, coalesced_looked, selected_looked};
 ghost use Rattle.cs_parts.specs.Parts.{got};
@@ -30,9 +30,9 @@ pub(crate) fn call<'s, S: Source<C>, C>(
     count: &mut C,
 ) -> Result<Got<'s>, NoMemory>
     ensures value { IfOk result (λ g. got g ≡ value_of (S.docs source.now) (fields params.now)
-        (call_node name.now (arguments_of (map argument_of args.now))) (scope frame.now)) }
+        (call_node name.now (arguments_of (map argument_of args.now))) (scope_of frame.now)) }
     ensures keys { OnOk result (keys.new ≡ keys.old ++ looked (S.docs source.now) (fields
-        params.now) (call_node name.now (arguments_of (map argument_of args.now))) (scope
+        params.now) (call_node name.now (arguments_of (map argument_of args.now))) (scope_of
         frame.now)) }
 {
     match callee_of(name) {
@@ -62,9 +62,9 @@ fn coalesce<'s, S: Source<C>, C>(
     count: &mut C,
 ) -> Result<Got<'s>, NoMemory>
     ensures value { IfOk result (λ g. got g ≡ coalesced (S.docs source.now) (fields params.now)
-        (arguments_of (map argument_of args.now)) (scope frame.now)) }
+        (arguments_of (map argument_of args.now)) (scope_of frame.now)) }
     ensures keys { OnOk result (keys.new ≡ keys.old ++ coalesced_looked (S.docs source.now)
-        (fields params.now) (arguments_of (map argument_of args.now)) (scope frame.now)) }
+        (fields params.now) (arguments_of (map argument_of args.now)) (scope_of frame.now)) }
 {
     let mut behind = args;
     while let Some((first, later)) = behind.split_first() {
@@ -92,9 +92,9 @@ fn select<'s, S: Source<C>, C>(
     count: &mut C,
 ) -> Result<Got<'s>, NoMemory>
     ensures value { IfOk result (λ g. got g ≡ selected (S.docs source.now) (fields params.now)
-        (arguments_of (map argument_of args.now)) (scope frame.now)) }
+        (arguments_of (map argument_of args.now)) (scope_of frame.now)) }
     ensures keys { OnOk result (keys.new ≡ keys.old ++ selected_looked (S.docs source.now) (fields
-        params.now) (arguments_of (map argument_of args.now)) (scope frame.now)) }
+        params.now) (arguments_of (map argument_of args.now)) (scope_of frame.now)) }
 {
     let mut behind = args;
     while let Some((first, later)) = behind.split_first() {
@@ -108,7 +108,7 @@ fn select<'s, S: Source<C>, C>(
 
 // What an argument of `select` stands for: nothing where its condition is not true.
 #[cycle(eval)]
-#[tactic(auto, unfolding(cs_syntax::specs::View::arg, cs_syntax::specs::View::expression))]
+#[tactic(auto, unfolding(cs_syntax::specs::View::argument_of, cs_syntax::specs::View::expression))]
 fn choice<'s, S: Source<C>, C>(
     alloc: Global,
     arg: &'s Arg,
@@ -119,9 +119,9 @@ fn choice<'s, S: Source<C>, C>(
     count: &mut C,
 ) -> Result<Option<&'s Expr>, NoMemory>
     ensures value { IfOk result (λ o. option_map (λ e. expression e.now) o ≡ chosen (S.docs
-        source.now) (fields params.now) (argument_of arg.now) (scope frame.now)) }
+        source.now) (fields params.now) (argument_of arg.now) (scope_of frame.now)) }
     ensures keys { OnOk result (keys.new ≡ keys.old ++ chosen_looked (S.docs source.now) (fields
-        params.now) (argument_of arg.now) (scope frame.now)) }
+        params.now) (argument_of arg.now) (scope_of frame.now)) }
 {
     match arg {
         Arg::One(expr) => Ok(Some(expr)),
@@ -147,9 +147,9 @@ pub(crate) fn arguments<'s, S: Source<C>, C>(
     count: &mut C,
 ) -> Result<Vec<Got<'s>>, NoMemory>
     ensures value { IfOk result (λ v. map got v.items ≡ arguments_values (S.docs source.now)
-        (fields params.now) (arguments_of (map argument_of args.now)) (scope frame.now)) }
+        (fields params.now) (arguments_of (map argument_of args.now)) (scope_of frame.now)) }
     ensures keys { OnOk result (keys.new ≡ keys.old ++ arguments_looked (S.docs source.now)
-        (fields params.now) (arguments_of (map argument_of args.now)) (scope frame.now)) }
+        (fields params.now) (arguments_of (map argument_of args.now)) (scope_of frame.now)) }
 {
     let mut out = Vec::new(alloc);
     let mut behind = args;
@@ -176,9 +176,9 @@ fn argument<'s, S: Source<C>, C>(
     count: &mut C,
 ) -> Result<Got<'s>, NoMemory>
     ensures value { IfOk result (λ g. got g ≡ argument_value (S.docs source.now) (fields
-        params.now) (argument_of arg.now) (scope frame.now)) }
+        params.now) (argument_of arg.now) (scope_of frame.now)) }
     ensures keys { OnOk result (keys.new ≡ keys.old ++ argument_looked (S.docs source.now) (fields
-        params.now) (argument_of arg.now) (scope frame.now)) }
+        params.now) (argument_of arg.now) (scope_of frame.now)) }
 {
     match arg {
         Arg::One(expr) => eval(alloc, expr, frame, params, source, keys, count),

@@ -2,8 +2,8 @@
 ghost use Rattle.std.specs.Prelude.{◌≡◌, ◌++◌, IfOk, OnOk, map, flat_map};
 ghost use Rattle.cs_value.specs.View.{fields};
 ghost use Rattle.cs_syntax.specs.Expression.{steps_of};
-ghost use Rattle.cs_syntax.specs.View.{expression, step as step_of};
-ghost use Rattle.cs_view.specs.Scopes.{scope};
+ghost use Rattle.cs_syntax.specs.View.{expression, step_of};
+ghost use Rattle.cs_view.specs.Scopes.{scope_of};
 ghost use Rattle.cs_meaning.specs.Values.{pipes_value, step_value};
 ghost use Rattle.cs_meaning.specs.Looked.{rest_looked, pipes_looked, step_looked};
 ghost use Rattle.cs_parts.specs.Parts.{got, item};
@@ -43,14 +43,14 @@ pub(crate) fn chain<'s, S: Source<C>, C>(
     count: &mut C,
 ) -> Result<Got<'s>, NoMemory>
     ensures value { IfOk result (λ g. got g ≡ pipes_value (S.docs source.now) (fields params.now)
-        (steps_of (map step_of steps.now)) (scope frame.now) (start_value (S.docs source.now)
-        (fields params.now) (expression base.now) (steps_of (map step_of steps.now)) (scope
+        (steps_of (map step_of steps.now)) (scope_of frame.now) (start_value (S.docs source.now)
+        (fields params.now) (expression base.now) (steps_of (map step_of steps.now)) (scope_of
         frame.now))) }
     ensures keys { OnOk result (keys.new ≡ keys.old ++ (start_looked (S.docs source.now) (fields
-        params.now) (expression base.now) (steps_of (map step_of steps.now)) (scope frame.now) ++
+        params.now) (expression base.now) (steps_of (map step_of steps.now)) (scope_of frame.now) ++
         pipes_looked (S.docs source.now) (fields params.now) (steps_of (map step_of steps.now))
-        (scope frame.now) (start_value (S.docs source.now) (fields params.now) (expression
-        base.now) (steps_of (map step_of steps.now)) (scope frame.now)))) }
+        (scope_of frame.now) (start_value (S.docs source.now) (fields params.now) (expression
+        base.now) (steps_of (map step_of steps.now)) (scope_of frame.now)))) }
 {
     let kinds = kinds(alloc, steps)?;
     let whole = Remaining {
@@ -86,12 +86,12 @@ fn start<'s, 'k, S: Source<C>, C>(
     count: &mut C,
 ) -> Result<Reached<'s, 'k>, NoMemory>
     requires { rest.kinds.now ≡ kinds_of (map step_of rest.steps.now) }
-    ensures value { IfOk result (λ r. stop_value (S.docs source.now) (fields params.now) (scope
+    ensures value { IfOk result (λ r. stop_value (S.docs source.now) (fields params.now) (scope_of
         frame.now) (stopped r) ≡ start_value (S.docs source.now) (fields params.now) (expression
-        base.now) (steps_in rest.entry) (scope frame.now)) }
+        base.now) (steps_in rest.entry) (scope_of frame.now)) }
     ensures keys { IfOk result (λ r. keys.new ++ stop_looked (S.docs source.now) (fields
-        params.now) (scope frame.now) (stopped r) ≡ keys.old ++ start_looked (S.docs source.now)
-        (fields params.now) (expression base.now) (steps_in rest.entry) (scope frame.now)) }
+        params.now) (scope_of frame.now) (stopped r) ≡ keys.old ++ start_looked (S.docs source.now)
+        (fields params.now) (expression base.now) (steps_in rest.entry) (scope_of frame.now)) }
     ensures fits { IfOk result (λ r. ReachedFits (steps_weight (steps_in rest.entry)) r) }
 {
     if let Some((condition, later)) = filter_of_all(base, rest) {
@@ -119,9 +119,9 @@ pub fn enter<'s, S: Source<C>, C>(
 ) -> Result<Got<'s>, NoMemory>
     requires { kinds.now ≡ kinds_of (map step_of steps.now) }
     ensures value { IfOk result (λ g. got g ≡ enter_value (S.docs source.now) (fields params.now)
-        (steps_of (map step_of steps.now)) (scope frame.now) (got value.entry)) }
+        (steps_of (map step_of steps.now)) (scope_of frame.now) (got value.entry)) }
     ensures keys { OnOk result (keys.new ≡ keys.old ++ enter_looked (S.docs source.now) (fields
-        params.now) (steps_of (map step_of steps.now)) (scope frame.now) (got value.entry)) }
+        params.now) (steps_of (map step_of steps.now)) (scope_of frame.now) (got value.entry)) }
 {
     let entrance = entrance_of(first_kind(kinds));
     let first = entering(entrance, value, Remaining { steps, kinds });
@@ -142,10 +142,10 @@ fn step_on<'s, 'k, S: Source<C>, C>(
 ) -> Result<Reached<'s, 'k>, NoMemory>
     requires { rest.kinds.now ≡ kinds_of (map step_of rest.steps.now) }
     ensures stop { IfOk result (λ r. stopped r ≡ stop (S.docs source.now) (fields params.now)
-        (steps_in rest.entry) (scope frame.now) (got value.entry)) }
+        (steps_in rest.entry) (scope_of frame.now) (got value.entry)) }
     ensures keys { IfOk result (λ r. keys.new ++ stop_looked (S.docs source.now) (fields
-        params.now) (scope frame.now) (stopped r) ≡ keys.old ++ rest_looked (S.docs source.now)
-        (fields params.now) (steps_in rest.entry) (scope frame.now) (got value.entry)) }
+        params.now) (scope_of frame.now) (stopped r) ≡ keys.old ++ rest_looked (S.docs source.now)
+        (fields params.now) (steps_in rest.entry) (scope_of frame.now) (got value.entry)) }
     ensures fits { IfOk result (λ r. ReachedFits (steps_weight (steps_in rest.entry)) r) }
 {
     let mut here = value;
@@ -188,9 +188,9 @@ fn climb<'s, 'k, S: Source<C>, C>(
 ) -> Result<Got<'s>, NoMemory>
     requires { ReachedFits (reached_weight first) first }
     ensures value { IfOk result (λ g. got g ≡ stop_value (S.docs source.now) (fields params.now)
-        (scope frame.now) (stopped first.entry)) }
+        (scope_of frame.now) (stopped first.entry)) }
     ensures keys { OnOk result (keys.new ≡ keys.old ++ stop_looked (S.docs source.now) (fields
-        params.now) (scope frame.now) (stopped first.entry)) }
+        params.now) (scope_of frame.now) (stopped first.entry)) }
 {
     let mut levels = Vec::new(alloc);
     let mut here = first;
@@ -220,9 +220,9 @@ pub fn pipes<'s, S: Source<C>, C>(
 ) -> Result<Got<'s>, NoMemory>
     requires { kinds.now ≡ kinds_of (map step_of steps.now) }
     ensures value { IfOk result (λ g. got g ≡ pipes_value (S.docs source.now) (fields params.now)
-        (steps_of (map step_of steps.now)) (scope frame.now) (got value.entry)) }
+        (steps_of (map step_of steps.now)) (scope_of frame.now) (got value.entry)) }
     ensures keys { OnOk result (keys.new ≡ keys.old ++ pipes_looked (S.docs source.now) (fields
-        params.now) (steps_of (map step_of steps.now)) (scope frame.now) (got value.entry)) }
+        params.now) (steps_of (map step_of steps.now)) (scope_of frame.now) (got value.entry)) }
 {
     let mut here = value;
     let mut left = Remaining { steps, kinds };
@@ -254,9 +254,10 @@ fn once<'s, S: Source<C>, C>(
     count: &mut C,
 ) -> Result<Got<'s>, NoMemory>
     ensures value { IfOk result (λ g. got g ≡ once way (step_value (S.docs source.now) (fields
-        params.now) (step_of step.now) (scope frame.now)) (got value.entry)) }
+        params.now) (step_of step.now) (scope_of frame.now)) (got value.entry)) }
     ensures keys { OnOk result (keys.new ≡ keys.old ++ once_looked way (step_looked (S.docs
-        source.now) (fields params.now) (step_of step.now) (scope frame.now)) (got value.entry)) }
+        source.now) (fields params.now) (step_of step.now) (scope_of frame.now))
+        (got value.entry)) }
 {
     if !is_over(way) {
         return one_step(alloc, step, frame, params, source, value, keys, count);
@@ -281,9 +282,9 @@ fn step_of_each<'s, S: Source<C>, C>(
     count: &mut C,
 ) -> Result<Vec<Item<'s>>, NoMemory>
     ensures value { IfOk result (λ v. map item v.items ≡ map (step_value (S.docs source.now)
-        (fields params.now) (step_of step.now) (scope frame.now)) (map item items.entry.items)) }
+        (fields params.now) (step_of step.now) (scope_of frame.now)) (map item items.entry.items)) }
     ensures keys { OnOk result (keys.new ≡ keys.old ++ flat_map (step_looked (S.docs source.now)
-        (fields params.now) (step_of step.now) (scope frame.now)) (map item items.entry.items)) }
+        (fields params.now) (step_of step.now) (scope_of frame.now)) (map item items.entry.items)) }
 {
     let mut out = Vec::new(alloc);
     for i in items {

@@ -4,8 +4,8 @@ ghost use Rattle.cs_value.specs.Words.{list_of};
 ghost use Rattle.cs_value.specs.Tree.{object, no_pairs};
 ghost use Rattle.cs_value.specs.View.{fields};
 ghost use Rattle.cs_syntax.specs.Expression.{operands_of, entries_of, elements_of, between as between_node, within as within_node};
-ghost use Rattle.cs_syntax.specs.View.{expression, operands, entry as entry_of, elem as element_of};
-ghost use Rattle.cs_view.specs.Scopes.{scope};
+ghost use Rattle.cs_syntax.specs.View.{expression, operands, entry_of, element_of};
+ghost use Rattle.cs_view.specs.Scopes.{scope_of};
 ghost use Rattle.cs_meaning.specs.Operators.{operated, decides, operator_of, is_true as is_true_tree};
 ghost use Rattle.cs_meaning.specs.Values.{value as value_of, run_value, elements_values, entry_pairs, entries_pairs};
 ghost use Rattle.cs_meaning.specs.Looked.{looked, run_looked, elements_looked, entry_looked, entries_looked};
@@ -41,9 +41,9 @@ pub fn eval<'s, S: Source<C>, C>(
     count: &mut C,
 ) -> Result<Got<'s>, NoMemory>
     ensures value { IfOk result (λ g. got g ≡ value_of (S.docs source.now) (fields params.now)
-        (expression expr.now) (scope frame.now)) }
+        (expression expr.now) (scope_of frame.now)) }
     ensures keys { OnOk result (keys.new ≡ keys.old ++ looked (S.docs source.now) (fields
-        params.now) (expression expr.now) (scope frame.now)) }
+        params.now) (expression expr.now) (scope_of frame.now)) }
 {
     match expr {
         Expr::Null => Ok(Got::Whole(Val::Null)),
@@ -107,9 +107,9 @@ pub(crate) fn settled<'s, S: Source<C>, C>(
     count: &mut C,
 ) -> Result<Item<'s>, NoMemory>
     ensures value { IfOk result (λ i. item i ≡ value_of (S.docs source.now) (fields params.now)
-        (expression expr.now) (scope frame.now)) }
+        (expression expr.now) (scope_of frame.now)) }
     ensures keys { OnOk result (keys.new ≡ keys.old ++ looked (S.docs source.now) (fields
-        params.now) (expression expr.now) (scope frame.now)) }
+        params.now) (expression expr.now) (scope_of frame.now)) }
 {
     if let Some(val) = direct_part(expr, frame) {
         return Ok(Item::Lent(val));
@@ -130,9 +130,9 @@ pub(crate) fn is_met<'s, S: Source<C>, C>(
     count: &mut C,
 ) -> Result<bool, NoMemory>
     ensures value { IfOk result (λ b. b ≡ is_true_tree (value_of (S.docs source.now) (fields
-        params.now) (expression expr.now) (scope frame.now))) }
+        params.now) (expression expr.now) (scope_of frame.now))) }
     ensures keys { OnOk result (keys.new ≡ keys.old ++ looked (S.docs source.now) (fields
-        params.now) (expression expr.now) (scope frame.now)) }
+        params.now) (expression expr.now) (scope_of frame.now)) }
 {
     if let Some(found) = direct(expr, frame, params) {
         return Ok(found.is_true());
@@ -157,9 +157,9 @@ fn run<'s, S: Source<C>, C>(
     count: &mut C,
 ) -> Result<Got<'s>, NoMemory>
     ensures value { IfOk result (λ g. got g ≡ run_value (S.docs source.now) (fields params.now)
-        (operands_of (operands list.now)) (scope frame.now) (got left.entry)) }
+        (operands_of (operands list.now)) (scope_of frame.now) (got left.entry)) }
     ensures keys { OnOk result (keys.new ≡ keys.old ++ run_looked (S.docs source.now) (fields
-        params.now) (operands_of (operands list.now)) (scope frame.now) (got left.entry)) }
+        params.now) (operands_of (operands list.now)) (scope_of frame.now) (got left.entry)) }
 {
     let mut here = left;
     let mut behind = list;
@@ -188,10 +188,10 @@ fn operate<'s, S: Source<C>, C>(
     count: &mut C,
 ) -> Result<Got<'s>, NoMemory>
     ensures value { IfOk result (λ g. got g ≡ operated sign (item left.entry) (value_of (S.docs
-        source.now) (fields params.now) (expression expr.now) (scope frame.now))) }
+        source.now) (fields params.now) (expression expr.now) (scope_of frame.now))) }
     ensures keys { OnOk result (keys.new ≡ keys.old ++ (if decides (operator_of sign) (item
         left.entry) then [] else looked (S.docs source.now) (fields params.now) (expression
-        expr.now) (scope frame.now))) }
+        expr.now) (scope_of frame.now))) }
 {
     if decides(sign, left.val()) {
         return Ok(left.into_got());
@@ -216,10 +216,10 @@ fn in_range<'s, S: Source<C>, C>(
 ) -> Result<Got<'s>, NoMemory>
     ensures value { IfOk result (λ g. got g ≡ value_of (S.docs source.now) (fields params.now)
         (between_node (expression left.now) (expression from.now) (expression to.now) closed)
-        (scope frame.now)) }
+        (scope_of frame.now)) }
     ensures keys { OnOk result (keys.new ≡ keys.old ++ looked (S.docs source.now) (fields
         params.now) (between_node (expression left.now) (expression from.now) (expression to.now)
-        closed) (scope frame.now)) }
+        closed) (scope_of frame.now)) }
 {
     let here = settled(alloc, left, frame, params, source, keys, count)?;
     let low = settled(alloc, from, frame, params, source, keys, count)?;
@@ -240,9 +240,10 @@ fn within<'s, S: Source<C>, C>(
     count: &mut C,
 ) -> Result<Got<'s>, NoMemory>
     ensures value { IfOk result (λ g. got g ≡ value_of (S.docs source.now) (fields params.now)
-        (within_node (expression left.now) (expression right.now)) (scope frame.now)) }
+        (within_node (expression left.now) (expression right.now)) (scope_of frame.now)) }
     ensures keys { OnOk result (keys.new ≡ keys.old ++ looked (S.docs source.now) (fields
-        params.now) (within_node (expression left.now) (expression right.now)) (scope frame.now)) }
+        params.now) (within_node (expression left.now) (expression right.now))
+        (scope_of frame.now)) }
 {
     let here = settled(alloc, left, frame, params, source, keys, count)?;
     match path_arguments(right) {
@@ -269,9 +270,9 @@ fn array<'s, S: Source<C>, C>(
     count: &mut C,
 ) -> Result<Got<'s>, NoMemory>
     ensures value { IfOk result (λ g. got g ≡ list_of (elements_values (S.docs source.now) (fields
-        params.now) (elements_of (map element_of list.now)) (scope frame.now))) }
+        params.now) (elements_of (map element_of list.now)) (scope_of frame.now))) }
     ensures keys { OnOk result (keys.new ≡ keys.old ++ elements_looked (S.docs source.now) (fields
-        params.now) (elements_of (map element_of list.now)) (scope frame.now)) }
+        params.now) (elements_of (map element_of list.now)) (scope_of frame.now)) }
 {
     let mut items = Vec::new(alloc);
     let mut behind = list;
@@ -297,9 +298,9 @@ pub(crate) fn object<'s, S: Source<C>, C>(
     count: &mut C,
 ) -> Result<Got<'s>, NoMemory>
     ensures value { IfOk result (λ g. got g ≡ object (entries_pairs (S.docs source.now) (fields
-        params.now) (entries_of (map entry_of list.now)) (scope frame.now) no_pairs)) }
+        params.now) (entries_of (map entry_of list.now)) (scope_of frame.now) no_pairs)) }
     ensures keys { OnOk result (keys.new ≡ keys.old ++ entries_looked (S.docs source.now) (fields
-        params.now) (entries_of (map entry_of list.now)) (scope frame.now)) }
+        params.now) (entries_of (map entry_of list.now)) (scope_of frame.now)) }
 {
     let mut pairs = Fields::with_capacity(alloc, list.len())?;
     let mut behind = list;
@@ -323,9 +324,9 @@ fn one_entry<S: Source<C>, C>(
     count: &mut C,
 ) -> Result<(), NoMemory>
     ensures value { OnOk result (fields pairs.new ≡ entry_pairs (S.docs source.now) (fields
-        params.now) (entry_of entry.now) (scope frame.now) (fields pairs.old)) }
+        params.now) (entry_of entry.now) (scope_of frame.now) (fields pairs.old)) }
     ensures keys { OnOk result (keys.new ≡ keys.old ++ entry_looked (S.docs source.now) (fields
-        params.now) (entry_of entry.now) (scope frame.now)) }
+        params.now) (entry_of entry.now) (scope_of frame.now)) }
 {
     if let Some(condition) = condition_of(entry) {
         if !is_met(alloc, condition, frame, params, source, keys, count)? {

@@ -4,13 +4,13 @@ ghost use Rattle.cs_value.specs.Tree.{no_pairs};
 ghost use Rattle.cs_value.specs.Words.{is_object as is_object_tree};
 ghost use Rattle.cs_value.specs.View.{tree, fields};
 ghost use Rattle.cs_syntax.specs.Expression.{entries_of, keys_of, pipe};
-ghost use Rattle.cs_syntax.specs.View.{expression, step as step_of, entry as entry_of, key as order_key_of};
-ghost use Rattle.cs_view.specs.Scopes.{scope};
+ghost use Rattle.cs_syntax.specs.View.{expression, step_of, entry_of, order_key_of};
+ghost use Rattle.cs_view.specs.Scopes.{scope_of};
 ghost use Rattle.cs_plan.specs.Steps.{bracketed};
 ghost use Rattle.cs_meaning.specs.Operators.{is_true as is_true_tree};
 ghost use Rattle.cs_meaning.specs.Values.{value as value_of, entries_pairs, step_value, keys_values, projected, in_bracket};
 ghost use Rattle.cs_meaning.specs.Looked.{looked, entries_looked, step_looked, bracket_looked, keys_looked};
-ghost use Rattle.cs_meaning.specs.Ordered.{ordered, ranked, directions};
+ghost use Rattle.cs_meaning.specs.Ordered.{ranked, directions};
 ghost use Rattle.cs_order.specs.First.{first_elements, all_kept};
 ghost use Rattle.cs_order.specs.Ranked.{ranked as ranked_of};
 ghost use Rattle.cs_parts.specs.Parts.{got, item};
@@ -40,9 +40,9 @@ pub(crate) fn one_step<'s, S: Source<C>, C>(
     count: &mut C,
 ) -> Result<Got<'s>, NoMemory>
     ensures value { IfOk result (λ g. got g ≡ step_value (S.docs source.now) (fields params.now)
-        (step_of step.now) (scope frame.now) (got value.entry)) }
+        (step_of step.now) (scope_of frame.now) (got value.entry)) }
     ensures keys { OnOk result (keys.new ≡ keys.old ++ step_looked (S.docs source.now) (fields
-        params.now) (step_of step.now) (scope frame.now) (got value.entry)) }
+        params.now) (step_of step.now) (scope_of frame.now) (got value.entry)) }
 {
     match step {
         Step::Attr(name) => Ok(field(value, name.as_str())),
@@ -71,10 +71,10 @@ fn bracketed<'s, S: Source<C>, C>(
 ) -> Result<Got<'s>, NoMemory>
     ensures value { IfOk result (λ g. got g ≡ in_bracket (bracketed (expression inner.now)) (λ x.
         is_true_tree (value_of (S.docs source.now) (fields params.now) (expression inner.now) (x ∷
-        (scope frame.now)))) (got value.entry)) }
+        (scope_of frame.now)))) (got value.entry)) }
     ensures keys { OnOk result (keys.new ≡ keys.old ++ bracket_looked (bracketed (expression
         inner.now)) (λ x. looked (S.docs source.now) (fields params.now) (expression inner.now) (x
-        ∷ (scope frame.now))) (got value.entry)) }
+        ∷ (scope_of frame.now))) (got value.entry)) }
 {
     match in_bracket(alloc, inner, value)? {
         InBracket::Given(found) => Ok(found),
@@ -98,10 +98,10 @@ pub(crate) fn keep<'s, S: Source<C>, C>(
     count: &mut C,
 ) -> Result<Vec<Item<'s>>, NoMemory>
     ensures value { IfOk result (λ v. map item v.items ≡ filter (λ x. is_true_tree (value_of
-        (S.docs source.now) (fields params.now) (expression inner.now) (x ∷ (scope frame.now))))
+        (S.docs source.now) (fields params.now) (expression inner.now) (x ∷ (scope_of frame.now))))
         (map item items.entry.items)) }
     ensures keys { OnOk result (keys.new ≡ keys.old ++ flat_map (λ x. looked (S.docs source.now)
-        (fields params.now) (expression inner.now) (x ∷ (scope frame.now))) (map item
+        (fields params.now) (expression inner.now) (x ∷ (scope_of frame.now))) (map item
         items.entry.items)) }
 {
     let mut out = Vec::new(alloc);
@@ -129,9 +129,9 @@ pub fn keep_lent<'s, S: Source<C>, C>(
 ) -> Result<Vec<&'s Val>, NoMemory>
     ensures value { IfOk result (λ v. map (λ r. tree r.now) v.items ≡ filter (λ x. is_true_tree
         (value_of (S.docs source.now) (fields params.now) (expression inner.now)
-        (x ∷ (scope frame.now)))) (map (λ r. tree r.now) parts.entry.items)) }
+        (x ∷ (scope_of frame.now)))) (map (λ r. tree r.now) parts.entry.items)) }
     ensures keys { OnOk result (keys.new ≡ keys.old ++ flat_map (λ x. looked (S.docs source.now)
-        (fields params.now) (expression inner.now) (x ∷ (scope frame.now)))
+        (fields params.now) (expression inner.now) (x ∷ (scope_of frame.now)))
         (map (λ r. tree r.now) parts.entry.items)) }
 {
     let mut out = Vec::new(alloc);
@@ -156,9 +156,9 @@ pub fn holds<S: Source<C>, C>(
     count: &mut C,
 ) -> Result<bool, NoMemory>
     ensures value { IfOk result (λ b. b ≡ is_true_tree (value_of (S.docs source.now) (fields
-        params.now) (expression inner.now) (tree this.now ∷ (scope frame.now)))) }
+        params.now) (expression inner.now) (tree this.now ∷ (scope_of frame.now)))) }
     ensures keys { OnOk result (keys.new ≡ keys.old ++ looked (S.docs source.now) (fields
-        params.now) (expression inner.now) (tree this.now ∷ (scope frame.now))) }
+        params.now) (expression inner.now) (tree this.now ∷ (scope_of frame.now))) }
 {
     let near = Scope {
         this,
@@ -181,11 +181,11 @@ fn project<'s, S: Source<C>, C>(
     count: &mut C,
 ) -> Result<Got<'s>, NoMemory>
     ensures value { IfOk result (λ g. got g ≡ projected (entries_pairs (S.docs source.now) (fields
-        params.now) (entries_of (map entry_of list.now)) ((got value.entry) ∷ (scope frame.now))
+        params.now) (entries_of (map entry_of list.now)) ((got value.entry) ∷ (scope_of frame.now))
         no_pairs) (got value.entry)) }
     ensures keys { OnOk result (keys.new ≡ keys.old ++ (if is_object_tree (got value.entry) then
         entries_looked (S.docs source.now) (fields params.now) (entries_of (map entry_of
-        list.now)) ((got value.entry) ∷ (scope frame.now)) else [])) }
+        list.now)) ((got value.entry) ∷ (scope_of frame.now)) else [])) }
 {
     let only = settle(alloc, value)?;
     let this = only.val();
@@ -217,9 +217,9 @@ pub(crate) fn ordered<'s, S: Source<C>, C>(
 ) -> Result<Got<'s>, NoMemory>
     ensures value { IfOk result (λ g. got g ≡ first_elements limit (step_value
         (S.docs source.now) (fields params.now) (pipe name.now (keys_of (map order_key_of
-        order.now))) (scope frame.now) (got value.entry))) }
+        order.now))) (scope_of frame.now) (got value.entry))) }
     ensures keys { OnOk result (keys.new ≡ keys.old ++ step_looked (S.docs source.now) (fields
-        params.now) (pipe name.now (keys_of (map order_key_of order.now))) (scope frame.now) (got
+        params.now) (pipe name.now (keys_of (map order_key_of order.now))) (scope_of frame.now) (got
         value.entry)) }
 {
     let Some(unsorted) = ordered_elements(alloc, name.as_str(), value)? else {
@@ -259,9 +259,9 @@ pub fn rank_each<'k, 's: 'k, S: Source<C>, C>(
 ) -> Result<Vec<Ranked<'k, 's>>, NoMemory>
     ensures value { IfOk result (λ v. map ranked_of v.items ≡ all_kept directions.now limit []
         (map (ranked (λ x. keys_values (S.docs source.now) (fields params.now) (keys_of (map
-        order_key_of order.now)) (x ∷ (scope frame.now)))) (map item items.entry.items))) }
+        order_key_of order.now)) (x ∷ (scope_of frame.now)))) (map item items.entry.items))) }
     ensures keys { OnOk result (keys.new ≡ keys.old ++ flat_map (λ x. keys_looked (S.docs
-        source.now) (fields params.now) (keys_of (map order_key_of order.now)) (x ∷ (scope
+        source.now) (fields params.now) (keys_of (map order_key_of order.now)) (x ∷ (scope_of
         frame.now))) (map item items.entry.items)) }
 {
     let mut kept = Vec::new(alloc);
@@ -286,10 +286,11 @@ fn rank_one<'k, 's: 'k, S: Source<C>, C>(
     count: &mut C,
 ) -> Result<Ranked<'k, 's>, NoMemory>
     ensures value { IfOk result (λ r. ranked_of r ≡ ranked (λ x. keys_values (S.docs source.now)
-        (fields params.now) (keys_of (map order_key_of order.now)) (x ∷ (scope frame.now)))
+        (fields params.now) (keys_of (map order_key_of order.now)) (x ∷ (scope_of frame.now)))
         (item one.entry)) }
     ensures keys { OnOk result (keys.new ≡ keys.old ++ keys_looked (S.docs source.now) (fields
-        params.now) (keys_of (map order_key_of order.now)) (item one.entry ∷ (scope frame.now))) }
+        params.now) (keys_of (map order_key_of order.now))
+        (item one.entry ∷ scope_of frame.now)) }
 {
     match one {
         Item::Lent(val) => Ok(Ranked {
@@ -322,9 +323,9 @@ pub fn rank_keys<'k, S: Source<C>, C>(
     count: &mut C,
 ) -> Result<Vec<Item<'k>>, NoMemory>
     ensures value { IfOk result (λ v. map item v.items ≡ keys_values (S.docs source.now) (fields
-        params.now) (keys_of (map order_key_of order.now)) (tree this.now ∷ (scope frame.now))) }
+        params.now) (keys_of (map order_key_of order.now)) (tree this.now ∷ (scope_of frame.now))) }
     ensures keys { OnOk result (keys.new ≡ keys.old ++ keys_looked (S.docs source.now) (fields
-        params.now) (keys_of (map order_key_of order.now)) (tree this.now ∷ (scope frame.now))) }
+        params.now) (keys_of (map order_key_of order.now)) (tree this.now ∷ (scope_of frame.now))) }
 {
     let near = Scope {
         this,
@@ -346,9 +347,9 @@ fn order_keys<'k, S: Source<C>, C>(
     count: &mut C,
 ) -> Result<Vec<Item<'k>>, NoMemory>
     ensures value { IfOk result (λ v. map item v.items ≡ keys_values (S.docs source.now) (fields
-        params.now) (keys_of (map order_key_of order.now)) (scope frame.now)) }
+        params.now) (keys_of (map order_key_of order.now)) (scope_of frame.now)) }
     ensures keys { OnOk result (keys.new ≡ keys.old ++ keys_looked (S.docs source.now) (fields
-        params.now) (keys_of (map order_key_of order.now)) (scope frame.now)) }
+        params.now) (keys_of (map order_key_of order.now)) (scope_of frame.now)) }
 {
     let mut out = Vec::with_capacity(alloc, order.len())?;
     let mut behind = order;

@@ -3,7 +3,8 @@
 use Rattle.std.proofs.Common.{◌≡◌, ℕ, suc, ◌+◌, ◌<◌, List, [], ◌∷◌, ◌++◌, length, get_or, drop, drop-cons, Bool, true, false, Option, Some, None, Result, Ok, Err, refl, sym, ap, ◌∙◌, add-one}
 use Rattle.std.specs.Prelude.{IsErrAnd}
 use Rattle.cs_syntax.specs.Expression.{Arguments, no_arguments, more_arguments}
-use Rattle.cs_syntax.specs.Faults.{Fault, first_of}
+use Rattle.cs_syntax.specs.Faults.{Fault}
+use Rattle.cs_value.specs.Words.{first_of}
 use Rattle.cs_syntax.specs.Functions.{pairs_come_first}
 use Rattle.cs_faults.specs.Found.{found, told, first_or}
 use Rattle.cs_faults.specs.declared.fault.Fault.{Fault as CodeFault}

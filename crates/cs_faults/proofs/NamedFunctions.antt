@@ -9,7 +9,8 @@ use Rattle.std.proofs.lemmas.Map.Text.{is_eq-slice_cmp}
 use Rattle.std.proofs.lemmas.Slice.Eq.{bytes_eq-Decides}
 use Rattle.cs_table.specs.Row.{row_of}
 use Rattle.cs_syntax.specs.Expression.{Arguments, OrderKeys}
-use Rattle.cs_syntax.specs.Faults.{first_of, is_path, unsupported, unknown_function, arity_faults, call_faults, order_faults, pipe_faults}
+use Rattle.cs_syntax.specs.Faults.{is_path, unsupported, unknown_function, arity_faults, call_faults, order_faults, pipe_faults}
+use Rattle.cs_value.specs.Words.{first_of}
 use Rattle.cs_faults.specs.Found.{no_function}
 use Rattle.cs_syntax.specs.Functions.{Arity, functions, arity_of, is_left_out}
 

@@ -5,7 +5,8 @@ use Rattle.std.specs.Option.{option_map}
 use Rattle.cs_syntax.specs.declared.sign.Sign.TheVariants as sign
 use Rattle.cs_syntax.specs.Expression.{Tok, number_tok, text_tok, param_tok, word_tok, sign_tok, Expression, text_literal, Entry, keyed, bare}
 use Rattle.cs_grammar.specs.Answers.{after_key}
-use Rattle.cs_grammar.specs.Reading.{expr, entries_from, keyed_from, next_entry, Outcome, fail, got, after, text_key, Reads}
+use Rattle.cs_grammar.specs.Reading.{expr, entries_from, keyed_from, next_entry, Outcome, fail, got, after, Reads}
+use Rattle.cs_syntax.specs.Brackets.{text_alone}
 use Rattle.cs_grammar.proofs.Behind.{after_is}
 use Rattle.cs_grammar.proofs.Steps.{reads_at}
 use Rattle.cs_grammar.proofs.StepsInside.{reads_entry, reads_keyed, reads_keyed_fail, reads_bare, reads_no_key}
@@ -44,7 +45,7 @@ module _ {ts r : List Tok} {k : List ℕ} {xs : List Entry} (h : after_key ts �
       reads_at (key_is ts h) (reads_entry refl refl (text_reads k r) (reads_keyed_fail refl refl a))
 
 -- an expression that has a key is the text
-text_is : (e : Expression) {k : List ℕ} → text_key e ≡ Some k → e ≡ text_literal k
+text_is : (e : Expression) {k : List ℕ} → text_alone e ≡ Some k → e ≡ text_literal k
 text_is (text_literal t) h = cc
 text_is _ h = absurd (cc)
 
@@ -63,9 +64,9 @@ unmapped (Some s) k h = absurd (cc)
 pub reads_keyless : {ts r : List Tok} {e : Expression} {xs : List Entry} {o : Outcome} →
     after_key ts ≡ None → Reads expr ts (got e r) → after sign.FatArrow r ≡ None →
     Reads (next_entry (xs ++ (bare e ∷ []))) r o → Reads (keyed_from xs e) r o
-reads_keyless {r = r} {e = e} {xs = xs} {o = o} h a i n = by_key (text_key e) refl
+reads_keyless {r = r} {e = e} {xs = xs} {o = o} h a i n = by_key (text_alone e) refl
   where
-    by_key : (x : Option (List ℕ)) → text_key e ≡ x → Reads (keyed_from xs e) r o
+    by_key : (x : Option (List ℕ)) → text_alone e ≡ x → Reads (keyed_from xs e) r o
     by_key None j = reads_no_key i j n
     by_key (Some k) j =
         let stands = text_stands k a (text_is e j) in

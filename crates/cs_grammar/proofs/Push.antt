@@ -8,7 +8,7 @@ use Rattle.cs_syntax.specs.declared.tree.Expr.{Expr}
 use Rattle.cs_syntax.specs.declared.tree.OrderKey.{OrderKey as CodeOrderKey}
 use Rattle.cs_syntax.specs.declared.tree.Step.{Step as CodeStep}
 use Rattle.cs_syntax.specs.Expression.{Step}
-use Rattle.cs_syntax.specs.View.{expression, step, entry, elem, arg, key, operands, steps, entries, elements, arguments, keys}
+use Rattle.cs_syntax.specs.View.{expression, step_of, entry_of, element_of, argument_of, order_key_of, operands, steps, entries, elements, arguments, keys}
 
 pub operands_none : operands [] ≡ []
 unfolding operands
@@ -31,18 +31,18 @@ unfolding steps
 steps_none = refl
 
 steps_push : (xs : List CodeStep) (x : CodeStep) →
-    steps (xs ++ (x ∷ [])) ≡ steps xs ++ (step x ∷ [])
+    steps (xs ++ (x ∷ [])) ≡ steps xs ++ (step_of x ∷ [])
 unfolding steps
 steps_push [] x = refl
-steps_push (y ∷ ys) x = ap (λ z. step y ∷ z) (steps_push ys x)
+steps_push (y ∷ ys) x = ap (λ z. step_of y ∷ z) (steps_push ys x)
 
 pub steps_pushed : (old : List CodeStep) (v : CodeStep) {new : List CodeStep} →
-    new ≡ old ++ (v ∷ []) → steps new ≡ steps old ++ (step v ∷ [])
+    new ≡ old ++ (v ∷ []) → steps new ≡ steps old ++ (step_of v ∷ [])
 steps_pushed old v p = ap steps p ∙ steps_push old v
 
 -- a step that was made, at what it stands for
 pub steps_pushed_as : (old : List CodeStep) (v : CodeStep) {new : List CodeStep} {s : Step} →
-    new ≡ old ++ (v ∷ []) → step v ≡ s → steps new ≡ steps old ++ (s ∷ [])
+    new ≡ old ++ (v ∷ []) → step_of v ≡ s → steps new ≡ steps old ++ (s ∷ [])
 steps_pushed_as old v p q = steps_pushed old v p ∙ ap (λ z. steps old ++ (z ∷ [])) q
 
 pub entries_none : entries [] ≡ []
@@ -50,13 +50,13 @@ unfolding entries
 entries_none = refl
 
 entries_push : (xs : List CodeEntry) (x : CodeEntry) →
-    entries (xs ++ (x ∷ [])) ≡ entries xs ++ (entry x ∷ [])
+    entries (xs ++ (x ∷ [])) ≡ entries xs ++ (entry_of x ∷ [])
 unfolding entries
 entries_push [] x = refl
-entries_push (y ∷ ys) x = ap (λ z. entry y ∷ z) (entries_push ys x)
+entries_push (y ∷ ys) x = ap (λ z. entry_of y ∷ z) (entries_push ys x)
 
 pub entries_pushed : (old : List CodeEntry) (v : CodeEntry) {new : List CodeEntry} →
-    new ≡ old ++ (v ∷ []) → entries new ≡ entries old ++ (entry v ∷ [])
+    new ≡ old ++ (v ∷ []) → entries new ≡ entries old ++ (entry_of v ∷ [])
 entries_pushed old v p = ap entries p ∙ entries_push old v
 
 pub elements_none : elements [] ≡ []
@@ -64,13 +64,13 @@ unfolding elements
 elements_none = refl
 
 elements_push : (xs : List Elem) (x : Elem) →
-    elements (xs ++ (x ∷ [])) ≡ elements xs ++ (elem x ∷ [])
+    elements (xs ++ (x ∷ [])) ≡ elements xs ++ (element_of x ∷ [])
 unfolding elements
 elements_push [] x = refl
-elements_push (y ∷ ys) x = ap (λ z. elem y ∷ z) (elements_push ys x)
+elements_push (y ∷ ys) x = ap (λ z. element_of y ∷ z) (elements_push ys x)
 
 pub elements_pushed : (old : List Elem) (v : Elem) {new : List Elem} → new ≡ old ++ (v ∷ []) →
-    elements new ≡ elements old ++ (elem v ∷ [])
+    elements new ≡ elements old ++ (element_of v ∷ [])
 elements_pushed old v p = ap elements p ∙ elements_push old v
 
 pub arguments_none : arguments [] ≡ []
@@ -78,13 +78,13 @@ unfolding arguments
 arguments_none = refl
 
 arguments_push : (xs : List Arg) (x : Arg) → arguments (xs ++ (x ∷ [])) ≡ arguments xs
-    ++ (arg x ∷ [])
+    ++ (argument_of x ∷ [])
 unfolding arguments
 arguments_push [] x = refl
-arguments_push (y ∷ ys) x = ap (λ z. arg y ∷ z) (arguments_push ys x)
+arguments_push (y ∷ ys) x = ap (λ z. argument_of y ∷ z) (arguments_push ys x)
 
 pub arguments_pushed : (old : List Arg) (v : Arg) {new : List Arg} → new ≡ old ++ (v ∷ []) →
-    arguments new ≡ arguments old ++ (arg v ∷ [])
+    arguments new ≡ arguments old ++ (argument_of v ∷ [])
 arguments_pushed old v p = ap arguments p ∙ arguments_push old v
 
 pub keys_none : keys [] ≡ []
@@ -92,11 +92,11 @@ unfolding keys
 keys_none = refl
 
 keys_push : (xs : List CodeOrderKey) (x : CodeOrderKey) →
-    keys (xs ++ (x ∷ [])) ≡ keys xs ++ (key x ∷ [])
+    keys (xs ++ (x ∷ [])) ≡ keys xs ++ (order_key_of x ∷ [])
 unfolding keys
 keys_push [] x = refl
-keys_push (y ∷ ys) x = ap (λ z. key y ∷ z) (keys_push ys x)
+keys_push (y ∷ ys) x = ap (λ z. order_key_of y ∷ z) (keys_push ys x)
 
 pub keys_pushed : (old : List CodeOrderKey) (v : CodeOrderKey) {new : List CodeOrderKey} →
-    new ≡ old ++ (v ∷ []) → keys new ≡ keys old ++ (key v ∷ [])
+    new ≡ old ++ (v ∷ []) → keys new ≡ keys old ++ (order_key_of v ∷ [])
 keys_pushed old v p = ap keys p ∙ keys_push old v

@@ -4,7 +4,8 @@ use Rattle.cs_syntax.specs.declared.sign.Sign.{Sign}
 use Rattle.cs_syntax.specs.declared.sign.Sign.TheVariants as sign
 use Rattle.cs_syntax.specs.Expression.{Tok, text_tok, sign_tok, Expression, text_literal, this, call, array, object_literal, Entry, keyed, bare, when, spread, Element, element, spread_element, Argument, argument, when_argument, entries_of, elements_of, arguments_of}
 use Rattle.cs_grammar.specs.Spells.{IsExpr, AreElements, elements_none, elements_last, elements_more, IsElement, element_one, element_spread, AreArguments, arguments_last, arguments_more, IsArgument, argument_one, argument_when, AreEntries, entries_none, entries_last, entries_more, IsEntry, entry_keyed, entry_bare, entry_when, entry_spread_this, entry_spread}
-use Rattle.cs_grammar.specs.Reading.{Goal, expr, args_from, arg_from, next_arg, elements_from, next_element, entries_from, keyed_from, next_entry, got, bind, Oracle, match_after, expect, after, text_key, read_arg, read_next_arg, read_elements, read_next_element, read_spread, read_keyed, read_entries, read_next_entry}
+use Rattle.cs_grammar.specs.Reading.{Goal, expr, args_from, arg_from, next_arg, elements_from, next_element, entries_from, keyed_from, next_entry, got, bind, Oracle, match_after, expect, after, read_arg, read_next_arg, read_elements, read_next_element, read_spread, read_keyed, read_entries, read_next_entry}
+use Rattle.cs_syntax.specs.Brackets.{text_alone}
 use Rattle.cs_grammar.proofs.Behind.{after_is}
 use Rattle.cs_grammar.proofs.TextAlone.{text_expr}
 use Rattle.cs_grammar.proofs.Taken.{bound, Split, found, missing, split, expected, got_tree, got_rest, ◌then◌, one, RunTree, More, Next, IsMade, MoreArguments, MoreEntries, SoundFor, Sound, IsSound, element_as, argument_as, entry_as, more_none, next_close, next_comma, more_item}
@@ -40,7 +41,7 @@ keyed_entry : {a : List Tok} {v : Expression} (k : List ℕ) → RunTree IsExpr 
     IsEntry (text_tok k ∷ sign_tok sign.Colon ∷ a) (keyed k v)
 keyed_entry k x = entry_as (ap (keyed k) (sym x.is)) (entry_keyed k x.spelled)
 
-key_of_is : (e : Expression) (k : List ℕ) → text_key e ≡ Some k → e ≡ text_literal k
+key_of_is : (e : Expression) (k : List ℕ) → text_alone e ≡ Some k → e ≡ text_literal k
 key_of_is (text_literal t) k h = cc
 key_of_is _ k h = absurd (cc)
 
@@ -289,7 +290,7 @@ module _ (f : Oracle) (h : IsSound f) where
                 (bare_entry x) y.fact;
           }
 
-      by_colon : (k : List ℕ) → text_key e ≡ Some k →
+      by_colon : (k : List ℕ) → text_alone e ≡ Some k →
           Split (after sign.Colon ts) (λ s. bind (f expr s) (λ v u. f (next_entry (xs
           ++ (keyed k v ∷ []))) u)) (f (next_entry (xs ++ (bare e ∷ []))) ts) (got t r) →
           Sound (keyed_from xs e) ts t r
@@ -309,7 +310,7 @@ module _ (f : Oracle) (h : IsSound f) where
                 (text_tok k ∷ sign_tok sign.Colon ∷ v.taken) (keyed_entry k v.fact) y.fact);
           }
 
-      by_key : Split (text_key e)
+      by_key : Split (text_alone e)
           (λ k. match_after (after sign.Colon ts) (λ s. bind (f expr s) (λ v u. f (next_entry (xs
           ++ (keyed k v ∷ []))) u)) (f (next_entry (xs ++ (bare e ∷ []))) ts))
           (f (next_entry (xs ++ (bare e ∷ []))) ts) (got t r) → Sound (keyed_from xs e) ts t r
@@ -318,7 +319,7 @@ module _ (f : Oracle) (h : IsSound f) where
 
       by_arrow : Split (after sign.FatArrow ts) (λ s. bind (f expr s) (λ v u. f (next_entry (xs
           ++ (when e v ∷ []))) u))
-          (match_after (text_key e)
+          (match_after (text_alone e)
           (λ k. match_after (after sign.Colon ts) (λ s. bind (f expr s) (λ v u. f (next_entry (xs
           ++ (keyed k v ∷ []))) u)) (f (next_entry (xs ++ (bare e ∷ []))) ts))
           (f (next_entry (xs ++ (bare e ∷ []))) ts)) (got t r) → Sound (keyed_from xs e) ts t r
@@ -335,4 +336,4 @@ module _ (f : Oracle) (h : IsSound f) where
                 (more_item AreEntries sign.CloseBrace _ IsEntry xs (when e b.tree) y.taken (c
                 ++ (sign_tok sign.FatArrow ∷ v.taken)) (when_entry x v.fact) y.fact);
           }
-      by_arrow (missing i j) = by_key (split (text_key e) _ _ j)
+      by_arrow (missing i j) = by_key (split (text_alone e) _ _ j)

@@ -5,7 +5,8 @@ use Rattle.std.specs.Prelude.{codes}
 use Rattle.cs_syntax.specs.declared.sign.Sign.TheVariants as sign
 use Rattle.cs_syntax.specs.Expression.{Tok, Expression, this, call, array, object_literal, Step, attr, deref, each, slice, bracket, project, pipe, Entry, keyed, bare, when, spread, Element, element, spread_element, Argument, argument, when_argument, OrderKey, order_key, entries_of, elements_of, arguments_of, keys_of, chain_of}
 use Rattle.cs_grammar.specs.Spells.{range_of}
-use Rattle.cs_grammar.specs.Reading.{expr, expr_from, sum, steps_from, arrow_from, bracket_from, pipe_from, keys_from, next_key, args_from, arg_from, next_arg, elements_from, next_element, entries_from, keyed_from, next_entry, Outcome, fail, got, after, after_sign, after_word, after_keyword, after_attribute, text_key, entries_in, name_of_words, read_keyed, Gives, Reads}
+use Rattle.cs_grammar.specs.Reading.{expr, expr_from, sum, steps_from, arrow_from, bracket_from, pipe_from, keys_from, next_key, args_from, arg_from, next_arg, elements_from, next_element, entries_from, keyed_from, next_entry, Outcome, fail, got, after, after_sign, after_word, after_keyword, after_attribute, entries_in, name_of_words, read_keyed, Gives, Reads}
+use Rattle.cs_syntax.specs.Brackets.{text_alone}
 use Rattle.cs_grammar.proofs.Given.{by_const, by_call, by_bind, by_fail, by_some, by_none, by_step}
 use Rattle.cs_grammar.proofs.Behind.{signs_apart, no_word, keywords_apart}
 
@@ -399,13 +400,13 @@ module _ {ts : List Tok} {xs : List Entry} {e : Expression} where
   reads_when_fail h a = by_step (by_some _ _ h (by_fail _ (by_call a)))
 
   pub reads_keyed : {k : List ℕ} {r s : List Tok} {v : Expression} {o : Outcome} →
-      text_key e ≡ Some k → after sign.Colon ts ≡ Some r → Reads expr r (got v s) →
+      text_alone e ≡ Some k → after sign.Colon ts ≡ Some r → Reads expr r (got v s) →
       Reads (next_entry (xs ++ (keyed k v ∷ []))) s o → Reads (keyed_from xs e) ts o
   reads_keyed h i a b =
       by_step (by_none _ _ (signs_apart sign.FatArrow sign.Colon ts i refl)
       (by_some _ _ h (by_some _ _ i (by_bind _ (by_call a) (by_call b)))))
 
-  pub reads_keyed_fail : {k : List ℕ} {r : List Tok} → text_key e ≡ Some k →
+  pub reads_keyed_fail : {k : List ℕ} {r : List Tok} → text_alone e ≡ Some k →
       after sign.Colon ts ≡ Some r → Reads expr r fail → Reads (keyed_from xs e) ts fail
   reads_keyed_fail h i a =
       by_step (by_none _ _ (signs_apart sign.FatArrow sign.Colon ts i refl)
@@ -413,12 +414,12 @@ module _ {ts : List Tok} {xs : List Entry} {e : Expression} where
 
   pub reads_bare : {o : Outcome} → after sign.FatArrow ts ≡ None → after sign.Colon ts ≡ None →
       Reads (next_entry (xs ++ (bare e ∷ []))) ts o → Reads (keyed_from xs e) ts o
-  reads_bare {o = o} h i a = by_step (either (text_key e) refl)
+  reads_bare {o = o} h i a = by_step (either (text_alone e) refl)
     where
-      either : (x : Option (List ℕ)) → text_key e ≡ x → Gives (λ f. read_keyed f xs e ts) o
+      either : (x : Option (List ℕ)) → text_alone e ≡ x → Gives (λ f. read_keyed f xs e ts) o
       either None j = by_none _ _ h (by_none _ _ j (by_call a))
       either (Some k) j = by_none _ _ h (by_some _ _ j (by_none _ _ i (by_call a)))
 
-  pub reads_no_key : {o : Outcome} → after sign.FatArrow ts ≡ None → text_key e ≡ None →
+  pub reads_no_key : {o : Outcome} → after sign.FatArrow ts ≡ None → text_alone e ≡ None →
       Reads (next_entry (xs ++ (bare e ∷ []))) ts o → Reads (keyed_from xs e) ts o
   reads_no_key h i a = by_step (by_none _ _ h (by_none _ _ i (by_call a)))

@@ -11,7 +11,7 @@ use Rattle.cs_syntax.specs.declared.tree.Expr.{Expr}
 use Rattle.cs_syntax.specs.declared.tree.OrderKey.{OrderKey as CodeOrderKey}
 use Rattle.cs_syntax.specs.declared.tree.Step.{Step as CodeStep}
 use Rattle.cs_syntax.specs.Expression.{Tok, number_tok, text_tok, param_tok, word_tok, sign_tok, Expression, call, array, object_literal, pipe, deref, Step, Entry, Element, Argument, OrderKey, arguments_of, elements_of, entries_of, keys_of, chain_of}
-use Rattle.cs_syntax.specs.View.{expression, step, entry, elem, arg, key, entries, elements, arguments, keys}
+use Rattle.cs_syntax.specs.View.{expression, step_of, entry_of, element_of, argument_of, order_key_of, entries, elements, arguments, keys}
 use Rattle.cs_grammar.specs.declared.fault.GrammarFault.{GrammarFault}
 use Rattle.cs_grammar.specs.declared.fault.GrammarFault.TheVariants.{Syntax, NoMemory}
 use Rattle.cs_grammar.specs.View.{left}
@@ -67,7 +67,7 @@ AnswersArgs ls i r = Replies
 abbrev pub AnswersArg : List Tok → ℕ → Result (Arg × ℕ) GrammarFault → Type 0
 AnswersArg ls i r = Replies
     (λ (x : Arg × ℕ). (w : List ℕ) (xs : List Argument) (o : Outcome) →
-    Reads (next_arg w (xs ++ (arg x.0 ∷ []))) (left ls x.1) o →
+    Reads (next_arg w (xs ++ (argument_of x.0 ∷ []))) (left ls x.1) o →
     Reads (args_from w xs) (left ls i) o)
     ((w : List ℕ) (xs : List Argument) → Reads (args_from w xs) (left ls i) fail) r
 
@@ -82,7 +82,7 @@ abbrev pub AnswersElement : List Tok → ℕ → Result (Elem × ℕ) GrammarFau
 AnswersElement ls i r = Replies
     (λ (x : Elem × ℕ). (xs : List Element) (o : Outcome) →
     after sign.CloseBracket (left ls i) ≡ None →
-    Reads (next_element (xs ++ (elem x.0 ∷ []))) (left ls x.1) o →
+    Reads (next_element (xs ++ (element_of x.0 ∷ []))) (left ls x.1) o →
     Reads (elements_from xs) (left ls i) o)
     ((xs : List Element) → after sign.CloseBracket (left ls i) ≡ None →
     Reads (elements_from xs) (left ls i) fail) r
@@ -98,7 +98,7 @@ abbrev pub AnswersEntry : List Tok → ℕ → Result (CodeEntry × ℕ) Grammar
 AnswersEntry ls i r = Replies
     (λ (x : CodeEntry × ℕ). (xs : List Entry) (o : Outcome) →
     after sign.CloseBrace (left ls i) ≡ None →
-    Reads (next_entry (xs ++ (entry x.0 ∷ []))) (left ls x.1) o →
+    Reads (next_entry (xs ++ (entry_of x.0 ∷ []))) (left ls x.1) o →
     Reads (entries_from xs) (left ls i) o)
     ((xs : List Entry) → after sign.CloseBrace (left ls i) ≡ None →
     Reads (entries_from xs) (left ls i) fail) r
@@ -108,7 +108,7 @@ abbrev pub AnswersSpread : List Tok → ℕ → Result (CodeEntry × ℕ) Gramma
 AnswersSpread ls i r = Replies
     (λ (x : CodeEntry × ℕ). (ts : List Tok) (xs : List Entry) (o : Outcome) →
     after sign.DotDotDot ts ≡ Some (left ls i) →
-    Reads (next_entry (xs ++ (entry x.0 ∷ []))) (left ls x.1) o → Reads (entries_from xs) ts o)
+    Reads (next_entry (xs ++ (entry_of x.0 ∷ []))) (left ls x.1) o → Reads (entries_from xs) ts o)
     ((ts : List Tok) (xs : List Entry) → after sign.DotDotDot ts ≡ Some (left ls i) →
     Reads (entries_from xs) ts fail) r
 
@@ -121,7 +121,7 @@ AnswersArrow before ls i steps j = (e : Expression) (o : Outcome) →
 -- one more step of a chain, or the end of the chain
 abbrev pub IsStepOrEnd : List Tok → ℕ → Option (CodeStep × ℕ) → Type 0
 IsStepOrEnd ls i (Some x) = (e : Expression) (ss : List Step) (o : Outcome) →
-    Reads (steps_from e (ss ++ (step x.0 ∷ []))) (left ls x.1) o →
+    Reads (steps_from e (ss ++ (step_of x.0 ∷ []))) (left ls x.1) o →
     Reads (steps_from e ss) (left ls i) o
 IsStepOrEnd ls i None = (e : Expression) (ss : List Step) → after sign.Arrow (left ls i) ≡ None →
     Reads (steps_from e ss) (left ls i) (got (chain_of e ss) (left ls i))
@@ -135,7 +135,7 @@ abbrev pub AnswersPart : (Expression → List Step → Goal) → List Tok → �
     Result (CodeStep × ℕ) GrammarFault → Type 0
 AnswersPart g ls i r = Replies
     (λ (x : CodeStep × ℕ). (e : Expression) (ss : List Step) (o : Outcome) →
-    Reads (steps_from e (ss ++ (step x.0 ∷ []))) (left ls x.1) o →
+    Reads (steps_from e (ss ++ (step_of x.0 ∷ []))) (left ls x.1) o →
     Reads (g e ss) (left ls i) o)
     ((e : Expression) (ss : List Step) → Reads (g e ss) (left ls i) fail) r
 
@@ -183,7 +183,7 @@ abbrev pub AnswersKey : List Tok → ℕ → Result (CodeOrderKey × ℕ) Gramma
 AnswersKey ls i r = Replies
     (λ (x : CodeOrderKey × ℕ). (e : Expression) (ss : List Step) (w : List ℕ) (ks : List OrderKey)
     (o : Outcome) →
-    Reads (next_key e ss w (ks ++ (key x.0 ∷ []))) (left ls x.1) o →
+    Reads (next_key e ss w (ks ++ (order_key_of x.0 ∷ []))) (left ls x.1) o →
     Reads (keys_from e ss w ks) (left ls i) o)
     ((e : Expression) (ss : List Step) (w : List ℕ) (ks : List OrderKey) →
     Reads (keys_from e ss w ks) (left ls i) fail) r

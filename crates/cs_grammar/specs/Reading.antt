@@ -12,6 +12,7 @@ use Rattle.cs_syntax.specs.declared.tree.PreSign.{PreSign}
 use Rattle.cs_syntax.specs.declared.tree.PreSign.TheVariants as pre
 use Rattle.cs_syntax.specs.Expression.{Tok, number_tok, text_tok, param_tok, word_tok, sign_tok, Expression, number_literal, text_literal, param, word, this, everything, parent, round, call, array, object_literal, within, between, Step, attr, deref, each, slice, bracket, project, pipe, Entry, Entries, no_entries, keyed, bare, when, spread, Element, element, spread_element, Argument, argument, when_argument, OrderKey, order_key, entries_of, elements_of, arguments_of, keys_of, run_of, chain_of, prefix_of}
 use Rattle.cs_grammar.specs.Spells.{constant_of, is_keyword, sum_op, product_op, comparison_op, prefix_op, range_of}
+use Rattle.cs_syntax.specs.Brackets.{text_alone}
 
 -- what is to be read, with what is read of it so far
 pub data Goal : Type 0 where
@@ -177,11 +178,6 @@ match_after None k d = d
 
 abbrev pub expect : Sign → List Tok → (List Tok → Outcome) → Outcome
 expect s ts k = match_after (after s ts) k fail
-
--- what a text is, where the expression is one alone
-abbrev pub text_key : Expression → Option (List ℕ)
-text_key (text_literal t) = Some t
-text_key _ = None
 
 -- a word that nothing follows which makes it a name
 abbrev pub plain_word : List ℕ → Option Expression → Expression
@@ -370,7 +366,7 @@ module _ (f : Oracle) where
   read_keyed xs e r =
       match_after (after sign.FatArrow r) (λ s. bind (f expr s) (λ v t. f (next_entry (xs
       ++ (when e v ∷ []))) t))
-      (match_after (text_key e)
+      (match_after (text_alone e)
       (λ k. match_after (after sign.Colon r) (λ s. bind (f expr s) (λ v t. f (next_entry (xs
       ++ (keyed k v ∷ []))) t)) (f (next_entry (xs ++ (bare e ∷ []))) r))
       (f (next_entry (xs ++ (bare e ∷ []))) r))

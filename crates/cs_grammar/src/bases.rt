@@ -1,4 +1,4 @@
-// What a chain begins with.
+//! What a chain begins with.
 ghost use Rattle.std.specs.Prelude.{◌<◌, ◌≤◌, length, IfOk};
 ghost use Rattle.cs_syntax.specs.Expression.{parent};
 ghost use Rattle.cs_grammar.specs.View.{left};

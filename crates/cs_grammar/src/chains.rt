@@ -1,4 +1,4 @@
-// Chains: a base and its steps.
+//! Chains: a base and its steps.
 ghost use Rattle.std.specs.Prelude.{◌<◌, ◌≤◌, length, IfOk, IfSome};
 ghost use Rattle.cs_syntax.specs.View.{steps};
 ghost use Rattle.cs_grammar.specs.Reading.{link};

@@ -1,4 +1,4 @@
-// Why there is no expression.
+//! Why there is no expression.
 ghost use Rattle.std.specs.Prelude.{◌≡◌};
 ghost use Rattle.cs_grammar.specs.declared.fault.GrammarFault.TheVariants.{NoMemory};
 

@@ -1,4 +1,4 @@
-// A level of operators that group from the left.
+//! A level of operators that group from the left.
 #[derive(Clone, Copy, Drop)]
 pub enum Level {
     // `||`

@@ -1,4 +1,4 @@
-// A token by what it is and where in its text it stands.
+//! A token by what it is and where in its text it stands.
 use cs_syntax::Sign;
 
 /// What a token is.

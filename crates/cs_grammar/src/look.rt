@@ -1,5 +1,5 @@
-// The tokens of a query, and what stands at an index among them. Each look answers the index behind
-// what it found.
+//! The tokens of a query, and what stands at an index among them. Each look answers the index
+//! behind what it found.
 ghost use Rattle.std.specs.Prelude.{◌≡◌, ◌+◌, ◌≤◌, ◌<◌, All, ◌^◌, length, map, IfSome, [], ◌∷◌, MatchOption, Some, IsTrue, IsSome, ◌↔◌};
 ghost use Rattle.std.specs.Option.{option_map};
 ghost use Rattle.cs_syntax.specs.Expression.{sign_tok};

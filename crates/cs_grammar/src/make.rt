@@ -1,8 +1,8 @@
-// Trees made of their parts.
+//! Trees made of their parts.
 ghost use Rattle.std.specs.Prelude.{◌≡◌, IfOk, IsSome, ◌∷◌, []};
 ghost use Rattle.cs_syntax.specs.Expression.{number_literal, text_literal, param, this, everything, parent, round, call, array, object_literal, within, between, run_of, chain_of, prefix_of, attr, deref, each, slice, bracket, project, pipe, keyed, bare, when, spread, element, spread_element, argument, when_argument, order_key, arguments_of, elements_of, entries_of, keys_of};
 ghost use Rattle.cs_syntax.specs.Escapes.{decoded};
-ghost use Rattle.cs_syntax.specs.View.{expression, step, entry, elem, arg, key, operands, steps, entries, elements, arguments, keys};
+ghost use Rattle.cs_syntax.specs.View.{expression, step_of, entry_of, element_of, argument_of, order_key_of, operands, steps, entries, elements, arguments, keys};
 ghost use Rattle.cs_grammar.specs.Spells.{constant_of};
 ghost use Rattle.cs_grammar.specs.Reading.{plain_word, name_of_words};
 ghost use Rattle.cs_grammar.specs.View.{text_of};
@@ -198,30 +198,30 @@ pub fn between(
     )?)
 }
 
-#[tactic(auto, unfolding(cs_syntax::specs::View::step))]
+#[tactic(auto, unfolding(cs_syntax::specs::View::step_of))]
 pub fn attr(alloc: Global, name: &str) -> Result<Step, NoMemory>
-    ensures { IfOk result (λ s. step s ≡ attr name.now) }
+    ensures { IfOk result (λ s. step_of s ≡ attr name.now) }
 {
     Ok(Step::Attr(Txt::copy_of(alloc, name)?))
 }
 
-#[tactic(auto, unfolding(cs_syntax::specs::View::step))]
+#[tactic(auto, unfolding(cs_syntax::specs::View::step_of))]
 pub fn deref() -> Step
-    ensures { step result ≡ deref }
+    ensures { step_of result ≡ deref }
 {
     Step::Deref
 }
 
-#[tactic(auto, unfolding(cs_syntax::specs::View::step))]
+#[tactic(auto, unfolding(cs_syntax::specs::View::step_of))]
 pub fn each() -> Step
-    ensures { step result ≡ each }
+    ensures { step_of result ≡ each }
 {
     Step::Each
 }
 
-#[tactic(auto, unfolding(cs_syntax::specs::View::step, cs_syntax::specs::View::expression))]
+#[tactic(auto, unfolding(cs_syntax::specs::View::step_of, cs_syntax::specs::View::expression))]
 pub fn slice(from: Box<Expr>, to: Box<Expr>, closed: bool) -> Step
-    ensures { step result ≡ slice (expression from.value) (expression to.value) closed }
+    ensures { step_of result ≡ slice (expression from.value) (expression to.value) closed }
 {
     Step::Slice {
         from: Box::into_inner(from),
@@ -230,30 +230,30 @@ pub fn slice(from: Box<Expr>, to: Box<Expr>, closed: bool) -> Step
     }
 }
 
-#[tactic(auto, unfolding(cs_syntax::specs::View::step, cs_syntax::specs::View::expression))]
+#[tactic(auto, unfolding(cs_syntax::specs::View::step_of, cs_syntax::specs::View::expression))]
 pub fn bracket(inner: Box<Expr>) -> Step
-    ensures { step result ≡ bracket (expression inner.value) }
+    ensures { step_of result ≡ bracket (expression inner.value) }
 {
     Step::Bracket(Box::into_inner(inner))
 }
 
 #[tactic(auto, unfolding(cs_syntax::proofs::Open::of_projection))]
 pub fn project(all: Vec<Entry>) -> Step
-    ensures { step result ≡ project (entries_of (entries all.items)) }
+    ensures { step_of result ≡ project (entries_of (entries all.items)) }
 {
     Step::Project(all)
 }
 
 #[tactic(auto, unfolding(cs_syntax::proofs::Open::of_pipe))]
 pub fn pipe(name: Txt, all: Vec<OrderKey>) -> Step
-    ensures { step result ≡ pipe name (keys_of (keys all.items)) }
+    ensures { step_of result ≡ pipe name (keys_of (keys all.items)) }
 {
     Step::Pipe { name, keys: all }
 }
 
-#[tactic(auto, unfolding(cs_syntax::specs::View::key, cs_syntax::specs::View::expression))]
+#[tactic(auto, unfolding(cs_syntax::specs::View::order_key_of, cs_syntax::specs::View::expression))]
 pub fn key(e: Box<Expr>, desc: bool) -> OrderKey
-    ensures { key result ≡ order_key (expression e.value) desc }
+    ensures { order_key_of result ≡ order_key (expression e.value) desc }
 {
     OrderKey {
         key: Box::into_inner(e),
@@ -261,66 +261,66 @@ pub fn key(e: Box<Expr>, desc: bool) -> OrderKey
     }
 }
 
-#[tactic(auto, unfolding(cs_syntax::specs::View::arg, cs_syntax::specs::View::expression))]
+#[tactic(auto, unfolding(cs_syntax::specs::View::argument_of, cs_syntax::specs::View::expression))]
 pub fn argument(e: Box<Expr>) -> Arg
-    ensures { arg result ≡ argument (expression e.value) }
+    ensures { argument_of result ≡ argument (expression e.value) }
 {
     Arg::One(Box::into_inner(e))
 }
 
-#[tactic(auto, unfolding(cs_syntax::specs::View::arg, cs_syntax::specs::View::expression))]
+#[tactic(auto, unfolding(cs_syntax::specs::View::argument_of, cs_syntax::specs::View::expression))]
 pub fn when_argument(condition: Box<Expr>, e: Box<Expr>) -> Arg
-    ensures { arg result ≡ when_argument (expression condition.value) (expression e.value) }
+    ensures { argument_of result ≡ when_argument (expression condition.value) (expression e.value) }
 {
     Arg::When(Box::into_inner(condition), Box::into_inner(e))
 }
 
-#[tactic(auto, unfolding(cs_syntax::specs::View::elem, cs_syntax::specs::View::expression))]
+#[tactic(auto, unfolding(cs_syntax::specs::View::element_of, cs_syntax::specs::View::expression))]
 pub fn element(e: Box<Expr>) -> Elem
-    ensures { elem result ≡ element (expression e.value) }
+    ensures { element_of result ≡ element (expression e.value) }
 {
     Elem::One(Box::into_inner(e))
 }
 
-#[tactic(auto, unfolding(cs_syntax::specs::View::elem, cs_syntax::specs::View::expression))]
+#[tactic(auto, unfolding(cs_syntax::specs::View::element_of, cs_syntax::specs::View::expression))]
 pub fn spread_element(e: Box<Expr>) -> Elem
-    ensures { elem result ≡ spread_element (expression e.value) }
+    ensures { element_of result ≡ spread_element (expression e.value) }
 {
     Elem::Spread(Box::into_inner(e))
 }
 
-#[tactic(auto, unfolding(cs_syntax::specs::View::entry, cs_syntax::specs::View::expression))]
+#[tactic(auto, unfolding(cs_syntax::specs::View::entry_of, cs_syntax::specs::View::expression))]
 pub fn bare(e: Box<Expr>) -> Entry
-    ensures { entry result ≡ bare (expression e.value) }
+    ensures { entry_of result ≡ bare (expression e.value) }
 {
     Entry::Bare(Box::into_inner(e))
 }
 
-#[tactic(auto, unfolding(cs_syntax::specs::View::entry, cs_syntax::specs::View::expression))]
+#[tactic(auto, unfolding(cs_syntax::specs::View::entry_of, cs_syntax::specs::View::expression))]
 pub fn when(condition: Box<Expr>, e: Box<Expr>) -> Entry
-    ensures { entry result ≡ when (expression condition.value) (expression e.value) }
+    ensures { entry_of result ≡ when (expression condition.value) (expression e.value) }
 {
     Entry::When(Box::into_inner(condition), Box::into_inner(e))
 }
 
-#[tactic(auto, unfolding(cs_syntax::specs::View::entry, cs_syntax::specs::View::expression))]
+#[tactic(auto, unfolding(cs_syntax::specs::View::entry_of, cs_syntax::specs::View::expression))]
 pub fn spread(e: Box<Expr>) -> Entry
-    ensures { entry result ≡ spread (expression e.value) }
+    ensures { entry_of result ≡ spread (expression e.value) }
 {
     Entry::Spread(Box::into_inner(e))
 }
 
-#[tactic(auto, unfolding(cs_syntax::specs::View::entry, cs_syntax::specs::View::expression))]
+#[tactic(auto, unfolding(cs_syntax::specs::View::entry_of, cs_syntax::specs::View::expression))]
 pub fn spread_this() -> Entry
-    ensures { entry result ≡ spread this }
+    ensures { entry_of result ≡ spread this }
 {
     Entry::Spread(Expr::This)
 }
 
 // An entry with a key.
-#[tactic(auto, unfolding(cs_syntax::specs::View::entry, cs_syntax::specs::View::expression))]
+#[tactic(auto, unfolding(cs_syntax::specs::View::entry_of, cs_syntax::specs::View::expression))]
 pub fn keyed(key: Txt, e: Box<Expr>) -> Entry
-    ensures { entry result ≡ keyed key (expression e.value) }
+    ensures { entry_of result ≡ keyed key (expression e.value) }
 {
     Entry::Keyed(key, Box::into_inner(e))
 }

@@ -1,4 +1,4 @@
-// The entries of an object or a projection.
+//! The entries of an object or a projection.
 ghost use Rattle.std.specs.Prelude.{◌<◌, ◌≤◌, length, IfOk};
 ghost use Rattle.cs_grammar.specs.Answers.{AnswersEntries, AnswersEntry, AnswersSpread};
 

@@ -1,5 +1,5 @@
-// Operators, the loosest first. The operators of one level are a loop, so that the calls nest as
-// deep as the brackets do.
+//! Operators, the loosest first. The operators of one level are a loop, so that the calls nest as
+//! deep as the brackets do.
 ghost use Rattle.std.specs.Prelude.{◌<◌, ◌≤◌, length, IfOk, []};
 ghost use Rattle.cs_syntax.specs.View.{expression};
 ghost use Rattle.cs_grammar.specs.Reading.{expr, expr_from, conjunction, cmp, cmp_from, sum, product, run_from, neg_from, pow, pre_from, operand_of};

@@ -1,4 +1,4 @@
-// The expression of a whole text.
+//! The expression of a whole text.
 ghost use Rattle.std.specs.Prelude.{◌<◌, ◌^◌, All, length, map};
 ghost use Rattle.cs_grammar.specs.Parsing.{IsLexemeOf, Parses};
 ghost use Rattle.cs_grammar.specs.View.{tok};

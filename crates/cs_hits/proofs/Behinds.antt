@@ -3,11 +3,11 @@ use Rattle.std.proofs.Common.{◌≡◌, List, [], ◌∷◌, length, map, Bool,
 use Rattle.std.specs.Prelude.{filter}
 use Rattle.cs_value.specs.Tree.{Tree, Pairs}
 use Rattle.cs_syntax.specs.Expression.{Expression}
-use Rattle.cs_view.specs.Changes.{Edit, are_changes, LeadTo, Before, After, changes_where}
+use Rattle.cs_view.specs.Changes.{Edit, are_changes, LeadTo, before_changes, after_changes, changes_where}
 use Rattle.cs_view.specs.Dataset.{ascending}
 use Rattle.cs_view.specs.Laws.{ChangesLeadBackAndOn, FilterFollowsChanges}
-use Rattle.cs_view.specs.View.{doc}
-use Rattle.cs_view.proofs.Changed.{ascending-Before}
+use Rattle.cs_view.specs.View.{document_of}
+use Rattle.cs_view.proofs.Changed.{ascending-before_changes}
 use Rattle.cs_view.proofs.Datasets.{ascending-filter}
 use Rattle.cs_meaning.specs.Hits.{hits, is_hit}
 use Rattle.cs_meaning.proofs.Sound.{filter-within}
@@ -63,7 +63,7 @@ module _ (e : Expression) (params : Pairs) where
   -- a nearer bound among them
   pub narrowed_behind : NearerIsWithin → (docs : List Tree) (b : Behind) (n : Near) → AreBehind docs e params b → AreNearest e params (held_docs b) n
       → AreBehind docs e params (Window n) × AreEnoughBehind docs e params (Window n)
-  narrowed_behind nearer docs (All v) n are m = found_near docs (map doc v.items) n are m
+  narrowed_behind nearer docs (All v) n are m = found_near docs (map document_of v.items) n are m
   narrowed_behind nearer docs (Window k) n are m =
       let h : List Tree = hits e params docs in
       let near = near_of docs k are in
@@ -90,16 +90,16 @@ module _ (e : Expression) (params : Pairs) where
   same_test (Window n) (All w) kind = absurd kind
   same_test (Window n) (Window m) kind = ap (is_near_hit e params) kind
 
-  pub behind_ascend : (docs : List Tree) (cs : List Edit) → ascending docs ≡ true → (b : Behind) → AreBehind (Before docs cs) e params b → ascending (held_docs b) ≡ true
-  behind_ascend docs cs h b are = ap ascending are ∙ ascending-filter (is_held e params b) (Before docs cs) (ascending-Before docs cs h)
+  pub behind_ascend : (docs : List Tree) (cs : List Edit) → ascending docs ≡ true → (b : Behind) → AreBehind (before_changes docs cs) e params b → ascending (held_docs b) ≡ true
+  behind_ascend docs cs h b are = ap ascending are ∙ ascending-filter (is_held e params b) (before_changes docs cs) (ascending-before_changes docs cs h)
 
   -- behind the changes they are those of the dataset after
   pub behind_after : ChangesLeadBackAndOn → FilterFollowsChanges → (docs : List Tree) (cs : List Edit) → ascending docs ≡ true → are_changes cs ≡ true → LeadTo docs cs
-      → (a b : Behind) → AreBehind (Before docs cs) e params a → Follows cs e params a b → AreBehind docs e params b
+      → (a b : Behind) → AreBehind (before_changes docs cs) e params a → Follows cs e params a b → AreBehind docs e params b
   behind_after back follows docs cs h changes leads a b are f =
       let p = is_held e params a in
-      f.docs ∙ (ap (λ (ds : List Tree). After ds (changes_where p cs)) are
-      ∙ (sym (follows p (Before docs cs) cs (ascending-Before docs cs h) changes)
+      f.docs ∙ (ap (λ (ds : List Tree). after_changes ds (changes_where p cs)) are
+      ∙ (sym (follows p (before_changes docs cs) cs (ascending-before_changes docs cs h) changes)
       ∙ (ap (filter p) (back docs cs h changes leads).2
       ∙ ap (λ (q : Tree → Bool). filter q docs) (sym (same_test a b f.kind)))))
 

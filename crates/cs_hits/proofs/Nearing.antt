@@ -7,10 +7,10 @@ use Rattle.cs_value.specs.View.{tree}
 use Rattle.cs_value.specs.declared.val.Val.{Val}
 use Rattle.cs_syntax.specs.Expression.{Expression}
 use Rattle.cs_view.specs.Changes.{is_of_id}
-use Rattle.cs_view.specs.Dataset.{same_id, At, ascending, kept_if, placed, with_doc, without}
+use Rattle.cs_view.specs.Dataset.{same_id, standing, ascending, kept_if, placed, with_doc, without}
 use Rattle.cs_view.specs.Document.{id_of}
-use Rattle.cs_view.specs.View.{doc}
-use Rattle.cs_view.proofs.Datasets.{same_docs, same_id-refl, ascending-filter, ascending-placed, At-filter, At-placed}
+use Rattle.cs_view.specs.View.{document_of}
+use Rattle.cs_view.proofs.Datasets.{same_docs, same_id-refl, ascending-filter, ascending-placed, standing-filter, standing-placed}
 use Rattle.cs_meaning.proofs.Sound.{filter-within}
 use Rattle.cs_window.specs.Laws.{NearerIsWithin, PlaceBoundsWindow}
 use Rattle.cs_window.specs.Window.{Window, window, is_near, keys_at, IsBound}
@@ -35,11 +35,11 @@ filter_placed p id o docs own h =
     same_docs (filter p (placed id o docs)) (placed id (kept_if p o) (filter p docs))
     (ascending-filter p (placed id o docs) after)
     (ascending-placed id (kept_if p o) (filter p docs) before)
-    (λ q. At-filter p q (placed id o docs) after
-    ∙ ap (kept_if p) (At-placed q id o docs own)
-    ∙ kept_either p (same_id q id) o (At q docs)
-    ∙ sym (At-placed q id (kept_if p o) (filter p docs) (of_id_still p id o own)
-    ∙ ap (λ (t : Option Tree). cond (same_id q id) (kept_if p o) t) (At-filter p q docs h)))
+    (λ q. standing-filter p q (placed id o docs) after
+    ∙ ap (kept_if p) (standing-placed q id o docs own)
+    ∙ kept_either p (same_id q id) o (standing q docs)
+    ∙ sym (standing-placed q id (kept_if p o) (filter p docs) (of_id_still p id o own)
+    ∙ ap (λ (t : Option Tree). cond (same_id q id) (kept_if p o) t) (standing-filter p q docs h)))
 
 pub near_put : (e : Expression) (params : Pairs) (bound near after rows rows' : List Tree) (d : Tree) → ascending rows ≡ true
     → near ≡ filter (is_near e params bound) rows → rows' ≡ with_doc d rows
@@ -142,7 +142,7 @@ module _ (e : Expression) (params : Pairs) where
   enough_near n docs near w = record {
     within = w.within;
     is = w.is;
-    enough = subst (λ (us : List Tree). w.within.many ≤ length us) near (subst (λ (k : ℕ). w.within.many ≤ k) (sym (length-map n.docs.items doc)) w.enough);
+    enough = subst (λ (us : List Tree). w.within.many ≤ length us) near (subst (λ (k : ℕ). w.within.many ≤ k) (sym (length-map n.docs.items document_of)) w.enough);
   }
 
   -- documents that settle an answer ascend as all do

@@ -5,9 +5,9 @@ use Rattle.std.proofs.lemmas.List.Folds.{list_any-append}
 use Rattle.cs_value.specs.Tree.{Tree, Pairs}
 use Rattle.cs_value.specs.Words.{list_of}
 use Rattle.cs_syntax.specs.Expression.{Expression}
-use Rattle.cs_view.specs.Changes.{Edit, are_changes, LeadTo, Before}
+use Rattle.cs_view.specs.Changes.{Edit, are_changes, LeadTo, before_changes}
 use Rattle.cs_view.specs.Dataset.{ascending}
-use Rattle.cs_view.specs.Keys.{Sel}
+use Rattle.cs_view.specs.Keys.{having}
 use Rattle.cs_view.specs.Laws.{ChangesLeadBackAndOn, UntouchedSelectsTheSame}
 use Rattle.cs_view.specs.Touched.{is_touched, touched}
 use Rattle.cs_view.specs.declared.key.Key.{Key}
@@ -35,11 +35,11 @@ shares-value law docs e params ss v mapped are all is =
 module _ (docs : List Tree) (cs : List Edit) (sorted : ascending docs ≡ true) (changes : are_changes cs ≡ true) (leads : LeadTo docs cs)
     (untouched : UntouchedSelectsTheSame) (back : ChangesLeadBackAndOn) (looked : LookedSettlesShare) where
   abbrev before : List Tree
-  before = Before docs cs
+  before = before_changes docs cs
 
   pub share-still : (e : Expression) (params : Pairs) (s : Share) → touched s.looked cs ≡ false → IsShare before e params s → IsShare docs e params s
   share-still e params s quiet is =
-      let agree : (k : Key) → Contains (share_looked before e params (share_doc s)) k → Sel k before ≡ Sel k docs
+      let agree : (k : Key) → Contains (share_looked before e params (share_doc s)) k → having k before ≡ having k docs
       = λ k at. stays docs cs sorted changes leads untouched back s.looked quiet k (subst (λ (ks : List Key). Contains ks k) (sym is.looked) at) in
       let settled = looked e params (share_doc s) before docs agree in
       record { value = is.value ∙ settled.0; looked = is.looked ∙ settled.1 }

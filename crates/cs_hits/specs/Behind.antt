@@ -3,8 +3,8 @@
 use Rattle.std.specs.Prelude.{◌≡◌, List, Bool, filter, map, ⊤}
 use Rattle.cs_value.specs.Tree.{Tree, Pairs}
 use Rattle.cs_syntax.specs.Expression.{Expression}
-use Rattle.cs_view.specs.Changes.{Edit, After, changes_where}
-use Rattle.cs_view.specs.View.{doc}
+use Rattle.cs_view.specs.Changes.{Edit, after_changes, changes_where}
+use Rattle.cs_view.specs.View.{document_of}
 use Rattle.cs_meaning.specs.Hits.{hits, is_hit}
 use Rattle.cs_window.specs.Window.{IsBound}
 use Rattle.cs_hits.specs.Near.{bound_of, is_near_hit, near_docs}
@@ -13,7 +13,7 @@ use Rattle.cs_hits.specs.declared.behind.Behind.TheVariants.{All, Window}
 
 -- the documents, in their order
 abbrev pub held_docs : Behind → List Tree
-held_docs (All v) = map doc v.items
+held_docs (All v) = map document_of v.items
 held_docs (Window n) = near_docs n
 
 -- which documents are held: hits, all of them, or those that do not stand behind the bound
@@ -40,5 +40,5 @@ KeepsKind (Window n) (Window m) = bound_of m ≡ bound_of n
 -- they were brought behind the changes
 pub record Follows (cs : List Edit) (e : Expression) (params : Pairs) (old new : Behind)
     : Type 0 where
-  pub docs : held_docs new ≡ After (held_docs old) (changes_where (is_held e params old) cs)
+  pub docs : held_docs new ≡ after_changes (held_docs old) (changes_where (is_held e params old) cs)
   pub kind : KeepsKind old new

@@ -5,8 +5,8 @@ use Rattle.std.specs.List.{AllByRecursion}
 use Rattle.cs_value.specs.Tree.{Tree, Pairs}
 use Rattle.cs_syntax.specs.Expression.{Expression}
 use Rattle.cs_view.specs.Changes.{Edit}
-use Rattle.cs_view.specs.Dataset.{At}
-use Rattle.cs_view.specs.View.{doc}
+use Rattle.cs_view.specs.Dataset.{standing}
+use Rattle.cs_view.specs.View.{document_of}
 use Rattle.cs_meaning.specs.Hits.{hits}
 use Rattle.cs_window.specs.Window.{is_near, IsBound}
 use Rattle.cs_hits.specs.Near.{bound_of, near_docs}
@@ -15,7 +15,7 @@ use Rattle.cs_hits.specs.declared.near.Near.{Near}
 
 -- the documents, in their order
 abbrev pub docs_of : Hits → List Tree
-docs_of h = map doc h.docs.items
+docs_of h = map document_of h.docs.items
 
 -- the documents that settle an answer: those near a bound, where such are kept, or all
 abbrev pub settling_of : Option Near → List Tree → List Tree
@@ -46,4 +46,4 @@ pub record AreHits (docs : List Tree) (e : Expression) (params : Pairs) (h : Hit
 
 -- no document stands under an id under which none stood before the changes
 abbrev pub NoneIsNew : List Edit → List Tree → Type 0
-NoneIsNew cs docs = AllByRecursion (λ c. c.1.0 ≡ None → At c.0 docs ≡ None) cs
+NoneIsNew cs docs = AllByRecursion (λ c. c.1.0 ≡ None → standing c.0 docs ≡ None) cs

@@ -4,7 +4,7 @@ use Rattle.std.specs.Prelude.{◌≡◌, ◌≤◌, ◌&&◌, ℕ, Bool, List, f
 use Rattle.cs_value.specs.Tree.{Tree, Pairs}
 use Rattle.cs_value.specs.View.{tree}
 use Rattle.cs_syntax.specs.Expression.{Expression}
-use Rattle.cs_view.specs.View.{doc}
+use Rattle.cs_view.specs.View.{document_of}
 use Rattle.cs_meaning.specs.Hits.{is_hit}
 use Rattle.cs_window.specs.Window.{Window, window, is_near, keys_at, IsBound}
 use Rattle.cs_hits.specs.declared.near.Near.{Near}
@@ -15,7 +15,7 @@ bound_of n = map tree n.bound.items
 
 -- the documents that do not stand behind it
 abbrev pub near_docs : Near → List Tree
-near_docs n = map doc n.docs.items
+near_docs n = map document_of n.docs.items
 
 -- a hit that does not stand behind a bound
 abbrev pub is_near_hit : Expression → Pairs → List Tree → Tree → Bool

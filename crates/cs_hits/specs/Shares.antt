@@ -5,8 +5,8 @@ use Rattle.std.specs.List.{AllByRecursion}
 use Rattle.cs_value.specs.Tree.{Tree, Pairs}
 use Rattle.cs_value.specs.View.{tree}
 use Rattle.cs_syntax.specs.Expression.{Expression}
-use Rattle.cs_view.specs.Changes.{Edit, After, changes_where}
-use Rattle.cs_view.specs.View.{doc}
+use Rattle.cs_view.specs.Changes.{Edit, after_changes, changes_where}
+use Rattle.cs_view.specs.View.{document_of}
 use Rattle.cs_view.specs.declared.key.Key.{Key}
 use Rattle.cs_meaning.specs.Hits.{is_hit}
 use Rattle.cs_window.specs.Mapped.{share, share_looked}
@@ -14,7 +14,7 @@ use Rattle.cs_hits.specs.declared.share.Share.{Share}
 
 -- the documents, in their order
 abbrev pub share_doc : Share → Tree
-share_doc s = doc s.doc
+share_doc s = document_of s.doc
 
 abbrev pub share_docs : List Share → List Tree
 share_docs ss = map share_doc ss
@@ -38,5 +38,5 @@ AreShares docs e params ss = AllByRecursion (IsShare docs e params) ss
 -- the shares of hits behind changes: of those documents, over the dataset
 pub record SharesFollow (docs : List Tree) (cs : List Edit) (e : Expression) (params : Pairs)
     (old new : List Share) : Type 0 where
-  pub hits : share_docs new ≡ After (share_docs old) (changes_where (is_hit e params) cs)
+  pub hits : share_docs new ≡ after_changes (share_docs old) (changes_where (is_hit e params) cs)
   pub shares : AreShares docs e params new

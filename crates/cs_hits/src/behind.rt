@@ -2,10 +2,10 @@
 ghost use Rattle.std.specs.Prelude.{◌≡◌, List, false, true, map, IfOk, OnOk};
 ghost use Rattle.cs_value.specs.Tree.{Tree, Pairs};
 ghost use Rattle.cs_value.specs.View.{fields};
-ghost use Rattle.cs_syntax.specs.Queries.{query as expression_of};
-ghost use Rattle.cs_view.specs.Changes.{After, changes_where};
+ghost use Rattle.cs_syntax.specs.Queries.{expression_of};
+ghost use Rattle.cs_view.specs.Changes.{after_changes, changes_where};
 ghost use Rattle.cs_view.specs.Dataset.{ascending, kept_if, placed};
-ghost use Rattle.cs_view.specs.View.{doc as document, edit, edits};
+ghost use Rattle.cs_view.specs.View.{document_of, edit, edits};
 ghost use Rattle.cs_window.specs.Windowed.{is_filtered};
 ghost use Rattle.cs_hits.specs.Behind.{AreBehind, AreEnoughBehind, KeepsKind, held_docs, is_held};
 
@@ -52,7 +52,7 @@ impl Behind {
 
     /// The documents.
     pub fn docs(&self) -> &[Doc]
-        ensures { map document result.now ≡ held_docs self.now }
+        ensures { map document_of result.now ≡ held_docs self.now }
     {
         match self {
             Behind::All(docs) => docs,
@@ -101,7 +101,8 @@ impl Behind {
     ) -> Result<bool, NoMemory>
         requires filtered { is_filtered (expression_of query.now) ≡ true }
         requires ascending { ascending (held_docs self.old) ≡ true }
-        ensures docs { OnOk result (held_docs self.new ≡ After (held_docs self.old) (changes_where
+        ensures docs { OnOk result (held_docs self.new
+            ≡ after_changes (held_docs self.old) (changes_where
             (is_held (expression_of query.now) (fields params.now) self.old) (edits changes.now))) }
         ensures same { IfOk result (λ b. b ≡ false → held_docs self.new ≡ held_docs self.old) }
         ensures kind { OnOk result (KeepsKind self.old self.new) }

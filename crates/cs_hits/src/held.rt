@@ -2,7 +2,7 @@
 ghost use Rattle.std.specs.Prelude.{◌≡◌, false, true, map, OnOk};
 ghost use Rattle.cs_value.specs.Tree.{Tree};
 ghost use Rattle.cs_view.specs.Dataset.{ascending, with_doc, without};
-ghost use Rattle.cs_view.specs.View.{doc as document};
+ghost use Rattle.cs_view.specs.View.{document_of};
 ghost use Rattle.cs_hits.specs.Held.{IsPlaceOf, IsPut, IsTaken};
 
 use cs_value::{NoMemory, Txt};
@@ -14,11 +14,11 @@ pub trait Held {
 
     /// The document.
     fn doc(&self) -> &Doc
-        ensures { document result.now ≡ held self.now };
+        ensures { document_of result.now ≡ held self.now };
 }
 
 impl Held for Doc {
-    ghost held = { document };
+    ghost held = { document_of };
 
     fn doc(&self) -> &Doc {
         self

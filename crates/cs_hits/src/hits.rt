@@ -3,10 +3,10 @@ ghost use Rattle.std.specs.Prelude.{◌≡◌, ◌≤◌, ◌+◌, None, false, 
 ghost use Rattle.cs_value.specs.Tree.{Pairs};
 ghost use Rattle.cs_value.specs.View.{fields};
 ghost use Rattle.cs_syntax.specs.Expression.{Expression};
-ghost use Rattle.cs_syntax.specs.Queries.{query as expression_of};
-ghost use Rattle.cs_view.specs.Changes.{After, are_changes, changes_where};
-ghost use Rattle.cs_view.specs.Dataset.{At, ascending, kept_if, placed, with_doc, without};
-ghost use Rattle.cs_view.specs.View.{doc as document, edit, edits};
+ghost use Rattle.cs_syntax.specs.Queries.{expression_of};
+ghost use Rattle.cs_view.specs.Changes.{after_changes, are_changes, changes_where};
+ghost use Rattle.cs_view.specs.Dataset.{standing, ascending, kept_if, placed, with_doc, without};
+ghost use Rattle.cs_view.specs.View.{document_of, edit, edits};
 ghost use Rattle.cs_meaning.specs.Hits.{cost, is_hit};
 ghost use Rattle.cs_window.specs.Windowed.{is_filtered};
 ghost use Rattle.cs_hits.specs.Hits.{AreEnough, AreHits, AreNear, KeepsBound, NoneIsNew, docs_of, settling};
@@ -52,7 +52,7 @@ impl Hits {
 
     /// The documents that settle the answer: those near its window, or all.
     pub fn settling(&self) -> &[Doc]
-        ensures { map document result.now ≡ settling self.now }
+        ensures { map document_of result.now ≡ settling self.now }
     {
         match &self.near {
             Some(near) => &near.docs,
@@ -73,7 +73,7 @@ impl Hits {
         requires ascending { ascending (docs_of self.old) ≡ true }
         requires near { AreNear (expression_of query.now) (fields params.now) self.old }
         ensures put { OnOk result (docs_of self.new
-            ≡ with_doc (document doc.now) (docs_of self.old)) }
+            ≡ with_doc (document_of doc.now) (docs_of self.old)) }
         ensures near { OnOk result
             (AreNear (expression_of query.now) (fields params.now) self.new) }
         ensures same { IfOk result (λ b. b ≡ false → settling self.new ≡ settling self.old) }
@@ -115,7 +115,7 @@ impl Hits {
         requires ascending { ascending (docs_of self.old) ≡ true }
         requires near { AreNear (expression_of query.now) (fields params.now) self.old }
         requires new { (edit change.now).1.0 ≡ None
-            → At (edit change.now).0 (docs_of self.old) ≡ None }
+            → standing (edit change.now).0 (docs_of self.old) ≡ None }
         ensures placed { OnOk result (docs_of self.new ≡ placed (edit change.now).0
             (kept_if (is_hit (expression_of query.now) (fields params.now)) (edit change.now).1.1)
             (docs_of self.old)) }
@@ -150,7 +150,8 @@ impl Hits {
         requires near { AreNear (expression_of query.now) (fields params.now) self.old }
         requires changes { are_changes (edits changes.now) ≡ true }
         requires new { NoneIsNew (edits changes.now) (docs_of self.old) }
-        ensures docs { OnOk result (docs_of self.new ≡ After (docs_of self.old) (changes_where
+        ensures docs { OnOk result (docs_of self.new
+            ≡ after_changes (docs_of self.old) (changes_where
             (is_hit (expression_of query.now) (fields params.now)) (edits changes.now))) }
         ensures near { OnOk result
             (AreNear (expression_of query.now) (fields params.now) self.new) }

@@ -1,10 +1,10 @@
 //! The documents near a bound, which settle an answer that is made of the first few of an order.
 ghost use Rattle.std.specs.Prelude.{◌≡◌, false, true, filter, map, IfOk, IfSome, OnOk, Some};
 ghost use Rattle.cs_value.specs.View.{tree, fields};
-ghost use Rattle.cs_syntax.specs.Queries.{query as expression_of};
+ghost use Rattle.cs_syntax.specs.Queries.{expression_of};
 ghost use Rattle.cs_view.specs.Dataset.{ascending, kept_if, placed, without};
 ghost use Rattle.cs_view.specs.Document.{id_of};
-ghost use Rattle.cs_view.specs.View.{doc as document, edit};
+ghost use Rattle.cs_view.specs.View.{document_of, edit};
 ghost use Rattle.cs_window.specs.Windowed.{is_filtered};
 ghost use Rattle.cs_window.specs.Window.{is_near};
 ghost use Rattle.cs_hits.specs.Near.{AreNearest, IsWithin, bound_of, is_near_hit, near_docs};
@@ -44,9 +44,9 @@ fn copies(
     docs: &[Doc],
 ) -> Result<Vec<Doc>, NoMemory>
     requires { is_filtered (expression_of query.now) ≡ true }
-    ensures { IfOk result (λ v. map document v.items
+    ensures { IfOk result (λ v. map document_of v.items
         ≡ filter (is_near (expression_of query.now) (fields params.now) (map tree bound.now))
-        (map document docs.now)) }
+        (map document_of docs.now)) }
 {
     let mut near = Vec::new(alloc);
     for doc in docs {
@@ -68,7 +68,7 @@ impl Near {
     ) -> Result<Option<Near>, NoMemory>
         requires { is_filtered (expression_of query.now) ≡ true }
         ensures { IfOk result (λ o. IfSome o
-            (AreNearest (expression_of query.now) (fields params.now) (map document docs.now))) }
+            (AreNearest (expression_of query.now) (fields params.now) (map document_of docs.now))) }
     {
         place_bounds_window();
         let Some(many) = window(query) else {
@@ -99,9 +99,9 @@ impl Near {
     ) -> Result<bool, NoMemory>
         requires filtered { is_filtered (expression_of query.now) ≡ true }
         requires ascending { ascending (near_docs self.old) ≡ true }
-        ensures placed { OnOk result (near_docs self.new ≡ placed (id_of (document doc.now))
+        ensures placed { OnOk result (near_docs self.new ≡ placed (id_of (document_of doc.now))
             (kept_if (is_near (expression_of query.now) (fields params.now) (bound_of self.old))
-            (Some (document doc.now))) (near_docs self.old)) }
+            (Some (document_of doc.now))) (near_docs self.old)) }
         ensures same { IfOk result (λ b. b ≡ false → near_docs self.new ≡ near_docs self.old) }
         ensures bound { self.new.bound ≡ self.old.bound }
     {

@@ -1,10 +1,10 @@
 //! The share that a hit has in the answer of a mapped query.
 ghost use Rattle.std.specs.Prelude.{◌≡◌, false, true, IfOk};
 ghost use Rattle.cs_value.specs.View.{fields};
-ghost use Rattle.cs_syntax.specs.Queries.{query as expression_of};
-ghost use Rattle.cs_view.specs.Changes.{are_changes, LeadTo, Before};
+ghost use Rattle.cs_syntax.specs.Queries.{expression_of};
+ghost use Rattle.cs_view.specs.Changes.{are_changes, LeadTo, before_changes};
 ghost use Rattle.cs_view.specs.Touched.{touched};
-ghost use Rattle.cs_view.specs.View.{doc as document, edits};
+ghost use Rattle.cs_view.specs.View.{document_of, edits};
 ghost use Rattle.cs_window.specs.Mapped.{is_mapped};
 ghost use Rattle.cs_hits.specs.Shares.{IsShare, share_doc};
 
@@ -48,7 +48,7 @@ impl Share {
         requires { is_mapped (expression_of query.now) ≡ true }
         ensures share { IfOk result
             (IsShare (V.docs view.now) (expression_of query.now) (fields params.now)) }
-        ensures doc { IfOk result (λ s. share_doc s ≡ document doc.now) }
+        ensures doc { IfOk result (λ s. share_doc s ≡ document_of doc.now) }
     {
         let mut looked = Record::new(alloc);
         let value = share(alloc, query, params, doc, view, &mut looked, steps)?;
@@ -81,7 +81,7 @@ impl Share {
         requires mapped { is_mapped (expression_of query.now) ≡ true }
         requires changes { are_changes (edits changes.now) ≡ true }
         requires led { LeadTo (V.docs view.now) (edits changes.now) }
-        requires share { IsShare (Before (V.docs view.now) (edits changes.now))
+        requires share { IsShare (before_changes (V.docs view.now) (edits changes.now))
             (expression_of query.now) (fields params.now) self }
         ensures share { IfOk result
             (λ r. IsShare (V.docs view.now) (expression_of query.now) (fields params.now) r.0) }

@@ -2,11 +2,11 @@
 ghost use Rattle.std.specs.Prelude.{◌≡◌, ◌++◌, ◌∷◌, false, true, map, IfOk, OnOk};
 ghost use Rattle.cs_value.specs.View.{tree, fields};
 ghost use Rattle.cs_value.specs.Words.{list_of};
-ghost use Rattle.cs_syntax.specs.Queries.{query as expression_of};
-ghost use Rattle.cs_view.specs.Changes.{are_changes, Before, LeadTo};
+ghost use Rattle.cs_syntax.specs.Queries.{expression_of};
+ghost use Rattle.cs_view.specs.Changes.{are_changes, before_changes, LeadTo};
 ghost use Rattle.cs_view.specs.Dataset.{ascending, kept_if, placed};
 ghost use Rattle.cs_view.specs.Touched.{touched};
-ghost use Rattle.cs_view.specs.View.{doc as document, edit, edits};
+ghost use Rattle.cs_view.specs.View.{document_of, edit, edits};
 ghost use Rattle.cs_meaning.specs.Hits.{hits, is_hit};
 ghost use Rattle.cs_window.specs.Mapped.{is_mapped};
 ghost use Rattle.cs_interest.specs.Interest.{interest_code};
@@ -34,7 +34,7 @@ fn shares_of<V: View<L>, L: Ledger>(
     steps: &mut Steps<L>,
 ) -> Result<Vec<Share>, NoMemory>
     requires { is_mapped (expression_of query.now) ≡ true }
-    ensures docs { IfOk result (λ ss. share_docs ss.items ≡ map document docs.now) }
+    ensures docs { IfOk result (λ ss. share_docs ss.items ≡ map document_of docs.now) }
     ensures shares { IfOk result (λ ss. AreShares (V.docs view.now) (expression_of query.now)
         (fields params.now) ss.items) }
 {
@@ -133,7 +133,7 @@ pub fn renew_shares<V: View<L>, L: Ledger>(
     requires mapped { is_mapped (expression_of query.now) ≡ true }
     requires changes { are_changes (edits changes.now) ≡ true }
     requires led { LeadTo (V.docs view.now) (edits changes.now) }
-    requires shares { AreShares (Before (V.docs view.now) (edits changes.now))
+    requires shares { AreShares (before_changes (V.docs view.now) (edits changes.now))
         (expression_of query.now) (fields params.now) shares.items }
     ensures docs { IfOk result (λ r. share_docs r.0.items ≡ share_docs shares.items) }
     ensures shares { IfOk result (λ r. AreShares (V.docs view.now) (expression_of query.now)

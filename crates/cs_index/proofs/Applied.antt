@@ -7,17 +7,17 @@ use Rattle.std.specs.BTreeSet.{BTreeSet}
 use Rattle.std.specs.FinMap.Entries.{find}
 use Rattle.cs_value.specs.Tree.{Tree}
 use Rattle.cs_view.specs.Document.{id_of}
-use Rattle.cs_view.specs.Dataset.{id_cmp, same_id, At}
-use Rattle.cs_view.specs.Changes.{Edit, are_changes, LeadFrom, LeadTo, After, after_of}
+use Rattle.cs_view.specs.Dataset.{id_cmp, same_id, standing}
+use Rattle.cs_view.specs.Changes.{Edit, are_changes, LeadFrom, LeadTo, after_changes, after_of}
 use Rattle.cs_view.proofs.Datasets.{same_id-same}
-use Rattle.cs_view.proofs.Changed.{own_ids, At-After, After-leads}
+use Rattle.cs_view.proofs.Changed.{own_ids, standing-after_changes, after_changes-leads}
 use Rattle.cs_shelf.specs.Places.{found}
 use Rattle.cs_shelf.proofs.Standing.{at-documents}
 use Rattle.cs_docs.specs.Store.{docs, doc_at, place_at, ArePlacesSteady}
 use Rattle.cs_docs.specs.declared.docs.Docs.{Docs}
-use Rattle.cs_codes.specs.Codes.{Seed, codes, is_among}
-use Rattle.cs_index.specs.Entries.{same_entry, entry, has_entry, side_codes, is_put, is_put_at, puts, parts, gains, enters, or_some, AreEntriesOf}
-use Rattle.cs_index.specs.Picking.{entering}
+use Rattle.cs_codes.specs.Codes.{Seed, key_codes, is_among, side_codes}
+use Rattle.cs_index.specs.Entries.{same_entry, entry, has_entry, is_put, is_put_at, puts, parts, gains, enters, or_some, AreEntriesOf}
+use Rattle.cs_docs.specs.Gathered.{entering}
 use Rattle.cs_index.specs.declared.entry.Entry.{Entry}
 use Rattle.cs_index.proofs.Marks.{one_code}
 
@@ -115,8 +115,8 @@ puts_it seed d x c p s at has hasnt =
     ap (λ o. is_put_at (λ y. is_among y (side_codes seed s.0)) o (side_codes seed s.1) (entry c p)) at ∙ put_found (λ y. is_among y (side_codes seed s.0)) p c (side_codes seed s.1) hasnt has
 
 -- the document at a place is entered with the place, so these are the entries that it enters
-pub put_at_place : (seed : Seed) (d : Docs) (p : ℕ) (t : Tree) (q : Entry) → doc_at d p ≡ Some t → is_put (λ x. false) p (codes seed t) q ≡ puts seed d q (id_of t, (None, Some t))
-put_at_place seed d p t q h = sym (ap (λ o. is_put_at (λ x. false) o (codes seed t) q) (d.shelf.entered p t h))
+pub put_at_place : (seed : Seed) (d : Docs) (p : ℕ) (t : Tree) (q : Entry) → doc_at d p ≡ Some t → is_put (λ x. false) p (key_codes seed t) q ≡ puts seed d q (id_of t, (None, Some t))
+put_at_place seed d p t q h = sym (ap (λ o. is_put_at (λ x. false) o (key_codes seed t) q) (d.shelf.entered p t h))
 
 -- ---- partings
 abbrev text_of : Option (List ℕ) → List ℕ
@@ -126,7 +126,7 @@ text_of (Some x) = x
 pub one_place : (d : Docs) (x y : List ℕ) (p : ℕ) → place_at d x ≡ Some p → place_at d y ≡ Some p → x ≡ y
 one_place d x y p h g = ap text_of (sym (d.shelf.sound x p h) ∙ d.shelf.sound y p g)
 
-not_parted : (seed : Seed) (d : Docs) (now : List Tree) (x : List ℕ) (c p : ℕ) (cs : List Edit) → LeadTo now cs → place_at d x ≡ Some p → is_among c (side_codes seed (At x now)) ≡ true → or_some (parts seed d (entry c p)) cs false ≡ false
+not_parted : (seed : Seed) (d : Docs) (now : List Tree) (x : List ℕ) (c p : ℕ) (cs : List Edit) → LeadTo now cs → place_at d x ≡ Some p → is_among c (side_codes seed (standing x now)) ≡ true → or_some (parts seed d (entry c p)) cs false ≡ false
 not_parted seed d now x c p [] lead at has = refl
 not_parted seed d now x c p (e ∷ es) lead at has = ap (λ a. or_some (parts seed d (entry c p)) es (cond a true false)) (none (place_at d e.0) refl) ∙ not_parted seed d now x c p es lead.1 at has where
   some : (r : ℕ) → place_at d e.0 ≡ Some r → (b : Bool) → is_put (λ y. is_among y (side_codes seed e.1.1)) r (side_codes seed e.1.0) (entry c p) ≡ b → b ≡ false
@@ -134,7 +134,7 @@ not_parted seed d now x c p (e ∷ es) lead at has = ap (λ a. or_some (parts se
   some r g true h =
       let o = put_only (λ y. is_among y (side_codes seed e.1.1)) r c p (side_codes seed e.1.0) h in
       let same : x ≡ e.0 = one_place d x e.0 p at (g ∙ ap Some o.0) in
-      absurd (true≢false (sym (ap (λ (t : Option Tree). is_among c (side_codes seed t)) (lead.0 ∙ ap (λ (i : List ℕ). At i now) (sym same)) ∙ has) ∙ o.1))
+      absurd (true≢false (sym (ap (λ (t : Option Tree). is_among c (side_codes seed t)) (lead.0 ∙ ap (λ (i : List ℕ). standing i now) (sym same)) ∙ has) ∙ o.1))
 
   none : (o : Option ℕ) → place_at d e.0 ≡ o → is_put_at (λ y. is_among y (side_codes seed e.1.1)) o (side_codes seed e.1.0) (entry c p) ≡ false
   none None g = refl
@@ -144,31 +144,31 @@ not_parted seed d now x c p (e ∷ es) lead at has = ap (λ a. or_some (parts se
 no_codes : (seed : Seed) (c : ℕ) (o : Option Tree) → o ≡ None → is_among c (side_codes seed o) ≡ true → ⊥
 no_codes seed c o e h = true≢false (sym h ∙ ap (λ (t : Option Tree). is_among c (side_codes seed t)) e)
 
-stays_there : (was now : Docs) (x : List ℕ) (p : ℕ) → ArePlacesSteady was now → place_at now x ≡ Some p → (At x (docs was) ≡ None → ⊥) → place_at was x ≡ Some p
+stays_there : (was now : Docs) (x : List ℕ) (p : ℕ) → ArePlacesSteady was now → place_at now x ≡ Some p → (standing x (docs was) ≡ None → ⊥) → place_at was x ≡ Some p
 stays_there was now x p steady at stood = by_place (place_at was x) refl where
   by_place : (o : Option ℕ) → place_at was x ≡ o → o ≡ Some p
   by_place None h = absurd (stood (at-documents was.shelf x ∙ ap (found was.shelf.store) h))
   by_place (Some r) h = ap Some (steady x r p h at)
 
-pub stays : (seed : Seed) (was now : Docs) (x : List ℕ) (c p : ℕ) → ArePlacesSteady was now → place_at now x ≡ Some p → is_among c (side_codes seed (At x (docs was))) ≡ true → place_at was x ≡ Some p
-stays seed was now x c p steady at has = stays_there was now x p steady at (λ e. no_codes seed c (At x (docs was)) e has)
+pub stays : (seed : Seed) (was now : Docs) (x : List ℕ) (c p : ℕ) → ArePlacesSteady was now → place_at now x ≡ Some p → is_among c (side_codes seed (standing x (docs was))) ≡ true → place_at was x ≡ Some p
+stays seed was now x c p steady at has = stays_there was now x p steady at (λ e. no_codes seed c (standing x (docs was)) e has)
 
-led : (ds : List Tree) (x : List ℕ) (cs : List Edit) (s : Option Tree × Option Tree) → LeadFrom ds cs → find id_cmp x cs ≡ Some s → s.0 ≡ At x ds
+led : (ds : List Tree) (x : List ℕ) (cs : List Edit) (s : Option Tree × Option Tree) → LeadFrom ds cs → find id_cmp x cs ≡ Some s → s.0 ≡ standing x ds
 led ds x [] s l f = absurd (cc)
 led ds x (e ∷ es) s l f = by_test (led ds x es s l.1) (same_id x e.0) refl f where
-  by_test : (find id_cmp x es ≡ Some s → s.0 ≡ At x ds) → (t : Bool) → same_id x e.0 ≡ t → cond t (Some e.1) (find id_cmp x es) ≡ Some s → s.0 ≡ At x ds
+  by_test : (find id_cmp x es ≡ Some s → s.0 ≡ standing x ds) → (t : Bool) → same_id x e.0 ≡ t → cond t (Some e.1) (find id_cmp x es) ≡ Some s → s.0 ≡ standing x ds
   by_test ih false t f = ih f
-  by_test ih true t f = let is : e.1 ≡ s = cc in sym (ap (λ (r : Option Tree × Option Tree). r.0) is) ∙ l.0 ∙ ap (λ (i : List ℕ). At i ds) (sym (same_id-same x e.0 t))
+  by_test ih true t f = let is : e.1 ≡ s = cc in sym (ap (λ (r : Option Tree × Option Tree). r.0) is) ∙ l.0 ∙ ap (λ (i : List ℕ). standing i ds) (sym (same_id-same x e.0 t))
 
 module _ (seed : Seed) (was now : Docs) (cs : List Edit) (m n : BTreeSet Entry)
     (is : (q : Entry) → has_entry n q ≡ or_some (enters seed now q) cs (cond (or_some (gains seed was q) cs false) true (cond (or_some (parts seed was q) cs false) false (has_entry m q))))
-    (changes : are_changes cs ≡ true) (lead : LeadFrom (docs was) cs) (after : docs now ≡ After (docs was) cs) (steady : ArePlacesSteady was now) (old : AreEntriesOf seed m was) where
+    (changes : are_changes cs ≡ true) (lead : LeadFrom (docs was) cs) (after : docs now ≡ after_changes (docs was) cs) (steady : ArePlacesSteady was now) (old : AreEntriesOf seed m was) where
   -- what is in before the documents that changes make is in
   stays_in : (c p : ℕ) → cond (or_some (gains seed was (entry c p)) cs false) true (cond (or_some (parts seed was (entry c p)) cs false) false (has_entry m (entry c p))) ≡ true → has_entry n (entry c p) ≡ true
   stays_in c p h = is (entry c p) ∙ ap (or_some (enters seed now (entry c p)) cs) h ∙ put_kept (enters seed now (entry c p)) cs
 
   -- an entry of a code that was had and is had stays
-  both_sides : (x : List ℕ) (c p : ℕ) → place_at now x ≡ Some p → is_among c (side_codes seed (At x (docs now))) ≡ true → is_among c (side_codes seed (At x (docs was))) ≡ true → has_entry n (entry c p) ≡ true
+  both_sides : (x : List ℕ) (c p : ℕ) → place_at now x ≡ Some p → is_among c (side_codes seed (standing x (docs now))) ≡ true → is_among c (side_codes seed (standing x (docs was))) ≡ true → has_entry n (entry c p) ≡ true
   both_sides x c p at has had = stays_in c p (ap (λ b. cond g true b) kept ∙ still g) where
     g : Bool
     g = or_some (gains seed was (entry c p)) cs false
@@ -182,7 +182,7 @@ module _ (seed : Seed) (was now : Docs) (cs : List Edit) (m n : BTreeSet Entry)
 
     kept : cond (or_some (parts seed was (entry c p)) cs false) false (has_entry m (entry c p)) ≡ true
     kept =
-        ap (λ a. cond a false (has_entry m (entry c p))) (not_parted seed was (docs now) x c p cs (subst (λ (ds : List Tree). LeadTo ds cs) (sym after) (After-leads (docs was) cs changes)) place has) ∙ old x c p place had
+        ap (λ a. cond a false (has_entry m (entry c p))) (not_parted seed was (docs now) x c p cs (subst (λ (ds : List Tree). LeadTo ds cs) (sym after) (after_changes-leads (docs was) cs changes)) place has) ∙ old x c p place had
 
   -- an entry of a code that was not had is put
   new_code : (x : List ℕ) (c p : ℕ) (s : Option Tree × Option Tree) → place_at now x ≡ Some p → find id_cmp x cs ≡ Some s → is_among c (side_codes seed s.1) ≡ true → is_among c (side_codes seed s.0) ≡ false → has_entry n (entry c p) ≡ true
@@ -191,7 +191,7 @@ module _ (seed : Seed) (was now : Docs) (cs : List Edit) (m n : BTreeSet Entry)
     by_before None e =
         is (entry c p) ∙ passed (enters seed now (entry c p)) x s cs _ f (ap (λ o. not (is_some o) && puts seed now (entry c p) (x, s)) e ∙ puts_it seed now x c p s at has hasnt)
     by_before (Some t) e =
-        let there : At x (docs was) ≡ Some t = sym (led (docs was) x cs s lead f) ∙ e in
+        let there : standing x (docs was) ≡ Some t = sym (led (docs was) x cs s lead f) ∙ e in
         let place : place_at was x ≡ Some p = stays_there was now x p steady at (λ none. absurd (true≢false (ap is_some (sym there ∙ none)))) in
         stays_in c p
         (ap (λ b. cond b true (cond (or_some (parts seed was (entry c p)) cs false) false (has_entry m (entry c p))))
@@ -199,29 +199,29 @@ module _ (seed : Seed) (was now : Docs) (cs : List Edit) (m n : BTreeSet Entry)
 
   pub applied : AreEntriesOf seed n now
   applied x c p at has = by_change (find id_cmp x cs) refl where
-    there : At x (docs now) ≡ after_of (find id_cmp x cs) (At x (docs was))
-    there = ap (At x) after ∙ At-After x (docs was) cs (own_ids cs changes)
+    there : standing x (docs now) ≡ after_of (find id_cmp x cs) (standing x (docs was))
+    there = ap (standing x) after ∙ standing-after_changes x (docs was) cs (own_ids cs changes)
 
     by_side : (s : Option Tree × Option Tree) → find id_cmp x cs ≡ Some s → (b : Bool) → is_among c (side_codes seed s.0) ≡ b → has_entry n (entry c p) ≡ true
     by_side s f true h = both_sides x c p at has (sym (ap (λ (t : Option Tree). is_among c (side_codes seed t)) (led (docs was) x cs s lead f)) ∙ h)
-    by_side s f false h = new_code x c p s at f (sym (ap (λ (t : Option Tree). is_among c (side_codes seed t)) (there ∙ ap (λ g. after_of g (At x (docs was))) f)) ∙ has) h
+    by_side s f false h = new_code x c p s at f (sym (ap (λ (t : Option Tree). is_among c (side_codes seed t)) (there ∙ ap (λ g. after_of g (standing x (docs was))) f)) ∙ has) h
 
     by_change : (f : Option (Option Tree × Option Tree)) → find id_cmp x cs ≡ f → has_entry n (entry c p) ≡ true
-    by_change None f = both_sides x c p at has (sym (ap (λ (t : Option Tree). is_among c (side_codes seed t)) (there ∙ ap (λ g. after_of g (At x (docs was))) f)) ∙ has)
+    by_change None f = both_sides x c p at has (sym (ap (λ (t : Option Tree). is_among c (side_codes seed t)) (there ∙ ap (λ g. after_of g (standing x (docs was))) f)) ∙ has)
     by_change (Some s) f = by_side s f (is_among c (side_codes seed s.0)) refl
 
 -- ---- the entries of a whole store
-find_entering : (x : List ℕ) (ds : List Tree) (t : Tree) → At x ds ≡ Some t → find id_cmp x (entering ds) ≡ Some (None, Some t)
+find_entering : (x : List ℕ) (ds : List Tree) (t : Tree) → standing x ds ≡ Some t → find id_cmp x (entering ds) ≡ Some (None, Some t)
 find_entering x [] t h = absurd (cc)
 find_entering x (e ∷ es) t h = by_test (find_entering x es t) (same_id x (id_of e)) refl h where
-  by_test : (At x es ≡ Some t → find id_cmp x (entering es) ≡ Some (None, Some t)) → (b : Bool) → same_id x (id_of e) ≡ b → cond b (Some e) (At x es) ≡ Some t → cond b (Some (None, Some e)) (find id_cmp x (entering es)) ≡ Some (None, Some t)
+  by_test : (standing x es ≡ Some t → find id_cmp x (entering es) ≡ Some (None, Some t)) → (b : Bool) → same_id x (id_of e) ≡ b → cond b (Some e) (standing x es) ≡ Some t → cond b (Some (None, Some e)) (find id_cmp x (entering es)) ≡ Some (None, Some t)
   by_test ih true k h = let s : e ≡ t = cc in ap (λ (y : Tree). Some (None, Some y)) s
   by_test ih false k h = ih h
 
 pub built : (seed : Seed) (d : Docs) (n : BTreeSet Entry) (b : Entry → Bool) → ((q : Entry) → has_entry n q ≡ or_some (puts seed d q) (entering (docs d)) (b q)) → AreEntriesOf seed n d
-built seed d n b is x c p at has = by_doc (At x (docs d)) refl where
-  by_doc : (o : Option Tree) → At x (docs d) ≡ o → has_entry n (entry c p) ≡ true
-  by_doc None h = absurd (no_codes seed c (At x (docs d)) h has)
+built seed d n b is x c p at has = by_doc (standing x (docs d)) refl where
+  by_doc : (o : Option Tree) → standing x (docs d) ≡ o → has_entry n (entry c p) ≡ true
+  by_doc None h = absurd (no_codes seed c (standing x (docs d)) h has)
   by_doc (Some t) h =
       is (entry c p)
       ∙ passed (puts seed d (entry c p)) x (None, Some t) (entering (docs d)) _ (find_entering x (docs d) t h) (puts_it seed d x c p (None, Some t) at (sym (ap (λ (y : Option Tree). is_among c (side_codes seed y)) h) ∙ has) refl)
@@ -229,7 +229,7 @@ built seed d n b is x c p at has = by_doc (At x (docs d)) refl where
 -- the entries of a store are those of one with the same documents at the same places
 pub refitted : (seed : Seed) (was now : Docs) (m : BTreeSet Entry) → ArePlacesSteady was now → docs now ≡ docs was → AreEntriesOf seed m was → AreEntriesOf seed m now
 refitted seed was now m steady same old x c p at has =
-    let had : is_among c (side_codes seed (At x (docs was))) ≡ true = sym (ap (λ (ds : List Tree). is_among c (side_codes seed (At x ds))) same) ∙ has in
+    let had : is_among c (side_codes seed (standing x (docs was))) ≡ true = sym (ap (λ (ds : List Tree). is_among c (side_codes seed (standing x ds))) same) ∙ has in
     old x c p (stays seed was now x c p steady at had) had
 
 -- what both sides have is left out

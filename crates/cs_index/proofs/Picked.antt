@@ -15,17 +15,17 @@ use Rattle.std.specs.declared.ops.Bound.TheVariants.{Included}
 use Rattle.std.proofs.Math.Bool.{and-false}
 use Rattle.cs_value.specs.Tree.{Tree}
 use Rattle.cs_view.specs.Document.{id_of, passes}
-use Rattle.cs_view.specs.Dataset.{id_cmp, same_id, At, kept_if}
+use Rattle.cs_view.specs.Dataset.{id_cmp, same_id, standing, kept_if}
 use Rattle.cs_view.specs.Keys.{has, has_all, selected}
 use Rattle.cs_view.specs.declared.key.Key.{Key}
 use Rattle.cs_view.specs.declared.key.Key.TheVariants.{Id}
-use Rattle.cs_view.proofs.Datasets.{same_id-same, same_id-refl, same_id-sym, same_docs, ascending-filter, At-filter}
+use Rattle.cs_view.proofs.Datasets.{same_id-same, same_id-refl, same_id-sym, same_docs, ascending-filter, standing-filter}
 use Rattle.cs_shelf.specs.Places.{Store, found, tree_at, trees_at}
 use Rattle.cs_shelf.proofs.Standing.{Entry as PlaceEntry, AreSound, at-documents, sound_entries, at-trees, ascending-trees, some-trees, ascending-documents}
 use Rattle.cs_docs.specs.Store.{docs, place_at, doc_at}
 use Rattle.cs_docs.specs.declared.docs.Docs.{Docs}
-use Rattle.cs_codes.specs.Codes.{Seed, is_among, key_code}
-use Rattle.cs_index.specs.Entries.{entry_cmp, same_entry, entry, has_entry, AreEntriesOf, side_codes}
+use Rattle.cs_codes.specs.Codes.{Seed, is_among, key_code, side_codes}
+use Rattle.cs_index.specs.Entries.{entry_cmp, same_entry, entry, has_entry, AreEntriesOf}
 use Rattle.cs_codes.specs.Kept.{IsKept}
 use Rattle.cs_index.specs.Picking.{Hits, IsImplied, where_has, wanted, is_hit, is_found, is_found_at, is_found_among, under}
 use Rattle.cs_index.specs.declared.entry.Entry.{Entry}
@@ -158,7 +158,7 @@ pub has_codes : (seed : Seed) (k : Key) (o : Option Tree) → IsKept k → passe
 has_codes seed k None kept h = absurd (true≢false (sym h))
 has_codes seed k (Some t) kept h = listed seed k t kept h
 
-found_doc : (d : Docs) (y : List ℕ) (p : ℕ) → place_at d y ≡ Some p → At y (docs d) ≡ doc_at d p
+found_doc : (d : Docs) (y : List ℕ) (p : ℕ) → place_at d y ≡ Some p → standing y (docs d) ≡ doc_at d p
 found_doc d y p h = at-documents d.shelf y ∙ ap (found d.shelf.store) h
 
 implied : (k : Key) (ks : List Key) (o : Option Tree) → IsImplied k ks → passes (has_all ks) o ≡ true → passes (has k) o ≡ true
@@ -197,7 +197,7 @@ picked d ks es ordered is =
     let sound : AreSound s es = sound_entries s es ordered (λ x p h. d.shelf.sound x p (wanted_place d ks x p (sym (is x) ∙ h)).0) in
     second s es ∙ some-trees s es sound
     ∙ ap (map Some) (same_docs (trees_at s es) (selected ks (docs d)) (ascending-trees s es sound ordered) (ascending-filter (has_all ks) (docs d) (ascending-documents d.shelf))
-    (λ q. at-trees s es sound q ∙ ap (found s) (is q) ∙ kept_there d ks (place_at d q) ∙ sym (ap (kept_if (has_all ks)) (at-documents d.shelf q)) ∙ sym (At-filter (has_all ks) q (docs d) (ascending-documents d.shelf))))
+    (λ q. at-trees s es sound q ∙ ap (found s) (is q) ∙ kept_there d ks (place_at d q) ∙ sym (ap (kept_if (has_all ks)) (at-documents d.shelf q)) ∙ sym (standing-filter (has_all ks) q (docs d) (ascending-documents d.shelf))))
 
 -- where an id is one of the keys, no other document is wanted
 pub one_id : (d : Docs) (ks : List Key) (i y : List ℕ) → IsImplied (Id i) ks → (is_found d ks i y || false) ≡ is_some (wanted d ks y)

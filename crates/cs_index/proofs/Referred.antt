@@ -6,19 +6,20 @@ use Rattle.std.specs.List.{filter, list_any, AllByRecursion}
 use Rattle.std.specs.declared.ops.Bound.TheVariants.{Included}
 use Rattle.cs_value.specs.Tree.{Tree}
 use Rattle.cs_view.specs.Document.{id_of}
-use Rattle.cs_view.specs.Dataset.{same_id, At, kept_if}
+use Rattle.cs_view.specs.Dataset.{same_id, standing, kept_if}
 use Rattle.cs_view.specs.Keys.{has_ref}
 use Rattle.cs_view.specs.declared.key.Key.TheVariants.{Ref}
 use Rattle.cs_view.proofs.Datasets.{same_id-refl}
 use Rattle.cs_shelf.specs.Places.{found}
-use Rattle.cs_shelf.specs.Referring.{next_referrer, above, first_of}
+use Rattle.cs_shelf.specs.Referring.{next_referrer, above}
+use Rattle.cs_value.specs.Words.{first_of}
 use Rattle.cs_shelf.proofs.Standing.{at-documents, ascending-documents}
 use Rattle.cs_docs.specs.Store.{docs, place_at, doc_at}
 use Rattle.cs_docs.specs.Suspects.{lesser}
 use Rattle.cs_docs.specs.declared.docs.Docs.{Docs}
 use Rattle.cs_docs.proofs.Filters.{keep, first_at, first_lesser, filter_same, members}
-use Rattle.cs_codes.specs.Codes.{Seed, ref_code, is_among}
-use Rattle.cs_index.specs.Entries.{entry_cmp, entry, AreEntriesOf, side_codes}
+use Rattle.cs_codes.specs.Codes.{Seed, ref_code, is_among, side_codes}
+use Rattle.cs_index.specs.Entries.{entry_cmp, entry, AreEntriesOf}
 use Rattle.cs_index.specs.Picking.{under}
 use Rattle.cs_index.specs.Referring.{refers, referrer_at, least}
 use Rattle.cs_index.specs.declared.entry.Entry.{Entry}
@@ -49,7 +50,7 @@ keep_kept f None = refl
 keep_kept f (Some u) = refl
 
 -- a document that stands at a place is the one with its id
-stands : (d : Docs) (p : ℕ) (t : Tree) → doc_at d p ≡ Some t → At (id_of t) (docs d) ≡ Some t
+stands : (d : Docs) (p : ℕ) (t : Tree) → doc_at d p ≡ Some t → standing (id_of t) (docs d) ≡ Some t
 stands d p t h =
     at-documents d.shelf (id_of t) ∙ (ap (found d.shelf.store) (d.shelf.entered p t h) ∙ h)
 
@@ -64,7 +65,7 @@ one_place d target low p = by_doc (doc_at d p) refl where
   by_doc None h = sym (none_among f (docs d))
   by_doc (Some t) h =
       sym (ap (kept_if f) (stands d p t h))
-      ∙ (keep_kept f (At (id_of t) (docs d)) ∙ sym (first_at f (id_of t) (docs d) (ascending-documents d.shelf)))
+      ∙ (keep_kept f (standing (id_of t) (docs d)) ∙ sym (first_at f (id_of t) (docs d) (ascending-documents d.shelf)))
 
 regroup : (f q r : Tree → Bool) (es : Tree → Bool) (ds : List Tree)
     → filter (λ u. f u && ((q u || r u) || es u)) ds ≡ filter (λ u. f u && (q u || (r u || es u))) ds
@@ -117,7 +118,7 @@ is_doc (Some t) = true
 
 module _ (seed : Seed) (d : Docs) (m : BTreeSet Entry) (target : List ℕ) (are : AreEntriesOf seed m d) where
   -- each document that has the reference is found under its code
-  covered : (u : Tree) → At (id_of u) (docs d) ≡ Some u → has_ref target u ≡ true → is_found d (under m (ref_code seed target)) u ≡ true
+  covered : (u : Tree) → standing (id_of u) (docs d) ≡ Some u → has_ref target u ≡ true → is_found d (under m (ref_code seed target)) u ≡ true
   covered u at h = by_place (place_at d (id_of u)) refl where
     c : ℕ
     c = ref_code seed target
@@ -134,7 +135,7 @@ module _ (seed : Seed) (d : Docs) (m : BTreeSet Entry) (target : List ℕ) (are 
         (inside_low (ref_code seed target) p ∙ inside_all p (d.shelf.low (id_of u) p g)) m.keys
         (are (id_of u) (ref_code seed target) p g (ap (λ (o : Option Tree). is_among (ref_code seed target) (side_codes seed o)) at ∙ has_codes seed (Ref target) (Some u) tt h)))
 
-  all_covered : (low : Option (List ℕ)) (us : List Tree) → AllByRecursion (λ u. At (id_of u) (docs d) ≡ Some u) us
+  all_covered : (low : Option (List ℕ)) (us : List Tree) → AllByRecursion (λ u. standing (id_of u) (docs d) ≡ Some u) us
       → AllByRecursion (λ u. (refers target low u && (false || is_found d (under m (ref_code seed target)) u)) ≡ refers target low u) us
   all_covered low [] h = tt
   all_covered low (u ∷ us) h = (one (has_ref target u) refl (above low (id_of u)), all_covered low us h.1) where

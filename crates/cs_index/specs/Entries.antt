@@ -7,10 +7,10 @@ use Rattle.std.specs.BTreeSet.{BTreeSet, contains}
 use Rattle.std.specs.List.{list_any}
 use Rattle.cs_value.specs.Tree.{Tree}
 use Rattle.cs_view.specs.Changes.{Edit}
-use Rattle.cs_view.specs.Dataset.{At}
+use Rattle.cs_view.specs.Dataset.{standing}
 use Rattle.cs_docs.specs.Store.{docs, place_at}
 use Rattle.cs_docs.specs.declared.docs.Docs.{Docs}
-use Rattle.cs_codes.specs.Codes.{Seed, codes, is_among}
+use Rattle.cs_codes.specs.Codes.{Seed, is_among, side_codes}
 use Rattle.cs_index.specs.declared.entry.Entry.{Entry}
 use Rattle.cs_index.specs.contracts.entry.EntryOrd.TheImpl as entry_order
 
@@ -29,16 +29,11 @@ has_entry m q = contains entry_cmp m q
 abbrev pub is_in : Entry → List Entry → Bool
 is_in q es = list_any (λ e. same_entry e q) es
 
--- the codes of what stands on a side of a change
-abbrev pub side_codes : Seed → Option Tree → List ℕ
-side_codes seed None = []
-side_codes seed (Some d) = codes seed d
-
 -- under each code of a document of the store stands the document's place
 abbrev pub AreEntriesOf : Seed → BTreeSet Entry → Docs → Type 0
 AreEntriesOf seed m d =
     (x : List ℕ) (c p : ℕ) → place_at d x ≡ Some p
-    → is_among c (side_codes seed (At x (docs d))) ≡ true → has_entry m (entry c p) ≡ true
+    → is_among c (side_codes seed (standing x (docs d))) ≡ true → has_entry m (entry c p) ≡ true
 
 -- the entry is that of the place and of one of the codes that are not left out
 abbrev pub is_put : (ℕ → Bool) → ℕ → List ℕ → Entry → Bool

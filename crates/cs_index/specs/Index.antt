@@ -1,7 +1,7 @@
 -- What it means that an index is that of a store, and how changes of the store lead from one index
 -- to the other.
 use Rattle.std.specs.Prelude.{◌≡◌, ℕ, List, true, false, cond, map, Some}
-use Rattle.cs_view.specs.Changes.{Edit, are_changes, LeadFrom, After}
+use Rattle.cs_view.specs.Changes.{Edit, are_changes, LeadFrom, after_changes}
 use Rattle.cs_view.specs.Keys.{selected}
 use Rattle.cs_view.specs.declared.key.Key.{Key}
 use Rattle.cs_docs.specs.Store.{docs, doc_at, ArePlacesSteady}
@@ -33,7 +33,7 @@ AreApplied old new d cs delta =
 pub record LeadsOn (was now : Docs) (cs : List Edit) : Type 0 where
   pub changes : are_changes cs ≡ true
   pub leads : LeadFrom (docs was) cs
-  pub after : docs now ≡ After (docs was) cs
+  pub after : docs now ≡ after_changes (docs was) cs
   pub steady : ArePlacesSteady was now
 
 -- the index of a store before the changes becomes that of the store after them

@@ -1,12 +1,11 @@
 -- What a look-up picks. For private clauses.
 use denote.Ref.{Bor}
-use Rattle.std.specs.Prelude.{◌≡◌, ℕ, Bool, true, cond, ◌&&◌, ◌||◌, List, [], ◌∷◌, Option, Some, None}
+use Rattle.std.specs.Prelude.{◌≡◌, ℕ, Bool, true, cond, ◌&&◌, ◌||◌, List, Option, Some, None}
 use Rattle.std.specs.List.{All, list_any}
 use Rattle.std.specs.Option.{is_some}
 use Rattle.std.specs.BTreeSet.{BTreeSet, keys_between}
 use Rattle.std.specs.declared.ops.Bound.TheVariants.{Included}
 use Rattle.cs_value.specs.Tree.{Tree}
-use Rattle.cs_view.specs.Changes.{Edit}
 use Rattle.cs_view.specs.Dataset.{same_id}
 use Rattle.cs_view.specs.Document.{passes, id_of}
 use Rattle.cs_view.specs.Keys.{has, has_all}
@@ -16,11 +15,6 @@ use Rattle.cs_docs.specs.declared.docs.Docs.{Docs}
 use Rattle.cs_index.specs.Entries.{entry, entry_cmp}
 use Rattle.cs_index.specs.Index.{ArePlacesOf}
 use Rattle.cs_index.specs.declared.entry.Entry.{Entry}
-
--- the changes that put documents where none stand
-abbrev pub entering : List Tree → List Edit
-entering [] = []
-entering (t ∷ ts) = (id_of t, (None, Some t)) ∷ entering ts
 
 -- a document that has each of the keys has this one
 abbrev pub IsImplied : Key → List Key → Type 0

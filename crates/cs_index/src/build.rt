@@ -1,11 +1,11 @@
 //! The entries of all documents of a store.
 ghost use Rattle.std.specs.Prelude.{◌≡◌, false, IfOk, OnOk};
 ghost use Rattle.std.specs.BTreeSet.{IsFromIterResult};
-ghost use Rattle.cs_view.specs.View.{doc as document};
+ghost use Rattle.cs_view.specs.View.{document_of};
 ghost use Rattle.cs_docs.specs.Store.{docs as dataset};
-ghost use Rattle.cs_codes.specs.Codes.{codes};
+ghost use Rattle.cs_codes.specs.Codes.{key_codes};
 ghost use Rattle.cs_index.specs.Entries.{entry, entry_cmp, same_entry, has_entry, is_in, is_put, puts, or_some, Collect};
-ghost use Rattle.cs_index.specs.Picking.{entering};
+ghost use Rattle.cs_docs.specs.Gathered.{entering};
 ghost use Rattle.cs_index.specs.declared.entry.Entry.{Entry};
 
 use crate::entry::Entry;
@@ -47,7 +47,7 @@ fn list_doc(
     place: u32,
 ) -> Result<(), NoMemory>
     ensures { OnOk result (Collect
-        (is_put (λ x. false) place (codes seed.now (document doc.now)))
+        (is_put (λ x. false) place (key_codes seed.now (document_of doc.now)))
         entries.old.items entries.new.items) }
 {
     room.clear();

@@ -1,6 +1,6 @@
 //! Changes put into a store and its index.
 ghost use Rattle.std.specs.Prelude.{◌≡◌, OnOk, IfErr};
-ghost use Rattle.cs_view.specs.Changes.{After};
+ghost use Rattle.cs_view.specs.Changes.{after_changes};
 ghost use Rattle.cs_docs.specs.Verdict.{AreTaken};
 ghost use Rattle.cs_docs.specs.Store.{docs as dataset, prepared as changes_of};
 ghost use Rattle.cs_index.specs.Index.{IsIndexOf};
@@ -24,10 +24,10 @@ pub fn install(docs: &mut Docs, index: &mut Index, prepared: &Prepared) -> Resul
     requires taken { AreTaken (dataset docs.old) (changes_of prepared.now) }
     requires fits { IsIndexOf index.old docs.old }
     ensures installed { OnOk result
-        (dataset docs.new ≡ After (dataset docs.old) (changes_of prepared.now)) }
+        (dataset docs.new ≡ after_changes (dataset docs.old) (changes_of prepared.now)) }
     ensures fits { OnOk result (IsIndexOf index.new docs.new) }
     ensures changed { IfErr result (λ e. e ≡ Spent
-        → dataset docs.new ≡ After (dataset docs.old) (changes_of prepared.now)) }
+        → dataset docs.new ≡ after_changes (dataset docs.old) (changes_of prepared.now)) }
     ensures kept { IfErr result (λ e. e ≡ Unchanged → dataset docs.new ≡ dataset docs.old) }
     ensures fits_still { IfErr result (λ e. e ≡ Unchanged → IsIndexOf index.new docs.new) }
 {

@@ -2,9 +2,9 @@
 //! are installed: the codes of each side are then taken once.
 ghost use Rattle.std.specs.Prelude.{◌≡◌, ℕ, Some, false, not, ◌&&◌, option_map, IfOk, OnOk};
 ghost use Rattle.std.specs.List.Sorted.{IsNonDecreasing};
-ghost use Rattle.cs_view.specs.View.{doc as document, edit, edits};
-ghost use Rattle.cs_codes.specs.Codes.{codes, is_among};
-ghost use Rattle.cs_index.specs.Entries.{entry, same_entry, is_in, is_put, is_apart, side_codes, parts, gains, or_some, Collect};
+ghost use Rattle.cs_view.specs.View.{document_of, edit, edits};
+ghost use Rattle.cs_codes.specs.Codes.{key_codes, is_among, side_codes};
+ghost use Rattle.cs_index.specs.Entries.{entry, same_entry, is_in, is_put, is_apart, parts, gains, or_some, Collect};
 ghost use Rattle.cs_index.specs.declared.entry.Entry.{Entry};
 
 use crate::entry::Entry;
@@ -26,7 +26,7 @@ pub struct Delta {
 // The codes of a document in ascending order.
 fn sorted_codes(alloc: Global, seed: &RandomState, doc: &Doc) -> Result<Vec<u64>, NoMemory>
     ensures among { IfOk result (λ cs. (x : ℕ) → is_among x cs.items
-        ≡ is_among x (codes seed.now (document doc.now))) }
+        ≡ is_among x (key_codes seed.now (document_of doc.now))) }
     ensures ascending { IfOk result (λ cs. IsNonDecreasing cs.items) }
 {
     let mut codes = codes_of(alloc, seed, doc)?;
@@ -37,7 +37,7 @@ fn sorted_codes(alloc: Global, seed: &RandomState, doc: &Doc) -> Result<Vec<u64>
 // The codes of what stands on a side of a change in ascending order.
 fn side_codes(alloc: Global, seed: &RandomState, side: &Option<Doc>) -> Result<Vec<u64>, NoMemory>
     ensures among { IfOk result (λ cs. (x : ℕ) → is_among x cs.items
-        ≡ is_among x (side_codes seed.now (option_map document side.now))) }
+        ≡ is_among x (side_codes seed.now (option_map document_of side.now))) }
     ensures ascending { IfOk result (λ cs. IsNonDecreasing cs.items) }
 {
     match side {
@@ -94,10 +94,12 @@ impl Delta {
         place: u32,
     ) -> Result<(), NoMemory>
         ensures lost { OnOk result (Collect
-            (is_apart seed.now (option_map document after.now) (Some (document before.now)) place)
+            (is_apart seed.now (option_map document_of after.now)
+            (Some (document_of before.now)) place)
             self.old.lost.items self.new.lost.items) }
         ensures gained { OnOk result (Collect
-            (is_apart seed.now (Some (document before.now)) (option_map document after.now) place)
+            (is_apart seed.now (Some (document_of before.now))
+            (option_map document_of after.now) place)
             self.old.gained.items self.new.gained.items) }
     {
         let had = sorted_codes(alloc, seed, before)?;

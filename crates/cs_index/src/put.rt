@@ -1,7 +1,7 @@
 //! Entries put among others, and taken out.
 ghost use Rattle.std.specs.Prelude.{false, OnOk};
-ghost use Rattle.cs_view.specs.View.{doc as document, edit, edits};
-ghost use Rattle.cs_codes.specs.Codes.{codes};
+ghost use Rattle.cs_view.specs.View.{document_of, edit, edits};
+ghost use Rattle.cs_codes.specs.Codes.{key_codes};
 ghost use Rattle.cs_index.specs.Entries.{same_entry, is_in, is_put, enters, Gain, Lose, EnterAll};
 
 use crate::entry::Entry;
@@ -59,7 +59,8 @@ fn put_at(
     doc: &Doc,
     place: u32,
 ) -> Result<(), NoMemory>
-    ensures { OnOk result (Gain (is_put (λ x. false) place (codes seed.now (document doc.now)))
+    ensures { OnOk result (Gain
+        (is_put (λ x. false) place (key_codes seed.now (document_of doc.now)))
         entries.old entries.new) }
 {
     let codes = codes_of(alloc, seed, doc)?;

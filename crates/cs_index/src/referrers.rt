@@ -1,6 +1,6 @@
 //! The next document that refers to an id, found under the code of the reference.
 ghost use Rattle.std.specs.Prelude.{◌≡◌, ◌&&◌, None, option_map};
-ghost use Rattle.cs_view.specs.View.{doc as document};
+ghost use Rattle.cs_view.specs.View.{document_of};
 ghost use Rattle.cs_shelf.specs.Referring.{above};
 ghost use Rattle.cs_docs.specs.Suspects.{lesser};
 ghost use Rattle.cs_index.specs.Picking.{under};
@@ -8,22 +8,14 @@ ghost use Rattle.cs_index.specs.Referring.{referrer_at, is_below, least};
 
 use crate::entry::Entry;
 use cs_docs::Docs;
+use cs_shelf::is_above;
 use cs_value::Txt;
 use cs_view::{Doc, has_ref};
 use std::cmp::Ordering;
 use std::collections::BTreeSet;
 
-fn is_above(low: Option<&Txt>, id: &Txt) -> bool
-    ensures { result ≡ above (option_map (λ i. i.now) low.entry) id.now }
-{
-    match low {
-        Some(low) => low.as_str().cmp(id.as_str()) == Ordering::Less,
-        None => true,
-    }
-}
-
 fn is_below(id: &Txt, high: Option<&Doc>) -> bool
-    ensures { result ≡ is_below id.now (option_map (λ d. document d.now) high.entry) }
+    ensures { result ≡ is_below id.now (option_map (λ d. document_of d.now) high.entry) }
 {
     match high {
         Some(doc) => id.as_str().cmp(doc.id().as_str()) == Ordering::Less,
@@ -33,7 +25,7 @@ fn is_below(id: &Txt, high: Option<&Doc>) -> bool
 
 fn is_between(low: Option<&Txt>, id: &Txt, high: Option<&Doc>) -> bool
     ensures { result ≡ (above (option_map (λ i. i.now) low.entry) id.now
-        && is_below id.now (option_map (λ d. document d.now) high.entry)) }
+        && is_below id.now (option_map (λ d. document_of d.now) high.entry)) }
 {
     is_above(low, id) && is_below(id, high)
 }
@@ -48,8 +40,8 @@ fn nearer_at<'d>(
     place: u32,
     least: Option<&'d Doc>,
 ) -> Option<&'d Doc>
-    ensures { option_map (λ d. document d.now) result
-        ≡ lesser (option_map (λ d. document d.now) least.entry)
+    ensures { option_map (λ d. document_of d.now) result
+        ≡ lesser (option_map (λ d. document_of d.now) least.entry)
         (referrer_at docs.now target.now (option_map (λ i. i.now) low.entry) place) }
 {
     match docs.found(place) {
@@ -69,7 +61,7 @@ pub(crate) fn next_under<'d>(
     target: &Txt,
     low: Option<&Txt>,
 ) -> Option<&'d Doc>
-    ensures { option_map (λ d. document d.now) result
+    ensures { option_map (λ d. document_of d.now) result
         ≡ least docs.now target.now (option_map (λ i. i.now) low.entry)
         (under entries.now code) None }
 {

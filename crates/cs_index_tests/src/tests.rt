@@ -1,6 +1,6 @@
 //! An index as it is built, and as it follows commits, on three documents.
 ghost use Rattle.std.specs.Prelude.{◌≡◌, ◌<◌, [], ◌∷◌, IfOk, OnOk};
-ghost use Rattle.cs_view.specs.View.{edits};
+ghost use Rattle.cs_view.specs.View.{document_of, edits};
 ghost use Rattle.cs_docs.specs.Gathered.{entering};
 ghost use Rattle.cs_index.specs.Index.{IsIndexOf};
 
@@ -57,7 +57,7 @@ fn document<'x>(alloc: Global, id: &'x str, word: &'x str) -> Result<Doc, Fail> 
 
 // The changes that put one document.
 fn one_change(alloc: Global, document: Doc) -> Result<Vec<Change>, NoMemory>
-    ensures { IfOk result (λ cs. edits cs.items ≡ entering (document ∷ [])) }
+    ensures { IfOk result (λ cs. edits cs.items ≡ entering (document_of document ∷ [])) }
 {
     let mut changes = Vec::new(alloc);
     changes.push(Change {

@@ -15,10 +15,10 @@ use Rattle.cs_view.specs.declared.key.Key.TheVariants.{All, Id, Path, Elem, Ref}
 use Rattle.cs_view.proofs.Booleans.{and-left, and-right}
 use Rattle.cs_view.proofs.Changed.{OwnIds, own_ids}
 use Rattle.cs_view.proofs.Datasets.{same_id-same}
-use Rattle.cs_codes.specs.Codes.{Seed, codes, id_code, is_among, key_code}
+use Rattle.cs_codes.specs.Codes.{Seed, key_codes, id_code, is_among, key_code, side_codes}
 use Rattle.cs_codes.specs.Kept.{IsKept}
 use Rattle.cs_codes.specs.Laws.{KeysAreListed}
-use Rattle.cs_interest.specs.Interest.{are_few, interest_code, has_pair, has_some, side_codes, concerned, is_asked}
+use Rattle.cs_interest.specs.Interest.{are_few, interest_code, has_pair, has_some, concerned, is_asked}
 use Rattle.cs_interest.specs.Laws.{TouchedIsAsked}
 use Rattle.cs_interest.specs.declared.interest.Interest.{Interest}
 use Rattle.cs_interest.specs.declared.pair.Pair.{Pair}
@@ -39,7 +39,7 @@ module _ (listed : KeysAreListed) (seed : Seed) (m : BTreeSet Pair) (n : ℕ) (e
   -- one of the two sides
   side_has : (k : Key) → IsKept k → has_pair m (key_code seed k) n ≡ true → (o : Option Tree) → passes (has k) o ≡ true → has_some m (side_codes seed o) n ≡ true
   side_has k kept g None h = absurd (true≢false (sym h))
-  side_has k kept g (Some d) h = some_has m (key_code seed k) n (codes seed d) (listed seed k d kept h) g
+  side_has k kept g (Some d) h = some_has m (key_code seed k) n (key_codes seed d) (listed seed k d kept h) g
 
   kept_concerns : (k : Key) → IsKept k → has_pair m (key_code seed k) n ≡ true → touches k e ≡ true → concerned seed m n e ≡ true
   kept_concerns k kept g h =

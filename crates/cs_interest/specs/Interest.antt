@@ -1,18 +1,17 @@
 -- Keys of interest: pairs, each the code of a key and a number, and which numbers changes concern:
 -- this project's profile.
-use Rattle.std.specs.Prelude.{◌≡◌, ◌≤◌, ℕ, Bool, true, false, cond, nat_lt, nat_le, ◌&&◌, ◌||◌, List, [], length, Option, Some, None}
+use Rattle.std.specs.Prelude.{◌≡◌, ◌≤◌, ℕ, Bool, true, false, cond, nat_lt, nat_le, ◌&&◌, ◌||◌, List, length}
 use Rattle.std.specs.declared.cmp.Ordering.{Ordering}
 use Rattle.std.specs.Bool.{nat_eq}
 use Rattle.std.specs.Ordering.{nat_cmp}
 use Rattle.std.specs.BTreeSet.{BTreeSet, contains}
 use Rattle.std.specs.List.{list_any}
 use Rattle.std.specs.List.Sorted.{IsStrictlySortedBy}
-use Rattle.cs_value.specs.Tree.{Tree}
 use Rattle.cs_view.specs.Changes.{Edit}
 use Rattle.cs_view.specs.Limits.{most_names}
 use Rattle.cs_view.specs.declared.key.Key.{Key}
 use Rattle.cs_view.specs.declared.key.Key.TheVariants.{All, Id, Path, Elem, Ref}
-use Rattle.cs_codes.specs.Codes.{Seed, codes, id_code, is_among, key_code}
+use Rattle.cs_codes.specs.Codes.{Seed, id_code, is_among, key_code, side_codes}
 use Rattle.cs_interest.specs.declared.pair.Pair.{Pair}
 use Rattle.cs_interest.specs.declared.interest.Interest.{Interest}
 use Rattle.cs_interest.specs.contracts.pair.PairOrd.TheImpl as pair_order
@@ -62,11 +61,6 @@ Left number cs old new =
     (c n : ℕ) → holds new c n ≡ cond (is_of number cs c n) false (holds old c n)
 
 -- ---- what is asked
--- the codes of what stands on a side of a change
-abbrev pub side_codes : Seed → Option Tree → List ℕ
-side_codes seed None = []
-side_codes seed (Some d) = codes seed d
-
 -- the number stands under one of the codes
 abbrev pub has_some : BTreeSet Pair → List ℕ → ℕ → Bool
 has_some m cs n = list_any (λ c. has_pair m c n) cs

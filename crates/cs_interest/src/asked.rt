@@ -3,8 +3,9 @@ ghost use Rattle.std.specs.Prelude.{◌≡◌, nat_eq, option_map, IfOk, OnOk};
 ghost use Rattle.std.specs.List.{list_any};
 ghost use Rattle.std.specs.List.Sorted.{IsStrictlySortedBy};
 ghost use Rattle.std.specs.Ordering.{nat_cmp};
-ghost use Rattle.cs_view.specs.View.{doc as document, edit, edits};
-ghost use Rattle.cs_interest.specs.Interest.{has_pair, has_some, concerned, side_codes, Adds};
+ghost use Rattle.cs_view.specs.View.{document_of, edit, edits};
+ghost use Rattle.cs_interest.specs.Interest.{has_pair, has_some, concerned, Adds};
+ghost use Rattle.cs_codes.specs.Codes.{side_codes};
 
 use crate::pair::Pair;
 use cs_codes::{codes_of, id_code};
@@ -67,7 +68,7 @@ fn put_side(
     asked: &mut BTreeSet<u64>,
 ) -> Result<(), NoMemory>
     ensures { OnOk result (Adds
-        (has_some pairs.now (side_codes seed.now (option_map document side.now)))
+        (has_some pairs.now (side_codes seed.now (option_map document_of side.now)))
         asked.old asked.new) }
 {
     let Some(doc) = side else {

@@ -1,4 +1,4 @@
-// Values read token by token, with nothing made in between.
+//! Values read token by token, with nothing made in between.
 ghost use Rattle.std.specs.Prelude.{◌≡◌, ◌<◌, List, length, slice_index, ◌==◌, IsTrue, Some, IfSome, OnSome, IsUtf8, FitsSigned, option_and_then};
 ghost use Rattle.std.specs.Int.{w64};
 ghost use Rattle.json.specs.Json.{value, items, members};

@@ -15,5 +15,5 @@ mod walk;
 
 pub use laws::{a_text_spells_at_most_one_path, each_text_is_read, reading_is_verdict};
 pub use path::{Comparison, Item, Items, JsonPath, Step, Test};
-pub use places::{Part, Place};
+pub use places::{Part, Place, copy_parts};
 pub use read::PathFault;

@@ -8,25 +8,10 @@ ghost use Rattle.cs_jsonmatch.specs.View.{path_of, path, part_of, locations};
 ghost use Rattle.cs_jsonmatch.specs.Walk.{next as next_waiting, reached};
 
 use crate::path::{JsonPath, Step};
-use crate::places::{Key, Part, Place};
+use crate::places::{Key, Part, Place, copy_parts};
 use crate::select::step_selects;
 use cs_value::{Fields, NoMemory, Txt, Val};
 use std::alloc::Global;
-
-fn copy_parts(alloc: Global, parts: &[Part]) -> Result<Vec<Part>, NoMemory>
-    ensures { IfOk result (λ copies. copies.items ≡ parts.now) }
-{
-    let Ok(mut copies) = Vec::with_capacity(alloc, parts.len()) else {
-        return Err(NoMemory);
-    };
-    for part in parts {
-        match part {
-            Part::Name(name) => copies.push(Part::Name(name.copy(alloc)?))?,
-            Part::Pos(place) => copies.push(Part::Pos(*place))?,
-        }
-    }
-    Ok(copies)
-}
 
 // Whether a rest of the path waits below a part.
 fn some_wait_below(steps: &[Step], waiting: &[bool], count: usize, key: Key<'_>, val: &Val) -> bool

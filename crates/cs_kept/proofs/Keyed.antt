@@ -19,7 +19,7 @@ use Rattle.cs_view.specs.Keys.{has}
 use Rattle.cs_view.specs.Touched.{touches, is_touched, touched}
 use Rattle.cs_view.specs.declared.key.Key.{Key}
 use Rattle.cs_view.specs.declared.key.Key.TheVariants.{Id}
-use Rattle.cs_view.specs.View.{doc, edit, edits}
+use Rattle.cs_view.specs.View.{document_of, edit, edits}
 use Rattle.cs_view.specs.declared.change.Change.{Change}
 use Rattle.cs_view.specs.declared.doc.Doc.{Doc}
 use Rattle.cs_view.proofs.Changed.{OwnIds}
@@ -190,7 +190,7 @@ copied : {V : Type 0} (o : Option (Bor V)) → is_some o ≡ is_some (option_cop
 copied None = refl
 copied (Some v) = refl
 
-shown : (o : Option Doc) → is_some o ≡ is_some (option_map doc o)
+shown : (o : Option Doc) → is_some o ≡ is_some (option_map document_of o)
 shown None = refl
 shown (Some d) = refl
 

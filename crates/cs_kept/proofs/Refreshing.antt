@@ -3,14 +3,14 @@ use Rattle.std.proofs.Common.{◌≡◌, List, true, sym, ap, ◌∙◌, subst}
 use Rattle.std.specs.Prelude.{IsTrue}
 use Rattle.cs_value.specs.Tree.{Tree}
 use Rattle.cs_value.specs.View.{fields}
-use Rattle.cs_syntax.specs.Queries.{query}
-use Rattle.cs_view.specs.Changes.{Edit, are_changes, LeadTo, Before, After, changes_where}
+use Rattle.cs_syntax.specs.Queries.{expression_of}
+use Rattle.cs_view.specs.Changes.{Edit, are_changes, LeadTo, before_changes, after_changes, changes_where}
 use Rattle.cs_view.specs.Dataset.{ascending}
 use Rattle.cs_view.specs.Laws.{ChangesLeadBackAndOn, FilterFollowsChanges}
 use Rattle.cs_meaning.specs.Laws.{SimpleIsTailOfHits}
 use Rattle.cs_meaning.specs.Hits.{hits, tail}
 use Rattle.cs_plan.specs.Simple.{is_simple}
-use Rattle.cs_view.proofs.Changed.{ascending-Before}
+use Rattle.cs_view.proofs.Changed.{ascending-before_changes}
 use Rattle.cs_hits.specs.Hits.{NoneIsNew}
 use Rattle.cs_hits.proofs.Brought.{hits-after, hits-ascend}
 use Rattle.cs_hits.proofs.Newly.{none-is-new}
@@ -23,21 +23,21 @@ pub asks-on : (old cur new : Rows) → AsksTheSame old cur → AsksTheSame cur n
 asks-on old cur new a b = record { query = b.query ∙ a.query; params = b.params ∙ a.params; codes = b.codes ∙ a.codes }
 
 -- rows that fit the dataset before ascend
-pub rows-ascend : (docs : List Tree) (cs : List Edit) → ascending docs ≡ true → (r : Rows) → FitsRows (Before docs cs) r → ascending (rows r) ≡ true
-rows-ascend docs cs h r fits = hits-ascend docs cs h (query r.query) (fields r.params) (rows r) fits.rows
+pub rows-ascend : (docs : List Tree) (cs : List Edit) → ascending docs ≡ true → (r : Rows) → FitsRows (before_changes docs cs) r → ascending (rows r) ≡ true
+rows-ascend docs cs h r fits = hits-ascend docs cs h (expression_of r.query) (fields r.params) (rows r) fits.rows
 
 -- and none of them is new
-pub rows-new : (docs : List Tree) (cs : List Edit) → ascending docs ≡ true → are_changes cs ≡ true → LeadTo docs cs → ChangesLeadBackAndOn → (r : Rows) → FitsRows (Before docs cs) r → NoneIsNew cs (rows r)
+pub rows-new : (docs : List Tree) (cs : List Edit) → ascending docs ≡ true → are_changes cs ≡ true → LeadTo docs cs → ChangesLeadBackAndOn → (r : Rows) → FitsRows (before_changes docs cs) r → NoneIsNew cs (rows r)
 rows-new docs cs h changes leads back r fits =
-    subst (NoneIsNew cs) (sym fits.rows) (none-is-new (is_row r) (Before docs cs) (ascending-Before docs cs h) cs (back docs cs h changes leads).1)
+    subst (NoneIsNew cs) (sym fits.rows) (none-is-new (is_row r) (before_changes docs cs) (ascending-before_changes docs cs h) cs (back docs cs h changes leads).1)
 
 -- rows that were refreshed fit the dataset after
 pub rows-refreshed : SimpleIsTailOfHits → ChangesLeadBackAndOn → FilterFollowsChanges
     → (docs : List Tree) (cs : List Edit) → ascending docs ≡ true → are_changes cs ≡ true → LeadTo docs cs
-    → (old new : Rows) → FitsRows (Before docs cs) old → rows new ≡ After (rows old) (changes_where (is_row old) cs) → IsSettled new → AsksTheSame old new
+    → (old new : Rows) → FitsRows (before_changes docs cs) old → rows new ≡ after_changes (rows old) (changes_where (is_row old) cs) → IsSettled new → AsksTheSame old new
     → RefreshesKept docs cs (InRows old) (InRows new)
 rows-refreshed settles back follows docs cs h changes leads old new fits is settled asks =
-    let e = query old.query in let params = fields old.params in
+    let e = expression_of old.query in let params = fields old.params in
     let here : rows new ≡ hits e params docs = hits-after back follows docs cs h changes leads e params (rows old) (rows new) fits.rows is in
     record {
       answers = record {

@@ -5,10 +5,10 @@ use Rattle.cs_value.specs.Tree.{Tree, Pairs}
 use Rattle.cs_value.specs.View.{tree, fields}
 use Rattle.cs_value.specs.Words.{list_of}
 use Rattle.cs_syntax.specs.Expression.{Expression}
-use Rattle.cs_syntax.specs.Queries.{query}
-use Rattle.cs_view.specs.Changes.{Edit, are_changes, LeadTo, Before}
+use Rattle.cs_syntax.specs.Queries.{expression_of}
+use Rattle.cs_view.specs.Changes.{Edit, are_changes, LeadTo, before_changes}
 use Rattle.cs_view.specs.Dataset.{ascending}
-use Rattle.cs_view.specs.Keys.{Sel}
+use Rattle.cs_view.specs.Keys.{having}
 use Rattle.cs_view.specs.Laws.{ChangesLeadBackAndOn, FilterFollowsChanges, UntouchedSelectsTheSame}
 use Rattle.cs_view.specs.Touched.{is_touched, touched}
 use Rattle.cs_view.specs.declared.key.Key.{Key}
@@ -30,15 +30,15 @@ use Rattle.cs_kept.specs.declared.mapped.Mapped.{Mapped}
 module _ (docs : List Tree) (cs : List Edit) (sorted : ascending docs ≡ true) (changes : are_changes cs ≡ true) (leads : LeadTo docs cs)
     (untouched : UntouchedSelectsTheSame) (back : ChangesLeadBackAndOn) (looked : LookedSettlesShare) where
   abbrev before : List Tree
-  before = Before docs cs
+  before = before_changes docs cs
 
   -- a mapped query that no change touches is refreshed as it stands
   pub mapped-untouched : HitsHaveKey → MappedIsSharesOfHits → (m : Mapped) → touched (mapped_keys m) cs ≡ false → FitsShares before m → RefreshesKept docs cs (InShares m) (InShares m)
   mapped-untouched have law m quiet fits =
-      let e = query m.query in let params = fields m.params in
+      let e = expression_of m.query in let params = fields m.params in
       let key : Key = query_key e params in
       let own : Contains (mapped_keys m) key = subst (Contains (mapped_keys m)) fits.own (0, omega arith, refl) in
-      let sel : Sel key before ≡ Sel key docs = stays docs cs sorted changes leads untouched back (mapped_keys m) quiet key own in
+      let sel : having key before ≡ having key docs = stays docs cs sorted changes leads untouched back (mapped_keys m) quiet key own in
       let one : hits e params before ≡ hits e params docs = have e params before ∙ (ap (hits e params) sel ∙ sym (have e params docs)) in
       let here : share_docs m.shares.items ≡ hits e params docs = fits.hits ∙ one in
       let all : AreShares docs e params m.shares.items = all-still docs cs sorted changes leads untouched back looked e params m.shares.items (or-right (is_touched cs m.own) _ quiet) fits.shares in
@@ -54,12 +54,12 @@ module _ (docs : List Tree) (cs : List Edit) (sorted : ascending docs ≡ true) 
 
 -- ---- shares that were brought behind changes
 pub mapped-refreshed : MappedIsSharesOfHits → ChangesLeadBackAndOn → FilterFollowsChanges → (docs : List Tree) (cs : List Edit) → ascending docs ≡ true → are_changes cs ≡ true → LeadTo docs cs
-    → (old new : Mapped) → FitsShares (Before docs cs) old → query new.query ≡ query old.query → fields new.params ≡ fields old.params → new.own ≡ old.own
-    → SharesFollow docs cs (query old.query) (fields old.params) old.shares.items new.shares.items → tree new.last ≡ list_of (share_values new.shares.items)
+    → (old new : Mapped) → FitsShares (before_changes docs cs) old → expression_of new.query ≡ expression_of old.query → fields new.params ≡ fields old.params → new.own ≡ old.own
+    → SharesFollow docs cs (expression_of old.query) (fields old.params) old.shares.items new.shares.items → tree new.last ≡ list_of (share_values new.shares.items)
     → (touched (mapped_keys old) cs ≡ false → mapped_keys new ≡ mapped_keys old)
     → RefreshesKept docs cs (InShares old) (InShares new)
 mapped-refreshed law back follows docs cs sorted changes leads old new fits q p own follow is keeps =
-    let e = query old.query in let params = fields old.params in
+    let e = expression_of old.query in let params = fields old.params in
     let here : share_docs new.shares.items ≡ hits e params docs = hits-after back follows docs cs sorted changes leads e params (share_docs old.shares.items) (share_docs new.shares.items) fits.hits follow.hits in
     record {
       answers = record {

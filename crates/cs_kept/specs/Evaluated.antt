@@ -8,7 +8,7 @@ use Rattle.cs_meaning.specs.Values.{query_value}
 use Rattle.cs_codes.specs.Codes.{Seed, is_among}
 use Rattle.cs_kept.specs.Fits.{SameKeys}
 use Rattle.cs_kept.specs.Found.{has_code}
-use Rattle.cs_kept.specs.Keys.{keys_of}
+use Rattle.cs_kept.specs.Keys.{all_keys}
 use Rattle.cs_kept.specs.declared.evaluated.Evaluated.{Evaluated}
 
 -- the answer is the value over the dataset, the keys are those that finding it looks up, and no
@@ -16,5 +16,5 @@ use Rattle.cs_kept.specs.declared.evaluated.Evaluated.{Evaluated}
 pub record IsEvaluated (docs : List Tree) (e : Expression) (params : Pairs) (seed : Seed)
     (v : Evaluated) : Type 0 where
   pub answer : tree v.answer ≡ query_value docs params e
-  pub keys : SameKeys (keys_of v.keys) (query_looked docs params e)
-  pub coded : (c : ℕ) → is_among c v.keys.codes.items ≡ has_code seed c (keys_of v.keys)
+  pub keys : SameKeys (all_keys v.keys) (query_looked docs params e)
+  pub coded : (c : ℕ) → is_among c v.keys.codes.items ≡ has_code seed c (all_keys v.keys)

@@ -5,7 +5,7 @@ use Rattle.cs_value.specs.Tree.{Tree, Pairs}
 use Rattle.cs_value.specs.View.{tree, fields}
 use Rattle.cs_value.specs.Words.{list_of}
 use Rattle.cs_syntax.specs.Expression.{Expression}
-use Rattle.cs_syntax.specs.Queries.{query}
+use Rattle.cs_syntax.specs.Queries.{expression_of}
 use Rattle.cs_view.specs.Changes.{Edit}
 use Rattle.cs_view.specs.Touched.{touched}
 use Rattle.cs_view.specs.declared.key.Key.{Key}
@@ -16,11 +16,11 @@ use Rattle.cs_meaning.specs.Values.{query_value}
 use Rattle.cs_window.specs.Mapped.{is_mapped}
 use Rattle.cs_window.specs.Windowed.{is_windowed}
 use Rattle.cs_hits.specs.Behind.{AreBehind, AreEnoughBehind}
-use Rattle.cs_kept.specs.Keys.{keys_of, rest_of}
+use Rattle.cs_kept.specs.Keys.{all_keys, rest_of}
 use Rattle.cs_kept.specs.Rows.{rows as rows_of, IsSettled}
 use Rattle.cs_hits.specs.Shares.{AreShares, share_docs, share_values}
 use Rattle.cs_kept.specs.Mapped.{mapped_keys}
-use Rattle.cs_kept.specs.Kept.{expression_of, params_of, last_of}
+use Rattle.cs_kept.specs.Kept.{kept_expression, params_of, last_of}
 use Rattle.cs_kept.specs.declared.recorded.Recorded.{Recorded}
 use Rattle.cs_hits.specs.declared.behind.Behind.{Behind}
 use Rattle.cs_kept.specs.declared.kept.Kept.{Kept}
@@ -50,27 +50,28 @@ is_by_hits e = is_simple e || is_mapped e
 -- an answer that is kept by its record fits a dataset: its query is neither simple nor mapped, it
 -- is the value over the dataset, and the keys are those that finding it looks up, and no other
 pub record FitsRecord (docs : List Tree) (r : Recorded) : Type 0 where
-  pub compound : is_by_hits (query r.query) ≡ false
-  pub last : tree r.last ≡ query_value docs (fields r.params) (query r.query)
-  pub keys : SameKeys (keys_of r.keys) (query_looked docs (fields r.params) (query r.query))
+  pub compound : is_by_hits (expression_of r.query) ≡ false
+  pub last : tree r.last ≡ query_value docs (fields r.params) (expression_of r.query)
+  pub keys : SameKeys (all_keys r.keys) (query_looked docs (fields r.params)
+      (expression_of r.query))
   pub behind : IfSome r.behind
-      (FitsWindow docs (query r.query) (fields r.params) (rest_of r.keys))
+      (FitsWindow docs (expression_of r.query) (fields r.params) (rest_of r.keys))
 
 -- one that is kept in rows fits a dataset: the query is simple, the rows are its hits, and the
 -- answer is what its tail makes of them; rows that are kept near its window settle the answer
 pub record FitsRows (docs : List Tree) (r : Rows) : Type 0 where
-  pub simple : IsTrue (is_simple (query r.query))
-  pub rows : rows_of r ≡ hits (query r.query) (fields r.params) docs
+  pub simple : IsTrue (is_simple (expression_of r.query))
+  pub rows : rows_of r ≡ hits (expression_of r.query) (fields r.params) docs
   pub settled : IsSettled r
 
 -- one that is kept in shares fits a dataset: the query is mapped and not simple, the shares are
 -- those of its hits over the dataset, and the answer is their list
 pub record FitsShares (docs : List Tree) (m : Mapped) : Type 0 where
-  pub compound : is_simple (query m.query) ≡ false
-  pub mapped : IsTrue (is_mapped (query m.query))
-  pub own : m.own ≡ query_key (query m.query) (fields m.params)
-  pub hits : share_docs m.shares.items ≡ hits (query m.query) (fields m.params) docs
-  pub shares : AreShares docs (query m.query) (fields m.params) m.shares.items
+  pub compound : is_simple (expression_of m.query) ≡ false
+  pub mapped : IsTrue (is_mapped (expression_of m.query))
+  pub own : m.own ≡ query_key (expression_of m.query) (fields m.params)
+  pub hits : share_docs m.shares.items ≡ hits (expression_of m.query) (fields m.params) docs
+  pub shares : AreShares docs (expression_of m.query) (fields m.params) m.shares.items
   pub last : tree m.last ≡ list_of (share_values m.shares.items)
 
 abbrev pub FitsKept : List Tree → Kept → Type 0
@@ -80,14 +81,14 @@ FitsKept docs (InShares m) = FitsShares docs m
 
 -- nothing is asked after the changes: no change touches the keys, and rows never ask
 abbrev pub IsQuiet : List Edit → Kept → Type 0
-IsQuiet cs (ByRecord r) = touched (keys_of r.keys) cs ≡ false
+IsQuiet cs (ByRecord r) = touched (all_keys r.keys) cs ≡ false
 IsQuiet cs (InRows r) = ⊤
 IsQuiet cs (InShares m) = touched (mapped_keys m) cs ≡ false
 
 -- an answer is kept as it was, by its record, in rows or in shares, and untouched keys are kept
 abbrev pub KeepsRecord : List Edit → Kept → Kept → Type 0
 KeepsRecord cs (ByRecord a) (ByRecord b) =
-    touched (keys_of a.keys) cs ≡ false → keys_of b.keys ≡ keys_of a.keys
+    touched (all_keys a.keys) cs ≡ false → all_keys b.keys ≡ all_keys a.keys
 KeepsRecord cs (InRows a) (InRows b) = ⊤
 KeepsRecord cs (InShares a) (InShares b) =
     touched (mapped_keys a) cs ≡ false → mapped_keys b ≡ mapped_keys a
@@ -95,12 +96,12 @@ KeepsRecord cs _ _ = ⊥
 
 -- what is kept is the answer to this query with these parameters over a dataset, and fits it
 pub record Answers (docs : List Tree) (q : Expression) (ps : Pairs) (k : Kept) : Type 0 where
-  pub query : expression_of k ≡ q
+  pub query : kept_expression k ≡ q
   pub params : params_of k ≡ ps
   pub last : last_of k ≡ query_value docs ps q
   pub fits : FitsKept docs k
 
 -- what a commit does to how one answer is kept
 pub record RefreshesKept (docs : List Tree) (cs : List Edit) (old new : Kept) : Type 0 where
-  pub answers : Answers docs (expression_of old) (params_of old) new
+  pub answers : Answers docs (kept_expression old) (params_of old) new
   pub records : KeepsRecord cs old new

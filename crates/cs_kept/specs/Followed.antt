@@ -3,7 +3,7 @@ use Rattle.std.specs.Prelude.{◌≡◌, List, Option, Some, None, true, false, 
 use Rattle.cs_value.specs.Tree.{Tree, Pairs}
 use Rattle.cs_value.specs.View.{fields}
 use Rattle.cs_syntax.specs.Expression.{Expression}
-use Rattle.cs_syntax.specs.Queries.{query}
+use Rattle.cs_syntax.specs.Queries.{expression_of}
 use Rattle.cs_view.specs.Changes.{Edit}
 use Rattle.cs_view.specs.Dataset.{ascending}
 use Rattle.cs_view.specs.Touched.{touched}
@@ -22,7 +22,7 @@ pub record KeepsAnswer (old new : Recorded) : Type 0 where
 
 -- what they must be to be brought behind changes
 pub record CanFollow (r : Recorded) (b : Behind) : Type 0 where
-  pub filtered : is_filtered (query r.query) ≡ true
+  pub filtered : is_filtered (expression_of r.query) ≡ true
   pub sorted : ascending (held_docs b) ≡ true
 
 abbrev pub FollowedBy : List Edit → Expression → Pairs → Option Behind → Option Behind → Type 0
@@ -33,7 +33,8 @@ FollowedBy cs e params (Some a) (Some b) = Follows cs e params a b
 
 -- there are some as there were, and they were brought behind the changes
 abbrev pub Followed : List Edit → Recorded → Recorded → Type 0
-Followed cs old new = FollowedBy cs (query old.query) (fields old.params) old.behind new.behind
+Followed cs old new = FollowedBy cs (expression_of old.query)
+    (fields old.params) old.behind new.behind
 
 -- what settles an answer stays: the documents, and what was looked up behind the window
 pub record Stays (cs : List Edit) (r : Recorded) (old new : Behind) : Type 0 where
@@ -49,5 +50,5 @@ StaysSettled cs old new = StayBy cs old old.behind new.behind
 
 -- they are those of a windowed query in a dataset, of which its answer can be found
 pub record AreHeld (docs : List Tree) (r : Recorded) (b : Behind) : Type 0 where
-  pub windowed : is_windowed (query r.query) ≡ true
-  pub are : AreBehind docs (query r.query) (fields r.params) b
+  pub windowed : is_windowed (expression_of r.query) ≡ true
+  pub are : AreBehind docs (expression_of r.query) (fields r.params) b

@@ -6,14 +6,14 @@ use Rattle.std.specs.List.{list_any}
 use Rattle.cs_value.specs.Tree.{Pairs}
 use Rattle.cs_value.specs.View.{fields}
 use Rattle.cs_syntax.specs.Expression.{Expression}
-use Rattle.cs_syntax.specs.Queries.{query}
+use Rattle.cs_syntax.specs.Queries.{expression_of}
 use Rattle.cs_view.specs.declared.key.Key.{Key}
 use Rattle.cs_plan.specs.Simple.{query_keys}
 use Rattle.cs_codes.specs.Codes.{Seed, is_among}
 use Rattle.cs_interest.specs.Interest.{holds, interest_code}
 use Rattle.cs_interest.specs.Narrow.{narrowest}
 use Rattle.cs_interest.specs.declared.interest.Interest.{Interest}
-use Rattle.cs_kept.specs.Keys.{keys_of}
+use Rattle.cs_kept.specs.Keys.{all_keys}
 use Rattle.cs_kept.specs.Mapped.{mapped_keys}
 use Rattle.cs_kept.specs.declared.kept.Kept.{Kept}
 use Rattle.cs_kept.specs.declared.kept.Kept.TheVariants.{ByRecord, InRows, InShares}
@@ -25,8 +25,8 @@ hit_key e params = narrowest (query_keys e params)
 -- the keys whose documents an answer depends on: those of its record, that of the hits of its
 -- simple query, or those of its mapped one
 abbrev pub interests : Kept → List Key
-interests (ByRecord r) = keys_of r.keys
-interests (InRows r) = hit_key (query r.query) (fields r.params) ∷ []
+interests (ByRecord r) = all_keys r.keys
+interests (InRows r) = hit_key (expression_of r.query) (fields r.params) ∷ []
 interests (InShares m) = mapped_keys m
 
 -- the codes that are kept with it

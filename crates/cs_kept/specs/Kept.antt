@@ -2,14 +2,14 @@
 use Rattle.cs_value.specs.Tree.{Tree, Pairs}
 use Rattle.cs_value.specs.View.{tree, fields}
 use Rattle.cs_syntax.specs.Expression.{Expression}
-use Rattle.cs_syntax.specs.Queries.{query}
+use Rattle.cs_syntax.specs.Queries.{expression_of}
 use Rattle.cs_kept.specs.declared.kept.Kept.{Kept}
 use Rattle.cs_kept.specs.declared.kept.Kept.TheVariants.{ByRecord, InRows, InShares}
 
-abbrev pub expression_of : Kept → Expression
-expression_of (ByRecord r) = query r.query
-expression_of (InRows r) = query r.query
-expression_of (InShares m) = query m.query
+abbrev pub kept_expression : Kept → Expression
+kept_expression (ByRecord r) = expression_of r.query
+kept_expression (InRows r) = expression_of r.query
+kept_expression (InShares m) = expression_of m.query
 
 abbrev pub params_of : Kept → Pairs
 params_of (ByRecord r) = fields r.params

@@ -13,5 +13,5 @@ abbrev pub rest_of : Keys → List Key
 rest_of k = ids_of k ++ k.others
 
 -- all of them
-abbrev pub keys_of : Keys → List Key
-keys_of k = rest_of k ++ k.own
+abbrev pub all_keys : Keys → List Key
+all_keys k = rest_of k ++ k.own

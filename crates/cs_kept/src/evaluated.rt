@@ -1,7 +1,7 @@
 //! The value of a query that is not simple, with what finding it looked up.
 ghost use Rattle.std.specs.Prelude.{◌≡◌, true, IfOk};
 ghost use Rattle.cs_value.specs.View.{fields};
-ghost use Rattle.cs_syntax.specs.Queries.{query as expression_of};
+ghost use Rattle.cs_syntax.specs.Queries.{expression_of};
 ghost use Rattle.cs_window.specs.Windowed.{is_windowed};
 ghost use Rattle.cs_hits.specs.Behind.{AreBehind};
 ghost use Rattle.cs_kept.specs.Evaluated.{IsEvaluated};

@@ -2,8 +2,8 @@
 ghost use Rattle.std.specs.Prelude.{◌≡◌, ◌≤◌, ◌+◌, true, not, IfOk, OnOk};
 ghost use Rattle.cs_value.specs.Same.{same_tree};
 ghost use Rattle.cs_value.specs.View.{tree, fields};
-ghost use Rattle.cs_syntax.specs.Queries.{query as expression_of};
-ghost use Rattle.cs_view.specs.Changes.{are_changes, LeadTo, Before};
+ghost use Rattle.cs_syntax.specs.Queries.{expression_of};
+ghost use Rattle.cs_view.specs.Changes.{are_changes, LeadTo, before_changes};
 ghost use Rattle.cs_view.specs.View.{edits};
 ghost use Rattle.cs_plan.specs.Simple.{is_simple};
 ghost use Rattle.cs_meaning.specs.Hits.{cost};
@@ -98,7 +98,7 @@ impl Kept {
     ) -> Result<bool, NoMemory>
         requires changes { are_changes (edits changes.now) ≡ true }
         requires led { LeadTo (V.docs view.now) (edits changes.now) }
-        requires fits { FitsKept (Before (V.docs view.now) (edits changes.now)) self.old }
+        requires fits { FitsKept (before_changes (V.docs view.now) (edits changes.now)) self.old }
         requires found { IsFound interest.old number self.old }
         ensures refreshed { OnOk result
             (RefreshesKept (V.docs view.now) (edits changes.now) self.old self.new) }

@@ -6,7 +6,7 @@ ghost use Rattle.cs_view.specs.Touched.{touched, touches};
 ghost use Rattle.cs_view.specs.View.{edit, edits};
 ghost use Rattle.cs_interest.specs.Interest.{interest_code};
 ghost use Rattle.cs_kept.specs.Fits.{SameKeys};
-ghost use Rattle.cs_kept.specs.Keys.{ids_of, keys_of, rest_of};
+ghost use Rattle.cs_kept.specs.Keys.{ids_of, all_keys, rest_of};
 
 use cs_interest::interest_code;
 use cs_value::{NoMemory, OrderedMap};
@@ -28,7 +28,7 @@ pub(crate) struct Keys {
 impl Keys {
     /// The keys of the record.
     pub(crate) fn of(alloc: Global, seed: &RandomState, looked: Record) -> Result<Keys, NoMemory>
-        ensures keys { IfOk result (λ keys. SameKeys (keys_of keys) looked) }
+        ensures keys { IfOk result (λ keys. SameKeys (all_keys keys) looked) }
         ensures own { IfOk result (λ keys. keys.own ≡ []) }
         ensures codes { IfOk result
             (λ keys. keys.codes.items ≡ map (interest_code seed.now) looked) }
@@ -93,7 +93,7 @@ impl Keys {
     /// Whether some key is had by the document before or after some change. It takes no memory.
     pub(crate) fn touched(&self, changes: &[Change]) -> bool
         requires { are_changes (edits changes.now) ≡ true }
-        ensures { result ≡ touched (keys_of self.now) (edits changes.now) }
+        ensures { result ≡ touched (all_keys self.now) (edits changes.now) }
     {
         self.rest_touched(changes) || self.own.touched(changes)
     }

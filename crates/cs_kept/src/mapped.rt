@@ -3,8 +3,8 @@ ghost use Rattle.std.specs.Prelude.{◌≡◌, false, true, not, IfOk, OnOk};
 ghost use Rattle.cs_value.specs.Same.{same_tree};
 ghost use Rattle.cs_value.specs.View.{tree, fields};
 ghost use Rattle.cs_value.specs.Words.{list_of};
-ghost use Rattle.cs_syntax.specs.Queries.{query as expression_of};
-ghost use Rattle.cs_view.specs.Changes.{are_changes, LeadTo, Before};
+ghost use Rattle.cs_syntax.specs.Queries.{expression_of};
+ghost use Rattle.cs_view.specs.Changes.{are_changes, LeadTo, before_changes};
 ghost use Rattle.cs_view.specs.Dataset.{ascending};
 ghost use Rattle.cs_view.specs.Touched.{touched};
 ghost use Rattle.cs_view.specs.View.{edits};
@@ -97,7 +97,7 @@ impl Mapped {
         requires changes { are_changes (edits changes.now) ≡ true }
         requires led { LeadTo (V.docs view.now) (edits changes.now) }
         requires ascending { ascending (share_docs self.old.shares.items) ≡ true }
-        requires shares { AreShares (Before (V.docs view.now) (edits changes.now))
+        requires shares { AreShares (before_changes (V.docs view.now) (edits changes.now))
             (expression_of self.old.query) (fields self.old.params) self.old.shares.items }
         ensures follow { OnOk result (SharesFollow (V.docs view.now) (edits changes.now)
             (expression_of self.old.query) (fields self.old.params) self.old.shares.items
@@ -187,7 +187,7 @@ impl Mapped {
     ) -> Result<bool, NoMemory>
         requires changes { are_changes (edits changes.now) ≡ true }
         requires led { LeadTo (V.docs view.now) (edits changes.now) }
-        requires fits { FitsShares (Before (V.docs view.now) (edits changes.now)) self.old }
+        requires fits { FitsShares (before_changes (V.docs view.now) (edits changes.now)) self.old }
         requires found { IsFound interest.old number (Kept.InShares self.old) }
         ensures refreshed { OnOk result (RefreshesKept (V.docs view.now) (edits changes.now)
             (Kept.InShares self.old) (Kept.InShares self.new)) }

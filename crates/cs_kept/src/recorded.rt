@@ -2,8 +2,8 @@
 ghost use Rattle.std.specs.Prelude.{◌≡◌, false, true, not, IfOk, IfSome, OnOk};
 ghost use Rattle.cs_value.specs.Same.{same_tree};
 ghost use Rattle.cs_value.specs.View.{tree, fields};
-ghost use Rattle.cs_syntax.specs.Queries.{query as expression_of};
-ghost use Rattle.cs_view.specs.Changes.{are_changes, LeadTo, Before};
+ghost use Rattle.cs_syntax.specs.Queries.{expression_of};
+ghost use Rattle.cs_view.specs.Changes.{are_changes, LeadTo, before_changes};
 ghost use Rattle.cs_view.specs.Touched.{touched};
 ghost use Rattle.cs_view.specs.View.{edits};
 ghost use Rattle.cs_window.specs.Windowed.{is_windowed};
@@ -11,7 +11,7 @@ ghost use Rattle.cs_kept.specs.Evaluated.{IsEvaluated};
 ghost use Rattle.cs_kept.specs.Fits.{is_by_hits, Answers, FitsRecord, FitsWindow, RefreshesKept};
 ghost use Rattle.cs_kept.specs.Followed.{AreHeld, CanFollow, Followed, KeepsAnswer, StaysSettled};
 ghost use Rattle.cs_kept.specs.Found.{IsCoded, IsFound, KeepsOthers};
-ghost use Rattle.cs_kept.specs.Keys.{keys_of, rest_of};
+ghost use Rattle.cs_kept.specs.Keys.{all_keys, rest_of};
 ghost use Rattle.cs_kept.specs.declared.kept.Kept.{Kept};
 
 use crate::evaluated::{Evaluated, evaluate, evaluate_behind};
@@ -154,13 +154,13 @@ impl Recorded {
     ) -> Result<bool, NoMemory>
         requires changes { are_changes (edits changes.now) ≡ true }
         requires led { LeadTo (V.docs view.now) (edits changes.now) }
-        requires fits { FitsRecord (Before (V.docs view.now) (edits changes.now)) self.old }
+        requires fits { FitsRecord (before_changes (V.docs view.now) (edits changes.now)) self.old }
         requires found { IsFound interest.old number (Kept.ByRecord self.old) }
         ensures refreshed { OnOk result (RefreshesKept (V.docs view.now) (edits changes.now)
             (Kept.ByRecord self.old) (Kept.ByRecord self.new)) }
         ensures stale { IfOk result
             (λ b. b ≡ not (same_tree (tree self.new.last) (tree self.old.last))) }
-        ensures quiet { touched (keys_of self.old.keys) (edits changes.now) ≡ false
+        ensures quiet { touched (all_keys self.old.keys) (edits changes.now) ≡ false
             → steps.new ≡ steps.old }
         ensures found { OnOk result (IsFound interest.new number (Kept.ByRecord self.new)) }
         ensures others { OnOk result (KeepsOthers number interest.old interest.new) }

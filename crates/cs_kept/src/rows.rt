@@ -2,8 +2,8 @@
 ghost use Rattle.std.specs.Prelude.{◌≡◌, ◌≤◌, ◌+◌, ◌∷◌, [], true, not, IfOk, OnOk};
 ghost use Rattle.cs_value.specs.Same.{same_tree};
 ghost use Rattle.cs_value.specs.View.{tree, fields};
-ghost use Rattle.cs_syntax.specs.Queries.{query as expression_of};
-ghost use Rattle.cs_view.specs.Changes.{are_changes, LeadTo, Before, After, changes_where};
+ghost use Rattle.cs_syntax.specs.Queries.{expression_of};
+ghost use Rattle.cs_view.specs.Changes.{are_changes, LeadTo, before_changes, after_changes, changes_where};
 ghost use Rattle.cs_view.specs.Dataset.{ascending};
 ghost use Rattle.cs_view.specs.View.{edits};
 ghost use Rattle.cs_plan.specs.Simple.{is_simple};
@@ -118,7 +118,7 @@ impl Rows {
         requires changes { are_changes (edits changes.now) ≡ true }
         requires new { NoneIsNew (edits changes.now) (rows self.old) }
         ensures rows { OnOk result (rows self.new
-            ≡ After (rows self.old) (changes_where (is_row self.old) (edits changes.now))) }
+            ≡ after_changes (rows self.old) (changes_where (is_row self.old) (edits changes.now))) }
         ensures settled { OnOk result (IsSettled self.new) }
         ensures stale { IfOk result
             (λ b. b ≡ not (same_tree (tree self.new.answer) (tree self.old.answer))) }
@@ -142,7 +142,7 @@ impl Rows {
     ) -> Result<bool, NoMemory>
         requires changes { are_changes (edits changes.now) ≡ true }
         requires led { LeadTo (V.docs _view.now) (edits changes.now) }
-        requires fits { FitsRows (Before (V.docs _view.now) (edits changes.now)) self.old }
+        requires fits { FitsRows (before_changes (V.docs _view.now) (edits changes.now)) self.old }
         ensures refreshed { OnOk result (RefreshesKept (V.docs _view.now) (edits changes.now)
             (Kept.InRows self.old) (Kept.InRows self.new)) }
         ensures stale { IfOk result

@@ -5,7 +5,7 @@ use Rattle.cs_value.specs.Pairs.{put}
 use Rattle.cs_value.specs.Words.{as_list, list_of}
 use Rattle.cs_syntax.specs.Brackets.{key_of}
 use Rattle.cs_syntax.specs.Expression.{Expression, Element, element, spread_element, Entry, keyed, bare, when, spread, Step, Steps, no_steps, more_steps, steps_of}
-use Rattle.cs_syntax.specs.View.{step}
+use Rattle.cs_syntax.specs.View.{step_of}
 use Rattle.cs_view.specs.declared.key.Key.{Key}
 use Rattle.cs_meaning.specs.Operators.{put_under, spread_into}
 use Rattle.cs_meaning.specs.Values.{is_pipe}
@@ -57,4 +57,4 @@ first_pipe (more_steps s ss) = if is_pipe s then Some (s, ss) else first_pipe ss
 
 -- the steps of a rest
 abbrev pub steps_in : Remaining → Steps
-steps_in r = steps_of (map step r.steps.now)
+steps_in r = steps_of (map step_of r.steps.now)

@@ -2,7 +2,7 @@
 use Rattle.std.specs.Prelude.{List, if◌then◌else◌}
 use Rattle.cs_value.specs.Tree.{Tree, Pairs}
 use Rattle.cs_syntax.specs.Expression.{Expression}
-use Rattle.cs_view.specs.Keys.{Sel, selected}
+use Rattle.cs_view.specs.Keys.{having, selected}
 use Rattle.cs_plan.specs.Filters.{filter_keys, key_in}
 use Rattle.cs_plan.specs.Simple.{is_quiet}
 
@@ -11,4 +11,4 @@ use Rattle.cs_plan.specs.Simple.{is_quiet}
 abbrev pub tried : List Tree → Pairs → Expression → List Tree → List Tree
 tried docs params e scope =
     if is_quiet e then selected (filter_keys e scope params) docs
-    else Sel (key_in e scope params) docs
+    else having (key_in e scope params) docs

@@ -5,7 +5,7 @@ ghost use Rattle.cs_value.specs.Pairs.{put};
 ghost use Rattle.cs_value.specs.View.{fields};
 ghost use Rattle.cs_syntax.specs.Brackets.{key_of};
 ghost use Rattle.cs_syntax.specs.View.{expression};
-ghost use Rattle.cs_view.specs.Scopes.{scope};
+ghost use Rattle.cs_view.specs.Scopes.{scope_of};
 ghost use Rattle.cs_ops.specs.Operators.{between as between_values, within as within_values};
 ghost use Rattle.cs_plan.specs.Steps.{in_scope};
 ghost use Rattle.cs_meaning.specs.Operators.{applied as applied_value, in_path as in_path_value, operated as operated_value, put_under, references as references_value, sole as sole_value, spread_into};
@@ -73,7 +73,7 @@ pub fn refers_to<'s>(
     frame: &Scope<'_>,
 ) -> Result<Got<'s>, NoMemory>
     ensures { IfOk result (λ g. got g
-        ≡ references_value (map got values.entry.items) (in_scope 0 (scope frame.now))) }
+        ≡ references_value (map got values.entry.items) (in_scope 0 (scope_of frame.now))) }
 {
     let this = settle(alloc, at_level(frame, 0))?;
     Ok(Got::Whole(references(alloc, &values, this.val())?))

@@ -2,7 +2,7 @@
 ghost use Rattle.std.specs.Prelude.{◌≡◌, ◌∷◌, ◌++◌, [], IfOk, OnOk, map};
 ghost use Rattle.cs_value.specs.View.{tree, fields};
 ghost use Rattle.cs_syntax.specs.View.{expression};
-ghost use Rattle.cs_view.specs.Scopes.{scope};
+ghost use Rattle.cs_view.specs.Scopes.{scope_of};
 ghost use Rattle.cs_plan.specs.Filters.{key_in};
 ghost use Rattle.cs_levels.specs.Tried.{tried};
 
@@ -25,8 +25,8 @@ pub fn look_up<'s, S: Source<C>, C>(
     count: &mut C,
 ) -> Result<Vec<&'s Val>, NoMemory>
     ensures found { IfOk result (λ v. map (λ r. tree r.now) v.items ≡ tried (S.docs source.now)
-        (fields params.now) (expression condition.now) (scope frame.now)) }
-    ensures keys { OnOk result (keys.new ≡ keys.old ++ key_in (expression condition.now) (scope
+        (fields params.now) (expression condition.now) (scope_of frame.now)) }
+    ensures keys { OnOk result (keys.new ≡ keys.old ++ key_in (expression condition.now) (scope_of
         frame.now) (fields params.now) ∷ []) }
 {
     let key = choose(alloc, condition, frame, params)?;

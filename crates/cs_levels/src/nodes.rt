@@ -1,7 +1,7 @@
 //! What of a node is evaluated, and what becomes of its value.
 ghost use Rattle.std.specs.Prelude.{◌≡◌, ◌++◌, OnOk, map, option_map};
 ghost use Rattle.cs_value.specs.View.{fields};
-ghost use Rattle.cs_syntax.specs.View.{expression, elem as element_of, entry as entry_of};
+ghost use Rattle.cs_syntax.specs.View.{expression, element_of, entry_of};
 ghost use Rattle.cs_parts.specs.Parts.{got, item};
 ghost use Rattle.cs_levels.specs.Nodes.{element_expression, element_adds, entry_condition, entry_expression, entry_put};
 

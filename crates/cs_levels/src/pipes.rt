@@ -1,7 +1,7 @@
 //! Where a chain begins, and where its next piped call stands.
 ghost use Rattle.std.specs.Prelude.{◌≡◌, ◌&&◌, IfSome, IfNone, Some, None, true, false, map};
 ghost use Rattle.cs_syntax.specs.Expression.{bracket, more_steps, pipe, keys_of};
-ghost use Rattle.cs_syntax.specs.View.{expression, step as step_of, key as order_key_of};
+ghost use Rattle.cs_syntax.specs.View.{expression, step_of, order_key_of};
 ghost use Rattle.cs_plan.specs.Steps.{bracketed, condition};
 ghost use Rattle.cs_meaning.specs.Joining.{base_entrance};
 ghost use Rattle.cs_meaning.specs.Looked.{is_everything, starts_with_filter};

@@ -15,7 +15,7 @@ use Rattle.cs_view.specs.declared.key.Key.{Key}
 use Rattle.cs_view.specs.declared.key.Key.TheVariants.{All, Id, Path, Elem, Ref}
 use Rattle.cs_view.proofs.Booleans.{and-left, and-right}
 use Rattle.cs_view.proofs.Datasets.{same_id-same}
-use Rattle.cs_codes.specs.Codes.{Seed, codes, id_code, is_among, key_code}
+use Rattle.cs_codes.specs.Codes.{Seed, key_codes, id_code, is_among, key_code}
 use Rattle.cs_codes.specs.Kept.{IsKept}
 use Rattle.cs_codes.specs.Laws.{KeysAreListed}
 use Rattle.cs_interest.specs.Interest.{are_few, interest_code}
@@ -26,7 +26,7 @@ use Rattle.cs_plain.specs.Holds.{holds}
 use Rattle.cs_plain.specs.Keyed.{predicate_keys}
 use Rattle.cs_plain.specs.Laws.{TrueHasPredicateKeys}
 use Rattle.cs_plain.specs.Predicates.{filter as filter_of}
-use Rattle.cs_listen.specs.Coded.{filter_code, side_codes, change_codes, changes_codes, is_sought, is_coded, are_coded}
+use Rattle.cs_listen.specs.Coded.{filter_code, all_codes, change_codes, changes_codes, is_sought, is_coded, are_coded}
 use Rattle.cs_listen.specs.Events.{Listener, sees, turned, event_of, heard, events}
 use Rattle.cs_listen.specs.Listeners.{listener}
 use Rattle.cs_listen.specs.Told.{told, all_told}
@@ -38,13 +38,13 @@ few ns h = (grind (arith, common_steps, and-left (nat_lt 0 (length ns)) _ h), gr
 -- ---- the code of a key that a document has is sought among the document's codes
 module _ (listed : KeysAreListed) (seed : Seed) (d : Tree) where
   abbrev Sought : ℕ → Type 0
-  Sought c = is_sought c (side_codes seed (Some d)) ≡ true
+  Sought c = is_sought c (all_codes seed (Some d)) ≡ true
 
-  among_keys : (c : ℕ) → is_among c (codes seed d) ≡ true → Sought c
-  among_keys c h = or_right (nat_eq c 0) _ (or_right (nat_eq c (id_code seed (id_of d))) (is_among c (codes seed d)) h)
+  among_keys : (c : ℕ) → is_among c (key_codes seed d) ≡ true → Sought c
+  among_keys c h = or_right (nat_eq c 0) _ (or_right (nat_eq c (id_code seed (id_of d))) (is_among c (key_codes seed d)) h)
 
   own_id : (t : List ℕ) → t ≡ id_of d → Sought (id_code seed t)
-  own_id t is = or_right (nat_eq (id_code seed t) 0) _ (or_left (nat_eq (id_code seed t) (id_code seed (id_of d))) (is_among (id_code seed t) (codes seed d)) (eq-eqb _ _ (ap (id_code seed) is)))
+  own_id t is = or_right (nat_eq (id_code seed t) 0) _ (or_left (nat_eq (id_code seed t) (id_code seed (id_of d))) (is_among (id_code seed t) (key_codes seed d)) (eq-eqb _ _ (ap (id_code seed) is)))
 
   by_names : (k : Key) (b : Bool) → (b ≡ true → IsKept k) → has k d ≡ true → Sought (cond b (key_code seed k) 0)
   by_names k true kept h = among_keys (key_code seed k) (listed seed k d (kept refl) h)
@@ -70,7 +70,7 @@ module _ (has_keys : TrueHasPredicateKeys) (narrow : NarrowestIsHad) (listed : K
   abbrev code : ℕ
   code = filter_code seed l.filter l.params
 
-  not_seen : (o : Option Tree) → is_sought code (side_codes seed o) ≡ false → sees l.filter l.params o ≡ false
+  not_seen : (o : Option Tree) → is_sought code (all_codes seed o) ≡ false → sees l.filter l.params o ≡ false
   not_seen None h = refl
   not_seen (Some d) h = by_test (holds l.filter l.params d) refl where
     by_test : (b : Bool) → holds l.filter l.params d ≡ b → holds l.filter l.params d ≡ false
@@ -82,7 +82,7 @@ module _ (has_keys : TrueHasPredicateKeys) (narrow : NarrowestIsHad) (listed : K
 
   not_heard : (e : Edit) → is_sought code (change_codes seed e) ≡ false → heard tx moment l e ≡ None
   not_heard e h =
-      let sides = unsought code (side_codes seed e.1.0) (side_codes seed e.1.1) h in
+      let sides = unsought code (all_codes seed e.1.0) (all_codes seed e.1.1) h in
       ap (option_map (event_of tx moment l e))
       (ap (λ b. turned b (sees l.filter l.params e.1.1)) (not_seen e.1.0 sides.0)
       ∙ ap (turned false) (not_seen e.1.1 sides.1))

@@ -9,7 +9,7 @@ use Rattle.cs_value.specs.View.{fields}
 use Rattle.cs_syntax.specs.Expression.{Expression}
 use Rattle.cs_view.specs.Changes.{Edit}
 use Rattle.cs_view.specs.Document.{id_of}
-use Rattle.cs_codes.specs.Codes.{Seed, codes, id_code, is_among}
+use Rattle.cs_codes.specs.Codes.{Seed, key_codes, id_code, is_among}
 use Rattle.cs_interest.specs.Interest.{interest_code}
 use Rattle.cs_interest.specs.Narrow.{narrowest}
 use Rattle.cs_plain.specs.Keyed.{predicate_keys}
@@ -21,12 +21,12 @@ abbrev pub filter_code : Seed → Expression → Pairs → ℕ
 filter_code seed f params = interest_code seed (narrowest (predicate_keys f params))
 
 -- the codes of what stands on a side of a change: of its id, and of the other keys that it has
-abbrev pub side_codes : Seed → Option Tree → List ℕ
-side_codes seed None = []
-side_codes seed (Some d) = id_code seed (id_of d) ∷ codes seed d
+abbrev pub all_codes : Seed → Option Tree → List ℕ
+all_codes seed None = []
+all_codes seed (Some d) = id_code seed (id_of d) ∷ key_codes seed d
 
 abbrev pub change_codes : Seed → Edit → List ℕ
-change_codes seed c = side_codes seed c.1.0 ++ side_codes seed c.1.1
+change_codes seed c = all_codes seed c.1.0 ++ all_codes seed c.1.1
 
 abbrev pub changes_codes : Seed → List Edit → List ℕ
 changes_codes seed cs = flat_map (change_codes seed) cs

@@ -3,7 +3,7 @@ ghost use Rattle.std.specs.Prelude.{◌≡◌, [], Some, true, false, IfOk, IfEr
 ghost use Rattle.std.specs.List.Sorted.{IsNonDecreasing};
 ghost use Rattle.cs_value.specs.View.{fields};
 ghost use Rattle.cs_view.specs.View.{edits};
-ghost use Rattle.cs_syntax.specs.Queries.{query as expression_of};
+ghost use Rattle.cs_syntax.specs.Queries.{expression_of};
 ghost use Rattle.cs_plain.specs.Predicates.{filter};
 ghost use Rattle.cs_listen.specs.Coded.{are_coded};
 ghost use Rattle.cs_listen.specs.Events.{events};

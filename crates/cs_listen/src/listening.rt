@@ -3,7 +3,7 @@ ghost use Rattle.std.specs.Prelude.{◌≡◌, ◌++◌, OnOk, Some, map, filter
 ghost use Rattle.std.specs.List.Sorted.{IsNonDecreasing};
 ghost use Rattle.cs_value.specs.View.{tree};
 ghost use Rattle.cs_view.specs.Document.{rev_of};
-ghost use Rattle.cs_view.specs.View.{doc as document, edit, edits};
+ghost use Rattle.cs_view.specs.View.{document_of, edit, edits};
 ghost use Rattle.cs_listen.specs.Events.{where_asked, heard as heard_of};
 ghost use Rattle.cs_listen.specs.Listeners.{listener, has_name};
 ghost use Rattle.cs_listen.specs.Told.{told};
@@ -30,7 +30,7 @@ pub(crate) struct Listening {
 
 // The revision of what stands there.
 fn revision(side: &Option<Doc>) -> Option<&str>
-    ensures { option_map (λ s. s.now) result ≡ option_map rev_of (option_map document side.now) }
+    ensures { option_map (λ s. s.now) result ≡ option_map rev_of (option_map document_of side.now) }
 {
     match side {
         Some(doc) => Some(doc.rev().as_str()),
@@ -41,7 +41,7 @@ fn revision(side: &Option<Doc>) -> Option<&str>
 // What stands there, where it is asked for.
 fn shown(asked: bool, side: &Option<Doc>) -> Option<&Val>
     ensures { option_map (λ v. tree v.now) result ≡ where_asked asked
-        (option_map document side.now) }
+        (option_map document_of side.now) }
 {
     match side {
         Some(doc) => { if asked { Some(doc.val()) } else { None } }

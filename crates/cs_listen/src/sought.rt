@@ -2,10 +2,10 @@
 ghost use Rattle.std.specs.Prelude.{◌≡◌, ◌++◌, ◌∷◌, ◌&&◌, ℕ, IfOk, OnOk, filter as only, map, option_map};
 ghost use Rattle.std.specs.List.Sorted.{IsNonDecreasing};
 ghost use Rattle.cs_value.specs.View.{fields};
-ghost use Rattle.cs_view.specs.View.{doc as document, edit, edits};
+ghost use Rattle.cs_view.specs.View.{document_of, edit, edits};
 ghost use Rattle.cs_codes.specs.Codes.{is_among};
 ghost use Rattle.cs_plain.specs.Predicates.{filter};
-ghost use Rattle.cs_listen.specs.Coded.{change_codes, changes_codes, filter_code, is_sought, side_codes};
+ghost use Rattle.cs_listen.specs.Coded.{change_codes, changes_codes, filter_code, is_sought, all_codes};
 
 use crate::listening::Listening;
 use cs_codes::{has_code, id_code, put_codes, sort_codes};
@@ -60,7 +60,7 @@ pub(crate) fn waiting_codes(
 // Puts the codes of what stands on a side of a change behind the others.
 fn put_side(seed: &RandomState, side: &Option<Doc>, out: &mut Vec<u64>) -> Result<(), NoMemory>
     ensures { OnOk result (out.new.items
-        ≡ out.old.items ++ side_codes seed.now (option_map document side.now)) }
+        ≡ out.old.items ++ all_codes seed.now (option_map document_of side.now)) }
 {
     match side {
         Some(doc) => {

@@ -1,7 +1,7 @@
 //! What a listener sees of a change.
 ghost use Rattle.std.specs.Prelude.{◌≡◌, option_map};
 ghost use Rattle.cs_value.specs.View.{fields};
-ghost use Rattle.cs_view.specs.View.{doc as document, edit};
+ghost use Rattle.cs_view.specs.View.{document_of, edit};
 ghost use Rattle.cs_plain.specs.Predicates.{filter};
 ghost use Rattle.cs_listen.specs.Events.{sees, turned, transition};
 ghost use Rattle.cs_reply.specs.View.{transition as kind};
@@ -14,7 +14,7 @@ use cs_view::{Change, Doc};
 // Whether the filter is true of what stands there: of nothing it is not.
 fn sees(predicate: &Plain, params: &Fields, side: &Option<Doc>) -> bool
     ensures { result ≡ sees (filter predicate.now) (fields params.now)
-        (option_map document side.now) }
+        (option_map document_of side.now) }
 {
     match side {
         Some(doc) => test(predicate, params, doc),

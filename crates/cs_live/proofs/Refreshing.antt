@@ -3,7 +3,6 @@ use Rattle.std.proofs.Common.{◌≡◌, List, Bool, ap, ◌∙◌}
 use Rattle.std.specs.Prelude.{not}
 use Rattle.cs_value.specs.Tree.{Tree}
 use Rattle.cs_value.specs.Same.{same_tree}
-use Rattle.cs_syntax.specs.Queries.{query}
 use Rattle.cs_view.specs.Changes.{Edit}
 use Rattle.cs_live.specs.Lives.{is_stale}
 use Rattle.cs_kept.specs.Kept.{last_of}

@@ -5,10 +5,10 @@ use Rattle.std.proofs.lemmas.Bool.{or_right}
 use Rattle.cs_value.specs.Tree.{Tree, null, Pairs}
 use Rattle.cs_value.specs.View.{fields}
 use Rattle.cs_syntax.specs.Expression.{Expression}
-use Rattle.cs_syntax.specs.Queries.{query}
-use Rattle.cs_view.specs.Changes.{Edit, are_changes, LeadTo, Before}
+use Rattle.cs_syntax.specs.Queries.{expression_of}
+use Rattle.cs_view.specs.Changes.{Edit, are_changes, LeadTo, before_changes}
 use Rattle.cs_view.specs.Dataset.{ascending}
-use Rattle.cs_view.specs.Keys.{Sel, has}
+use Rattle.cs_view.specs.Keys.{having, has}
 use Rattle.cs_view.specs.Laws.{ChangesLeadBackAndOn, UntouchedSelectsTheSame}
 use Rattle.cs_view.specs.Touched.{touched, is_touched}
 use Rattle.cs_view.specs.declared.key.Key.{Key}
@@ -55,7 +55,7 @@ module _ (asks : TouchedIsAsked) (i : Interest) (cs : List Edit) (changes : are_
 -- the hits of a query are hits among the documents that have its hits' key
 abbrev pub HitsHaveHitKey : Type 0
 HitsHaveHitKey = (e : Expression) (params : Pairs) (docs : List Tree)
-    → hits e params docs ≡ hits e params (Sel (hit_key e params) docs)
+    → hits e params docs ≡ hits e params (having (hit_key e params) docs)
 
 pub hits_have_hit_key : TrueHasEachKey → NarrowestIsHad → HitsHaveHitKey
 hits_have_hit_key each narrow e params docs =
@@ -65,12 +65,12 @@ hits_have_hit_key each narrow e params docs =
 
 pub rows-still : SimpleIsTailOfHits → HitsHaveHitKey → UntouchedSelectsTheSame → ChangesLeadBackAndOn
     → (docs : List Tree) (cs : List Edit) → ascending docs ≡ true → are_changes cs ≡ true → LeadTo docs cs
-    → (r : Rows) → touched (hit_key (query r.query) (fields r.params) ∷ []) cs ≡ false → FitsRows (Before docs cs) r → RefreshesKept docs cs (InRows r) (InRows r)
+    → (r : Rows) → touched (hit_key (expression_of r.query) (fields r.params) ∷ []) cs ≡ false → FitsRows (before_changes docs cs) r → RefreshesKept docs cs (InRows r) (InRows r)
 rows-still settles have untouched back docs cs h changes leads r quiet fits =
-    let e = query r.query in let params = fields r.params in let key = hit_key e params in
-    let same : Sel key (Before docs cs) ≡ Sel key docs =
-    untouched docs cs h changes (key ∷ []) quiet key (Contains-push [] key) ∙ ap (Sel key) (back docs cs h changes leads).0 in
-    let here : rows r ≡ hits e params docs = fits.rows ∙ have e params (Before docs cs) ∙ ap (hits e params) same ∙ sym (have e params docs) in
+    let e = expression_of r.query in let params = fields r.params in let key = hit_key e params in
+    let same : having key (before_changes docs cs) ≡ having key docs =
+    untouched docs cs h changes (key ∷ []) quiet key (Contains-push [] key) ∙ ap (having key) (back docs cs h changes leads).0 in
+    let here : rows r ≡ hits e params docs = fits.rows ∙ have e params (before_changes docs cs) ∙ ap (hits e params) same ∙ sym (have e params docs) in
     record {
       answers = record {
         query = refl;
@@ -87,7 +87,7 @@ rows-still settles have untouched back docs cs h changes leads r quiet fits =
 
 pub kept-still : LookedSettlesValue → HitsHaveKey → WindowedIsTailOfHits → LookedSettlesTail → LookedSettlesShare → MappedIsSharesOfHits → SimpleIsTailOfHits → HitsHaveHitKey → UntouchedSelectsTheSame → ChangesLeadBackAndOn
     → (docs : List Tree) (cs : List Edit) → ascending docs ≡ true → are_changes cs ≡ true → LeadTo docs cs
-    → (k : Kept) → touched (interests k) cs ≡ false → FitsKept (Before docs cs) k → RefreshesKept docs cs k k
+    → (k : Kept) → touched (interests k) cs ≡ false → FitsKept (before_changes docs cs) k → RefreshesKept docs cs k k
 kept-still looked keyed windowed tails shared mapped settles have untouched back docs cs h changes leads (ByRecord r) quiet fits = untouched-refreshed docs cs h changes leads untouched back keyed windowed tails looked r quiet fits
 kept-still looked keyed windowed tails shared mapped settles have untouched back docs cs h changes leads (InRows r) quiet fits = rows-still settles have untouched back docs cs h changes leads r quiet fits
 kept-still looked keyed windowed tails shared mapped settles have untouched back docs cs h changes leads (InShares m) quiet fits = mapped-untouched docs cs h changes leads untouched back shared keyed mapped m quiet fits

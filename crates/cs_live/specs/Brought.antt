@@ -2,7 +2,7 @@
 use Rattle.std.specs.Prelude.{◌≡◌, ◌⊎◌, ℕ, ◌<◌, length, get_or, set, true, false, List, [], ◌++◌}
 use Rattle.std.specs.List.{All}
 use Rattle.cs_value.specs.Tree.{Tree}
-use Rattle.cs_view.specs.Changes.{Edit, are_changes, Before, LeadTo}
+use Rattle.cs_view.specs.Changes.{Edit, are_changes, before_changes, LeadTo}
 use Rattle.cs_view.specs.Dataset.{ascending}
 use Rattle.cs_codes.specs.Codes.{is_among}
 use Rattle.cs_interest.specs.Interest.{AreAsked}
@@ -28,7 +28,7 @@ StillUnasked docs cs old ns =
 abbrev pub UnaskedStays : Type 0
 UnaskedStays =
     (docs : List Tree) (cs : List Edit) (l : Live) (ns : List ℕ) → ascending docs ≡ true
-    → are_changes cs ≡ true → LeadTo docs cs → Fits l (Before docs cs)
+    → are_changes cs ≡ true → LeadTo docs cs → Fits l (before_changes docs cs)
     → AreAsked l.interest cs ns → StillUnasked docs cs (entries l) ns
 
 -- what holds of the entry of the number, if there is one

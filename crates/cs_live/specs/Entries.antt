@@ -2,7 +2,7 @@
 use Rattle.std.specs.Prelude.{◌≡◌, ℕ, ◌<◌, length, get_or, true, false, Option, None, Some, List, map}
 use Rattle.std.specs.List.{remove}
 use Rattle.cs_value.specs.View.{tree}
-use Rattle.cs_kept.specs.Kept.{expression_of, params_of, last_of}
+use Rattle.cs_kept.specs.Kept.{kept_expression, params_of, last_of}
 use Rattle.cs_live.specs.Lives.{LiveQuery, Said, is_named, without_name, answer_of}
 use Rattle.cs_live.specs.declared.entry.Entry.{Entry}
 use Rattle.cs_live.specs.declared.entry.LiveLine.{LiveLine}
@@ -11,7 +11,7 @@ use Rattle.cs_live.specs.declared.live.Live.{Live}
 abbrev pub live_query : Entry → LiveQuery
 live_query e =
     let k = e.kept in
-    record { name = e.name; query = expression_of k; params = params_of k; last = last_of k }
+    record { name = e.name; query = kept_expression k; params = params_of k; last = last_of k }
 
 abbrev pub entries : Live → List Entry
 entries l = l.entries.items

@@ -5,7 +5,7 @@ use Rattle.std.specs.List.{All, AllZip}
 use Rattle.cs_value.specs.Tree.{Tree}
 use Rattle.cs_view.specs.Changes.{Edit}
 use Rattle.cs_kept.specs.Fits.{FitsKept, IsQuiet, KeepsRecord}
-use Rattle.cs_live.specs.Lives.{LiveQuery, refreshed, is_named, most_lives}
+use Rattle.cs_live.specs.Lives.{LiveQuery, refreshed, is_named, most_subscriptions}
 use Rattle.cs_live.specs.Found.{AreFound}
 use Rattle.cs_live.specs.Entries.{live_query, entries}
 use Rattle.cs_live.specs.declared.entry.Entry.{Entry}
@@ -37,10 +37,10 @@ KeepsRecords old new cs = AllZip (λ a b. KeepsRecord cs a.kept b.kept) (entries
 
 -- the name is free, and there is room for one more
 abbrev pub HasRoom : List ℕ → List LiveQuery → Type 0
-HasRoom name es = (is_named name es ≡ false) × (length es < most_lives)
+HasRoom name es = (is_named name es ≡ false) × (length es < most_subscriptions)
 
 -- why a live query of the name is not added: the first cause that holds
 abbrev pub IsCause : LiveFault → List ℕ → List LiveQuery → Type 0
 IsCause NameUsed name es = is_named name es ≡ true
-IsCause Full name es = (is_named name es ≡ false) × (most_lives ≤ length es)
+IsCause Full name es = (is_named name es ≡ false) × (most_subscriptions ≤ length es)
 IsCause NoMemory name es = HasRoom name es

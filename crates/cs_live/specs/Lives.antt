@@ -73,5 +73,6 @@ abbrev pub made : List Tree → List ℕ → Expression → Pairs → LiveQuery
 made docs name q params =
     record { name = name; query = q; params = params; last = query_value docs params q }
 
-abbrev pub most_lives : ℕ
-most_lives = 1024
+-- the most live queries at a time, and the most listeners
+abbrev pub most_subscriptions : ℕ
+most_subscriptions = 1024

@@ -1,8 +1,8 @@
 //! A live query with its last answer, and what is said of it.
 ghost use Rattle.std.specs.Prelude.{◌≡◌, ◌≤◌, ◌+◌, ◌++◌, true, map, IfOk, OnOk};
 ghost use Rattle.cs_value.specs.View.{fields};
-ghost use Rattle.cs_syntax.specs.Queries.{query as expression_of};
-ghost use Rattle.cs_view.specs.Changes.{are_changes, LeadTo, Before};
+ghost use Rattle.cs_syntax.specs.Queries.{expression_of};
+ghost use Rattle.cs_view.specs.Changes.{are_changes, LeadTo, before_changes};
 ghost use Rattle.cs_view.specs.View.{edits};
 ghost use Rattle.cs_plan.specs.Simple.{is_simple};
 ghost use Rattle.cs_meaning.specs.Hits.{cost};
@@ -90,7 +90,7 @@ impl Entry {
     ) -> Result<bool, NoMemory>
         requires changes { are_changes (edits changes.now) ≡ true }
         requires led { LeadTo (V.docs view.now) (edits changes.now) }
-        requires fits { FitsOne (Before (V.docs view.now) (edits changes.now)) self.old }
+        requires fits { FitsOne (before_changes (V.docs view.now) (edits changes.now)) self.old }
         requires found { IsFound interest.old self.old.number self.old.kept }
         ensures refreshed { OnOk result
             (Refreshes (V.docs view.now) (edits changes.now) self.old self.new) }
@@ -119,7 +119,7 @@ impl Entry {
     ) -> Result<(), NoMemory>
         requires changes { are_changes (edits changes.now) ≡ true }
         requires led { LeadTo (V.docs view.now) (edits changes.now) }
-        requires fits { FitsOne (Before (V.docs view.now) (edits changes.now)) self.old }
+        requires fits { FitsOne (before_changes (V.docs view.now) (edits changes.now)) self.old }
         requires found { IsFound interest.old self.old.number self.old.kept }
         ensures refreshed { OnOk result
             (Refreshes (V.docs view.now) (edits changes.now) self.old self.new) }

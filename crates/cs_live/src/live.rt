@@ -2,8 +2,8 @@
 ghost use Rattle.std.specs.Prelude.{◌≡◌, ◌++◌, ◌∷◌, ◌<◌, ◌≤◌, ◌+◌, [], List, length, get_or, IfOk, OnOk, OnErr, IfErr, true, false, map, option_map};
 ghost use Rattle.cs_value.specs.Tree.{Tree};
 ghost use Rattle.cs_value.specs.View.{tree, fields};
-ghost use Rattle.cs_syntax.specs.Queries.{query as expression_of};
-ghost use Rattle.cs_view.specs.Changes.{are_changes, LeadTo, Before};
+ghost use Rattle.cs_syntax.specs.Queries.{expression_of};
+ghost use Rattle.cs_view.specs.Changes.{are_changes, LeadTo, before_changes};
 ghost use Rattle.cs_view.specs.View.{edits};
 ghost use Rattle.cs_plan.specs.Simple.{is_simple};
 ghost use Rattle.cs_meaning.specs.Hits.{cost};
@@ -241,7 +241,7 @@ impl Live {
         requires within { place < length (entries self.old) }
         requires changes { are_changes (edits changes.now) ≡ true }
         requires led { LeadTo (V.docs view.now) (edits changes.now) }
-        requires fits { (e : Entry) → FitsOne (Before (V.docs view.now) (edits changes.now))
+        requires fits { (e : Entry) → FitsOne (before_changes (V.docs view.now) (edits changes.now))
             (get_or (entries self.old) place e) }
         requires found { AreFound self.old }
         ensures brought { OnOk result (BringsAt (V.docs view.now) (edits changes.now)
@@ -268,7 +268,8 @@ impl Live {
     ) -> Result<(), NoMemory>
         requires changes { are_changes (edits changes.now) ≡ true }
         requires led { LeadTo (V.docs view.now) (edits changes.now) }
-        requires fits { AtNumber number (FitsOne (Before (V.docs view.now) (edits changes.now)))
+        requires fits { AtNumber number (FitsOne (before_changes (V.docs view.now)
+            (edits changes.now)))
             (entries self.old) }
         requires found { AreFound self.old }
         ensures brought { OnOk result (Brings (V.docs view.now) (edits changes.now) number
@@ -300,7 +301,7 @@ impl Live {
     ) -> Result<Vec<LiveLine>, NoMemory>
         requires changes { are_changes (edits changes.now) ≡ true }
         requires led { LeadTo (V.docs view.now) (edits changes.now) }
-        requires fits { Fits self.old (Before (V.docs view.now) (edits changes.now)) }
+        requires fits { Fits self.old (before_changes (V.docs view.now) (edits changes.now)) }
         ensures lines { IfOk result (λ lines. map said lines.items
             ≡ news (V.docs view.now) (lives self.old)) }
         ensures lives { OnOk result (lives self.new

@@ -1,17 +1,17 @@
 -- A map of documents by their ids beside the dataset that it is.
-use Rattle.std.proofs.Common.{◌≡◌, ◌∙◌, ap, sym, refl, subst, ℕ, suc, zero, ◌+◌, ◌-◌, ◌<◌, ◌≤◌, List, [], ◌∷◌, ◌++◌, length, map, Bool, true, false, ◌&&◌, Ordering, cond, Some, is_some, Result, Ok, Err, Less, Equal, Greater, is_eq, arith}
+use Rattle.std.proofs.Common.{◌≡◌, ◌∙◌, ap, sym, refl, subst, ℕ, suc, zero, ◌+◌, ◌-◌, ◌<◌, ◌≤◌, List, [], ◌∷◌, ◌++◌, length, map, true, false, cond, Some, is_some, Result, Ok, Err, Less, Equal, Greater, is_eq, arith}
 use Rattle.std.proofs.lemmas.Cmp.{nat_list_cmp_total}
 use Rattle.std.proofs.lemmas.List.{map-append}
 use Rattle.std.specs.FinMap.Entries.{below_all}
 use Rattle.std.specs.List.{slice_get}
 use Rattle.std.specs.Map.{lookup, values_of}
 use Rattle.std.specs.Result.{OnOk, OnErr}
-use Rattle.std.specs.Ordering.{match_ordering, is_lt, ordering_reverse}
+use Rattle.std.specs.Ordering.{match_ordering, is_lt}
 use Rattle.std.specs.BTreeMap.{insert_entry, is_at}
 use Rattle.cs_value.specs.Tree.{Tree}
 use Rattle.cs_view.specs.Document.{id_of}
-use Rattle.cs_view.specs.Dataset.{id_cmp, keyed, At, stands, with_doc, ascending}
-use Rattle.cs_view.specs.View.{doc}
+use Rattle.cs_view.specs.Dataset.{id_cmp, keyed, standing, stands, with_doc, ascending}
+use Rattle.cs_view.specs.View.{document_of}
 use Rattle.cs_view.specs.declared.doc.Doc.{Doc}
 use Rattle.cs_view.proofs.Datasets.{is_lt-Less, id_cmp-flipped}
 use Rattle.cs_view.proofs.Booleans.{and-left, and-right}
@@ -22,35 +22,35 @@ use Rattle.cs_load.proofs.Placing.{same, ascending-with_doc}
 abbrev pub Entry : Type 0
 Entry = List ℕ × Doc
 
-first_by_id : (e : Entry) (es : List Entry) → AreById (e ∷ es) → e.0 ≡ id_of (doc e.1)
+first_by_id : (e : Entry) (es : List Entry) → AreById (e ∷ es) → e.0 ≡ id_of (document_of e.1)
 first_by_id e es h = cc
 
 later_by_id : (e : Entry) (es : List Entry) → AreById (e ∷ es) → AreById es
 later_by_id e es h = cc
 
-by_id : (k : List ℕ) (d : Doc) (es : List Entry) → k ≡ id_of (doc d) → AreById es → AreById ((k, d) ∷ es)
+by_id : (k : List ℕ) (d : Doc) (es : List Entry) → k ≡ id_of (document_of d) → AreById es → AreById ((k, d) ∷ es)
 by_id k d es is h = cc
 
 -- what the map's look-up by an id finds
 pub found_id : (id : List ℕ) (es : List Entry) → AreById es → is_some (lookup (is_at (id_cmp id)) es) ≡ stands id (gathered es)
 found_id id [] h = refl
 found_id id (e ∷ es) h =
-    elim (is_eq (id_cmp id e.0)) as (λ b. is_some (cond b (Some e.1) (lookup (is_at (id_cmp id)) es)) ≡ is_some (cond b (Some (doc e.1)) (At id (gathered es)))) [
+    elim (is_eq (id_cmp id e.0)) as (λ b. is_some (cond b (Some e.1) (lookup (is_at (id_cmp id)) es)) ≡ is_some (cond b (Some (document_of e.1)) (standing id (gathered es)))) [
       | true ↦ refl
       | false ↦ found_id id es (later_by_id e es h)
-    ] ∙ ap (λ k. is_some (cond (is_eq (id_cmp id k)) (Some (doc e.1)) (At id (gathered es)))) (first_by_id e es h)
+    ] ∙ ap (λ k. is_some (cond (is_eq (id_cmp id k)) (Some (document_of e.1)) (standing id (gathered es)))) (first_by_id e es h)
 
-pub gathered-insert : (es : List Entry) (k : List ℕ) (d : Doc) → k ≡ id_of (doc d) → AreById es → gathered (insert_entry id_cmp es k d) ≡ with_doc (doc d) (gathered es)
+pub gathered-insert : (es : List Entry) (k : List ℕ) (d : Doc) → k ≡ id_of (document_of d) → AreById es → gathered (insert_entry id_cmp es k d) ≡ with_doc (document_of d) (gathered es)
 gathered-insert [] k d is h = refl
 gathered-insert (e ∷ es) k d is h =
-    let order : id_cmp k e.0 ≡ id_cmp (id_of (doc d)) (id_of (doc e.1)) = ap (λ a. id_cmp a e.0) is ∙ ap (id_cmp (id_of (doc d))) (first_by_id e es h) in
-    rw order (elim (id_cmp (id_of (doc d)) (id_of (doc e.1))) as (λ o. gathered (match_ordering o ((k, d) ∷ e ∷ es) ((e.0, d) ∷ es) (e ∷ insert_entry id_cmp es k d)) ≡ match_ordering o (doc d ∷ gathered (e ∷ es)) (doc d ∷ gathered es) (doc e.1 ∷ with_doc (doc d) (gathered es))) [
+    let order : id_cmp k e.0 ≡ id_cmp (id_of (document_of d)) (id_of (document_of e.1)) = ap (λ a. id_cmp a e.0) is ∙ ap (id_cmp (id_of (document_of d))) (first_by_id e es h) in
+    rw order (elim (id_cmp (id_of (document_of d)) (id_of (document_of e.1))) as (λ o. gathered (match_ordering o ((k, d) ∷ e ∷ es) ((e.0, d) ∷ es) (e ∷ insert_entry id_cmp es k d)) ≡ match_ordering o (document_of d ∷ gathered (e ∷ es)) (document_of d ∷ gathered es) (document_of e.1 ∷ with_doc (document_of d) (gathered es))) [
       | Less ↦ refl
       | Equal ↦ refl
-      | Greater ↦ ap (λ r. doc e.1 ∷ r) (gathered-insert es k d is (later_by_id e es h))
+      | Greater ↦ ap (λ r. document_of e.1 ∷ r) (gathered-insert es k d is (later_by_id e es h))
     ])
 
-pub by_id-insert : (es : List Entry) (k : List ℕ) (d : Doc) → k ≡ id_of (doc d) → AreById es → AreById (insert_entry id_cmp es k d)
+pub by_id-insert : (es : List Entry) (k : List ℕ) (d : Doc) → k ≡ id_of (document_of d) → AreById es → AreById (insert_entry id_cmp es k d)
 by_id-insert [] k d is h = by_id k d [] is refl
 by_id-insert (e ∷ es) k d is h =
     elim (id_cmp k e.0) as (λ o. id_cmp k e.0 ≡ o → AreById (match_ordering o ((k, d) ∷ e ∷ es) ((e.0, d) ∷ es) (e ∷ insert_entry id_cmp es k d))) [
@@ -63,7 +63,7 @@ pub gathered_length : (es : List Entry) → length (gathered es) ≡ length es
 gathered_length [] = refl
 gathered_length (e ∷ es) = ap suc (gathered_length es)
 
-pub map_length : (ds : List Doc) → length (map doc ds) ≡ length ds
+pub map_length : (ds : List Doc) → length (map document_of ds) ≡ length ds
 map_length [] = refl
 map_length (d ∷ ds) = ap suc (map_length ds)
 
@@ -105,33 +105,33 @@ put_last d [] h = refl
 put_last d (e ∷ es) h = rw h.0 (ap (λ r. e ∷ r) (put_last d es h.1))
 
 -- a document whose id is above all goes last
-pub pushed : (ds new : List Doc) (d : Doc) → IsGapFor (id_of (doc d)) (map doc ds) (length ds) → new ≡ ds ++ d ∷ [] → map doc new ≡ with_doc (doc d) (map doc ds)
+pub pushed : (ds new : List Doc) (d : Doc) → IsGapFor (id_of (document_of d)) (map document_of ds) (length ds) → new ≡ ds ++ d ∷ [] → map document_of new ≡ with_doc (document_of d) (map document_of ds)
 pushed ds new d h is =
-    ap (map doc) is ∙ map-append doc ds (d ∷ []) ∙ sym (put_last (doc d) (map doc ds) (subst (IsGapFor (id_of (doc d)) (map doc ds)) (sym (map_length ds)) h))
+    ap (map document_of) is ∙ map-append document_of ds (d ∷ []) ∙ sym (put_last (document_of d) (map document_of ds) (subst (IsGapFor (id_of (document_of d)) (map document_of ds)) (sym (map_length ds)) h))
 
 -- and so does the next of some in order
-pub next_in_order : (done : List Doc) (d : Doc) (more : List Doc) → ascending (map doc (done ++ d ∷ more)) ≡ true → with_doc (doc d) (map doc done) ≡ map doc (done ++ d ∷ [])
+pub next_in_order : (done : List Doc) (d : Doc) (more : List Doc) → ascending (map document_of (done ++ d ∷ more)) ≡ true → with_doc (document_of d) (map document_of done) ≡ map document_of (done ++ d ∷ [])
 next_in_order done d more h =
-    put_last (doc d) (map doc done) (past_prefix (map doc done) (doc d) (map doc more) (subst (λ es. ascending es ≡ true) (map-append doc done (d ∷ more)) h)) ∙ sym (map-append doc done (d ∷ []))
+    put_last (document_of d) (map document_of done) (past_prefix (map document_of done) (document_of d) (map document_of more) (subst (λ es. ascending es ≡ true) (map-append document_of done (d ∷ more)) h)) ∙ sym (map-append document_of done (d ∷ []))
 
-above_at : (id : List ℕ) (d : Doc) (ds : List Doc) (i : ℕ) (last : Doc) → i ≡ length ds → ascending (map doc (d ∷ ds)) ≡ true → Some last ≡ slice_get (d ∷ ds) i → id_cmp id (id_of (doc last)) ≡ Greater → IsGapFor id (map doc (d ∷ ds)) (suc (length ds))
+above_at : (id : List ℕ) (d : Doc) (ds : List Doc) (i : ℕ) (last : Doc) → i ≡ length ds → ascending (map document_of (d ∷ ds)) ≡ true → Some last ≡ slice_get (d ∷ ds) i → id_cmp id (id_of (document_of last)) ≡ Greater → IsGapFor id (map document_of (d ∷ ds)) (suc (length ds))
 above_at id d [] zero last len h is above =
     let same : last ≡ d = cc in
-    (ap (λ x. id_cmp id (id_of (doc x))) (sym same) ∙ above, tt)
+    (ap (λ x. id_cmp id (id_of (document_of x))) (sym same) ∙ above, tt)
 above_at id d [] (suc i) last len h is above = absurd (omega arith)
 above_at id d (e ∷ ds) zero last len h is above = absurd (omega arith)
 above_at id d (e ∷ ds) (suc i) last len h is above =
-    let rest = above_at id e ds i last (omega arith) (and-right (below_all id_cmp (id_of (doc d)) (keyed (map doc (e ∷ ds)))) _ h) is above in
-    let first = below_in (id_of (doc d)) [] (doc e) (map doc ds) (and-left _ _ h) in
-    (id_cmp-flipped (id_of (doc d)) id Less (nat_list_cmp_total.trans (id_of (doc d)) (id_of (doc e)) id first (id_cmp-flipped id (id_of (doc e)) Greater rest.0)), rest)
+    let rest = above_at id e ds i last (omega arith) (and-right (below_all id_cmp (id_of (document_of d)) (keyed (map document_of (e ∷ ds)))) _ h) is above in
+    let first = below_in (id_of (document_of d)) [] (document_of e) (map document_of ds) (and-left _ _ h) in
+    (id_cmp-flipped (id_of (document_of d)) id Less (nat_list_cmp_total.trans (id_of (document_of d)) (id_of (document_of e)) id first (id_cmp-flipped id (id_of (document_of e)) Greater rest.0)), rest)
 
 -- an id above that of the last document is above all
-pub above_last : (id : List ℕ) (ds : List Doc) (last : Doc) → ascending (map doc ds) ≡ true → Some last ≡ slice_get ds (length ds - 1) → id_cmp id (id_of (doc last)) ≡ Greater → IsGapFor id (map doc ds) (length ds)
+pub above_last : (id : List ℕ) (ds : List Doc) (last : Doc) → ascending (map document_of ds) ≡ true → Some last ≡ slice_get ds (length ds - 1) → id_cmp id (id_of (document_of last)) ≡ Greater → IsGapFor id (map document_of ds) (length ds)
 above_last id [] last h is above = tt
 above_last id (d ∷ ds) last h is above =
     let place : length (d ∷ ds) - 1 ≡ length ds = omega arith in
     above_at id d ds (length ds) last refl h (is ∙ ap (slice_get (d ∷ ds)) place) above
 
-pub gathered_values : (es : List Entry) → map doc (values_of es) ≡ gathered es
+pub gathered_values : (es : List Entry) → map document_of (values_of es) ≡ gathered es
 gathered_values [] = refl
-gathered_values (e ∷ es) = ap (λ r. doc e.1 ∷ r) (gathered_values es)
+gathered_values (e ∷ es) = ap (λ r. document_of e.1 ∷ r) (gathered_values es)

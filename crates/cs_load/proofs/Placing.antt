@@ -5,7 +5,7 @@ use Rattle.std.specs.FinMap.{slice_cmp-IsAntisymmetric, nat_cmp-IsAntisymmetric}
 use Rattle.std.specs.FinMap.Entries.{by_order, put, is_sorted, is_sorted-put}
 use Rattle.cs_value.specs.Tree.{Tree}
 use Rattle.cs_view.specs.Document.{id_of}
-use Rattle.cs_view.specs.Dataset.{id_cmp, keyed, At, ascending, with_doc}
+use Rattle.cs_view.specs.Dataset.{id_cmp, keyed, standing, ascending, with_doc}
 use Rattle.cs_load.specs.Gathered.{IsGapFor}
 
 pub same : (a b : List ℕ) → id_cmp a b ≡ Equal → a ≡ b
@@ -32,7 +32,7 @@ pub ascending-with_doc : (d : Tree) (es : List Tree) → ascending es ≡ true �
 ascending-with_doc d es h = ap (is_sorted id_cmp) (keyed-with_doc d es) ∙ from_T _ (is_sorted-put id_cmp nat_list_cmp_total (id_of d) d (keyed es) (to_T _ h))
 
 -- the gap of an id: its place is among the documents, and none there has the id
-pub gap_absent : (id : List ℕ) (docs : List Tree) (place : ℕ) → IsGapFor id docs place → At id docs ≡ None
+pub gap_absent : (id : List ℕ) (docs : List Tree) (place : ℕ) → IsGapFor id docs place → standing id docs ≡ None
 gap_absent id [] zero h = refl
 gap_absent id [] (suc place) h = absurd h
 gap_absent id (d ∷ docs) zero h = rw h.0 (gap_absent id docs zero h.1)

@@ -5,7 +5,7 @@ use Rattle.cs_value.specs.Tree.{Tree}
 use Rattle.cs_json.specs.Reading.{value, outcome}
 use Rattle.cs_view.specs.Document.{is_body, id_of, deepest_document}
 use Rattle.cs_view.specs.Dataset.{stands}
-use Rattle.cs_wire.specs.Blank.{is_blank}
+use Rattle.cs_wire.specs.Blank.{is_blank_line}
 use Rattle.cs_reply.specs.Stated.{repeated, full}
 use Rattle.cs_machine.specs.DataFile.{nothing, a_document, refused, imported, of_body, of_outcome, said}
 use Rattle.cs_docs.specs.Limits.{most_documents}
@@ -25,14 +25,14 @@ pub body_admitted : (docs : List Tree) (t : Tree) → is_body t ≡ true → sta
 body_admitted docs t b s e = let other : (length docs == most_documents) ≡ false = grind (arith, nat_tests, e) in rw (b, s, other) refl
 
 -- a blank line says nothing
-pub said_blank : (docs : List Tree) (line : List ℕ) → is_blank line ≡ true → said docs line ≡ nothing
+pub said_blank : (docs : List Tree) (line : List ℕ) → is_blank_line line ≡ true → said docs line ≡ nothing
 unfolding said
 said_blank docs line b = rw b refl
 
 -- any other says what its reading does
-pub said_line : (docs : List Tree) (line : List ℕ) → is_blank line ≡ false → said docs line ≡ of_outcome docs (outcome deepest_document line)
+pub said_line : (docs : List Tree) (line : List ℕ) → is_blank_line line ≡ false → said docs line ≡ of_outcome docs (outcome deepest_document line)
 unfolding said
 said_line docs line b = rw b refl
 
-pub said_value : (docs : List Tree) (line : List ℕ) (t : Tree) → is_blank line ≡ false → outcome deepest_document line ≡ value t → said docs line ≡ of_body docs t
+pub said_value : (docs : List Tree) (line : List ℕ) (t : Tree) → is_blank_line line ≡ false → outcome deepest_document line ≡ value t → said docs line ≡ of_body docs t
 said_value docs line t b o = said_line docs line b ∙ ap (of_outcome docs) o

@@ -6,7 +6,7 @@ use Rattle.cs_value.specs.Tree.{Tree}
 use Rattle.cs_docs.specs.Limits.{most_documents}
 use Rattle.cs_view.specs.Dataset.{id_cmp, ascending}
 use Rattle.cs_view.specs.Document.{id_of}
-use Rattle.cs_view.specs.View.{doc}
+use Rattle.cs_view.specs.View.{document_of}
 use Rattle.cs_view.specs.declared.doc.Doc.{Doc}
 use Rattle.cs_load.specs.declared.loading.collected.Collected.{Collected}
 use Rattle.cs_load.specs.declared.loading.collected.Collected.TheVariants.{InOrder, ById}
@@ -20,14 +20,14 @@ IsGapFor id (d ∷ docs) (suc place) = (id_cmp id (id_of d) ≡ Greater) × IsGa
 
 -- the documents, in the order of the map
 abbrev pub gathered : List (List ℕ × Doc) → List Tree
-gathered es = map (λ e. doc e.1) es
+gathered es = map (λ e. document_of e.1) es
 
 -- each document stands at its id
 abbrev pub AreById : List (List ℕ × Doc) → Type 0
-AreById es = map (λ e. e.0) es ≡ map (λ e. id_of (doc e.1)) es
+AreById es = map (λ e. e.0) es ≡ map (λ e. id_of (document_of e.1)) es
 
 abbrev pub held : Collected → List Tree
-held (InOrder documents) = map doc documents.items
+held (InOrder documents) = map document_of documents.items
 held (ById documents) = gathered documents.entries
 
 -- the names in a map, and the ids of the documents there
@@ -37,12 +37,13 @@ names (ById documents) = map (λ e. e.0) documents.entries
 
 abbrev pub ids : Collected → List (List ℕ)
 ids (InOrder documents) = []
-ids (ById documents) = map (λ e. id_of (doc e.1)) documents.entries
+ids (ById documents) = map (λ e. id_of (document_of e.1)) documents.entries
 
 abbrev pub IsKept : Collected → Type 0
 IsKept c = (names c ≡ ids c) × (ascending (held c) ≡ true) × (length (held c) ≤ most_documents)
 
 -- a document with the id goes last, or into the map
 abbrev pub HasWay : List ℕ → Collected → Type 0
-HasWay id (InOrder documents) = IsGapFor id (map doc documents.items) (length documents.items)
+HasWay id (InOrder documents) = IsGapFor id (map document_of documents.items)
+    (length documents.items)
 HasWay id (ById documents) = ⊤

@@ -1,7 +1,7 @@
 -- What the reading of an opened data file answers on the way. For private clauses.
 use Rattle.std.specs.Prelude.{◌≡◌, ℕ, List, map, Option, None, Some, Result, Ok, Err, Vec, ⊤}
 use Rattle.std.specs.declared.alloc.Global.{Global}
-use Rattle.cs_view.specs.View.{doc}
+use Rattle.cs_view.specs.View.{document_of}
 use Rattle.cs_view.specs.declared.doc.Doc.{Doc}
 use Rattle.cs_io.specs.Causes.{Rose}
 use Rattle.cs_io.specs.declared.lines.LineFault.{LineFault}
@@ -43,7 +43,7 @@ of_store_fault store.NoMemory = NoMemory
 -- the documents, whose references are still to be looked at, or the fault that the outcome is
 abbrev pub ReadsAs : Result (Vec Doc Global) LoadFault → Loaded → Type 0
 ReadsAs (Ok v) outcome =
-    outcome ≡ of_references (map doc v.items) (first_dangling (map doc v.items))
+    outcome ≡ of_references (map document_of v.items) (first_dangling (map document_of v.items))
 ReadsAs (Err fault) outcome = Loads (Err fault) outcome
 
 -- the same, where the bytes are told

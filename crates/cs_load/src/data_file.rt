@@ -1,7 +1,7 @@
-// The loading of a data file.
+//! The loading of a data file.
 ghost use Rattle.std.specs.Prelude.{◌≡◌, ◌≤◌, ℕ, true, length, map, IfOk, IfErr};
 ghost use Rattle.cs_view.specs.Dataset.{ascending};
-ghost use Rattle.cs_view.specs.View.{doc};
+ghost use Rattle.cs_view.specs.View.{document_of};
 ghost use Rattle.cs_io.specs.Names.{told_bytes, is_open};
 ghost use Rattle.cs_io.specs.Reader.{OnlyReads};
 ghost use Rattle.cs_machine.specs.DataFile.{of_references};
@@ -65,9 +65,10 @@ fn read_lines<Lb: Library>(
 ) -> Result<Vec<Doc>, LoadFault>
     requires opened { is_open (Lb.asked library.old) which ≡ true }
     ensures reads { ToldRead result (Lb.left library.old which) }
-    ensures ascends { IfOk result (λ documents. ascending (map doc documents.items) ≡ true) }
+    ensures ascends { IfOk result (λ documents. ascending (map document_of documents.items)
+        ≡ true) }
     ensures within { IfOk result
-        (λ documents. length (map doc documents.items) ≤ most_documents) }
+        (λ documents. length (map document_of documents.items) ≤ most_documents) }
     ensures fault { IfErr result (ReadFails (Lb.read_faults library.old)
         (Lb.read_faults library.new)) }
     ensures calls { OnlyReads Lb.files Lb.asked Lb.open_faults Lb.read_faults library.old
@@ -97,10 +98,10 @@ fn store_fault(fault: PrepareFault) -> LoadFault
 
 // The store of the documents, where no reference of them dangles.
 fn with_references(alloc: Global, documents: Vec<Doc>) -> Result<Docs, LoadFault>
-    requires ascends { ascending (map doc documents.items) ≡ true }
-    requires within { length (map doc documents.items) ≤ most_documents }
-    ensures loads { Loads result (of_references (map doc documents.items)
-        (first_dangling (map doc documents.items))) }
+    requires ascends { ascending (map document_of documents.items) ≡ true }
+    requires within { length (map document_of documents.items) ≤ most_documents }
+    ensures loads { Loads result (of_references (map document_of documents.items)
+        (first_dangling (map document_of documents.items))) }
     ensures fault { (before now : ℕ) → IfErr result (ReadFails before now) }
 {
     match Docs::gathered(alloc, documents) {

@@ -1,9 +1,9 @@
-// The document that a body of a data file is.
+//! The document that a body of a data file is.
 ghost use Rattle.std.specs.Prelude.{◌≡◌, true, OnOk, IfOk};
 ghost use Rattle.cs_value.specs.Tree.{object};
 ghost use Rattle.cs_value.specs.View.{tree, fields};
 ghost use Rattle.cs_view.specs.Document.{is_body, is_shallow};
-ghost use Rattle.cs_view.specs.View.{doc};
+ghost use Rattle.cs_view.specs.View.{document_of};
 ghost use Rattle.cs_machine.specs.DataFile.{with_default, imported};
 
 use cs_txn::{has_text, put_text};
@@ -44,7 +44,7 @@ fn put_defaults(alloc: Global, attributes: &mut Fields) -> Result<(), NoMemory>
 pub(crate) fn imported(alloc: Global, body: Val) -> Result<Doc, NoMemory>
     requires body { is_body (tree body) ≡ true }
     requires shallow { is_shallow (tree body) ≡ true }
-    ensures { IfOk result (λ d. doc d ≡ imported (tree body)) }
+    ensures { IfOk result (λ d. document_of d ≡ imported (tree body)) }
 {
     let Val::Obj(mut attributes) = body else {
         unreachable!()

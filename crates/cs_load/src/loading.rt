@@ -5,7 +5,7 @@ ghost use Rattle.cs_value.specs.View.{tree};
 ghost use Rattle.cs_json.specs.Reading.{outcome, value};
 ghost use Rattle.cs_view.specs.Dataset.{ascending};
 ghost use Rattle.cs_view.specs.Document.{is_body, is_shallow, id_of, deepest_document};
-ghost use Rattle.cs_view.specs.View.{doc};
+ghost use Rattle.cs_view.specs.View.{document_of};
 ghost use Rattle.cs_machine.specs.DataFile.{a_document, imported, of_body, of_outcome, said};
 ghost use Rattle.cs_load.specs.Gathered.{held, HasWay, IsKept};
 ghost use Rattle.cs_load.specs.Refusals.{IsRefused};
@@ -133,11 +133,11 @@ impl Loading {
 
     /// The documents, moved and not copied.
     pub(crate) fn into_docs(self) -> Result<Vec<Doc>, NoMemory>
-        ensures these { IfOk result (λ documents. map doc documents.items ≡ so_far self) }
+        ensures these { IfOk result (λ documents. map document_of documents.items ≡ so_far self) }
         ensures ascends { IfOk result
-            (λ documents. ascending (map doc documents.items) ≡ true) }
+            (λ documents. ascending (map document_of documents.items) ≡ true) }
         ensures within { IfOk result
-            (λ documents. length (map doc documents.items) ≤ most_documents) }
+            (λ documents. length (map document_of documents.items) ≤ most_documents) }
     {
         let Loading {
             alloc,

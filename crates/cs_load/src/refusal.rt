@@ -1,4 +1,4 @@
-// Why a line of a data file is not taken.
+//! Why a line of a data file is not taken.
 ghost use Rattle.std.specs.Prelude.{List};
 ghost use Rattle.cs_value.specs.Tree.{Tree};
 ghost use Rattle.cs_json.specs.Reading.{Outcome, IsCause};

@@ -4,22 +4,22 @@ use Rattle.std.specs.List.{filter}
 use Rattle.std.proofs.lemmas.Bool.{leb-false}
 use Rattle.cs_value.specs.Tree.{Tree}
 use Rattle.cs_machine.specs.Laws.{RunsStayWithinLimits}
-use Rattle.cs_live.specs.Lives.{LiveQuery, all_refreshed, has_live_name, without_name, most_lives}
+use Rattle.cs_live.specs.Lives.{LiveQuery, all_refreshed, has_live_name, without_name, most_subscriptions}
 use Rattle.cs_listen.specs.Listeners.{has_name}
 use Rattle.cs_machine.specs.State.{State, begun}
 use Rattle.cs_machine.proofs.Steps.{Cases, lines-keep}
 
 abbrev IsLimited : State → Type 0
-IsLimited s = (length s.lives ≤ most_lives) × (length s.listeners ≤ most_lives)
+IsLimited s = (length s.lives ≤ most_subscriptions) × (length s.listeners ≤ most_subscriptions)
 
 one_more : {X : Type 0} (xs : List X) (y : X) → length (xs ++ y ∷ []) ≡ length xs + 1
 one_more [] y = refl
 one_more (x ∷ xs) y = let rest = one_more xs y in omega (arith, rest)
 
-room_for : {X : Type 0} (xs : List X) (y : X) → nat_le most_lives (length xs) ≡ false
-    → length (xs ++ y ∷ []) ≤ most_lives
+room_for : {X : Type 0} (xs : List X) (y : X) → nat_le most_subscriptions (length xs) ≡ false
+    → length (xs ++ y ∷ []) ≤ most_subscriptions
 room_for xs y h =
-    let below : length xs < most_lives = leb-false most_lives (length xs) h in
+    let below : length xs < most_subscriptions = leb-false most_subscriptions (length xs) h in
     rw (one_more xs y) (omega (arith, below))
 
 as_many : (docs : List Tree) (es : List LiveQuery) → length (all_refreshed docs es) ≡ length es
@@ -46,8 +46,8 @@ without_fewer name (e ∷ es) =
     without_one (has_live_name name e) e es (without_name name es) (without_fewer name es)
 
 stopped_limited : (name : List ℕ) (s : State) → IsLimited s
-    → (length (without_name name s.lives) ≤ most_lives)
-    × (length (filter (λ l. not (has_name name l)) s.listeners) ≤ most_lives)
+    → (length (without_name name s.lives) ≤ most_subscriptions)
+    × (length (filter (λ l. not (has_name name l)) s.listeners) ≤ most_subscriptions)
 stopped_limited name s h =
     let lives = without_fewer name s.lives in
     let listeners = filter_fewer (λ l. not (has_name name l)) s.listeners in

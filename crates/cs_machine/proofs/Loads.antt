@@ -17,7 +17,7 @@ use Rattle.cs_reply.specs.Stated.{no_document, repeated, full}
 use Rattle.serde_json.specs.Data.{Data, depth as data_depth}
 use Rattle.cs_machine.specs.DataFile.{imported, Said, nothing, a_document, refused, of_body, of_outcome, said, Loaded, dataset, of_references, after_said, loaded_from}
 use Rattle.cs_machine.specs.Laws.{IsHeld, LoadedDatasetsAreHeld}
-use Rattle.cs_wire.specs.Blank.{is_blank}
+use Rattle.cs_wire.specs.Blank.{is_blank_line}
 use Rattle.cs_machine.proofs.Imported.{imported-document}
 use Rattle.cs_machine.proofs.Steps.{either}
 
@@ -81,7 +81,7 @@ said_fits : (docs : List Tree) (line : List ℕ) → length docs ≤ most_docume
     → Fits docs (said docs line)
 unfolding said
 said_fits docs line within =
-    either (Fits docs) (is_blank line) nothing (of_outcome docs (outcome deepest_document line))
+    either (Fits docs) (is_blank_line line) nothing (of_outcome docs (outcome deepest_document line))
     (λ blank. tt)
     (λ some. outcome_fits docs (outcome deepest_document line) within (outcome_shallow line))
 

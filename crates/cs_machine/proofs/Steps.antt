@@ -18,8 +18,8 @@ use Rattle.cs_body.specs.Transaction.{Transaction}
 use Rattle.cs_txn.specs.Refused.{Refused, Outcome as Committed}
 use Rattle.cs_machine.specs.Causes.{of_fault}
 use Rattle.cs_machine.specs.Fold.{Stepped}
-use Rattle.cs_live.specs.Lives.{LiveQuery, value_of, made, most_lives}
-use Rattle.cs_wire.specs.Blank.{is_blank}
+use Rattle.cs_live.specs.Lives.{LiveQuery, value_of, made, most_subscriptions}
+use Rattle.cs_wire.specs.Blank.{is_blank_line}
 use Rattle.cs_machine.specs.Machine.{deepest_line, by_command, heard, step, state_after}
 use Rattle.cs_wire.specs.Moments.{is_moment}
 use Rattle.cs_machine.specs.Refused.{refuse, by_reading}
@@ -37,9 +37,9 @@ pub record Cases (P : Stepped State → Type 0) (s : State) : Type 0 where
       → P (installed s txn.id docs (changes_between s.docs docs))
   pub finds : (t : Tree) → P (answered s (found t))
   pub adds_live : (l : LiveQuery) → is_taken l.name s ≡ false
-      → nat_le most_lives (length s.lives) ≡ false → l.last ≡ value_of s.docs l → P (lively s l)
+      → nat_le most_subscriptions (length s.lives) ≡ false → l.last ≡ value_of s.docs l → P (lively s l)
   pub adds_listener : (l : Listener) → is_taken l.name s ≡ false
-      → nat_le most_lives (length s.listeners) ≡ false → P (listening s l)
+      → nat_le most_subscriptions (length s.listeners) ≡ false → P (listening s l)
   pub stops : (name : List ℕ) → P (answered (without_named name s) (stopped name))
   pub sets : (moment : List ℕ) → P (answered (with_moment moment s) (set moment))
 
@@ -78,14 +78,14 @@ reading_case P s c (faulty f) next h = c.refuses (of_fault f)
 
 subscribing_case : (P : Stepped State → Type 0) (s : State) → Cases P s → (name : List ℕ)
     (count : ℕ) (next : Stepped State)
-    → (is_taken name s ≡ false → nat_le most_lives count ≡ false → P next)
+    → (is_taken name s ≡ false → nat_le most_subscriptions count ≡ false → P next)
     → P (subscribing s name count next)
 subscribing_case P s c name count next h =
     either P (is_taken name s) (refuse s (why.name_used name))
-    (cond (nat_le most_lives count) (refuse s (why.full_subscriptions most_lives)) next)
+    (cond (nat_le most_subscriptions count) (refuse s (why.full_subscriptions most_subscriptions)) next)
     (λ taken. c.refuses (why.name_used name))
-    (λ free. either P (nat_le most_lives count) (refuse s (why.full_subscriptions most_lives)) next
-    (λ full. c.refuses (why.full_subscriptions most_lives)) (λ room. h free room))
+    (λ free. either P (nat_le most_subscriptions count) (refuse s (why.full_subscriptions most_subscriptions)) next
+    (λ full. c.refuses (why.full_subscriptions most_subscriptions)) (λ room. h free room))
 
 filter_case : (P : Stepped State → Type 0) (s : State) → Cases P s → (name : List ℕ)
     (params : Pairs) (result previous : Bool) (f : Option Expression)
@@ -148,7 +148,7 @@ pub step-case : (P : Stepped State → Type 0) (s : State) → Cases P s → (n 
     → P (step s n line)
 unfolding step
 step-case P s c n line =
-    either P (is_blank line) (record { state = s; replies = [] })
+    either P (is_blank_line line) (record { state = s; replies = [] })
     (heard row s n (outcome deepest_line line)) (λ is. c.blank)
     (λ is. heard_case P s c n (outcome deepest_line line))
 

@@ -9,7 +9,7 @@ use Rattle.cs_docs.specs.Limits.{most_documents}
 use Rattle.cs_docs.specs.References.{first_dangling}
 use Rattle.cs_txn.specs.Install.{with_text}
 use Rattle.cs_reply.specs.Stated.{Cause, no_json, deep, fraction, no_document, repeated, full, Stop, long_line, much, bad, dangling, data_file}
-use Rattle.cs_wire.specs.Blank.{is_blank}
+use Rattle.cs_wire.specs.Blank.{is_blank_line}
 use Rattle.cs_machine.specs.State.{first_moment}
 
 -- an attribute that is no text becomes this one
@@ -45,7 +45,7 @@ of_outcome docs (value t) = of_body docs t
 
 -- the line, after these documents
 unfoldable pub said : List Tree → List ℕ → Said
-said docs line = cond (is_blank line) nothing (of_outcome docs (outcome deepest_document line))
+said docs line = cond (is_blank_line line) nothing (of_outcome docs (outcome deepest_document line))
 
 -- how the reading of a data file ends: with a dataset, or it is stopped
 pub data Loaded : Type 0 where

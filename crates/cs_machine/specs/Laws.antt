@@ -9,7 +9,7 @@ use Rattle.std.specs.Str.{bytes_eq}
 use Rattle.cs_reply.specs.Reply.{live, committed}
 use Rattle.cs_gen.specs.Summary.{is_refusal as refuses}
 use Rattle.cs_machine.specs.DataFile.{dataset, loaded}
-use Rattle.cs_live.specs.Lives.{LiveQuery, value_of, has_live_name, most_lives}
+use Rattle.cs_live.specs.Lives.{LiveQuery, value_of, has_live_name, most_subscriptions}
 use Rattle.cs_machine.specs.Machine.{step, state_after, written}
 use Rattle.cs_machine.specs.Replies.{Reply, said, not_done}
 use Rattle.cs_listen.specs.Listeners.{has_name}
@@ -66,8 +66,8 @@ RunsNameOnce =
 abbrev pub RunsStayWithinLimits : Type 0
 RunsStayWithinLimits =
     (docs : List Tree) (n : ℕ) (lines : List (List ℕ))
-    → (length (state_after (begun docs) n lines).lives ≤ most_lives)
-    × (length (state_after (begun docs) n lines).listeners ≤ most_lives)
+    → (length (state_after (begun docs) n lines).lives ≤ most_subscriptions)
+    × (length (state_after (begun docs) n lines).listeners ≤ most_subscriptions)
 
 -- the reply says that its line is refused
 abbrev pub is_refusal : Reply → Bool

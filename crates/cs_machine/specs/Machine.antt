@@ -3,7 +3,7 @@
 use Rattle.std.specs.Prelude.{ℕ, List, [], cond, Option, Some, None}
 use Rattle.cs_value.specs.Tree.{Tree}
 use Rattle.cs_json.specs.Reading.{Outcome, not_json, too_deep, not_whole, value, outcome}
-use Rattle.cs_wire.specs.Blank.{is_blank}
+use Rattle.cs_wire.specs.Blank.{is_blank_line}
 use Rattle.cs_wire.specs.Commands.{Request}
 use Rattle.cs_wire.specs.Rows.{command}
 use Rattle.cs_reply.specs.Refusal as why
@@ -39,7 +39,7 @@ heard rows s n (value t) = obeyed rows s n t
 -- what the line with this number leads to, by the table of the commands: a blank line to nothing
 abbrev pub step_by : Table → State → ℕ → List ℕ → Stepped State
 step_by rows s n line =
-    cond (is_blank line) (record { state = s; replies = [] })
+    cond (is_blank_line line) (record { state = s; replies = [] })
     (heard rows s n (outcome deepest_line line))
 
 -- the step of the plain machine

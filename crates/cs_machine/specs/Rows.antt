@@ -18,7 +18,7 @@ use Rattle.cs_txn.specs.Commit.{commit}
 use Rattle.cs_body.specs.Transaction.{Transaction}
 use Rattle.cs_txn.specs.Refused.{Outcome}
 use Rattle.cs_machine.specs.Fold.{Stepped}
-use Rattle.cs_live.specs.Lives.{LiveQuery, Said, made, news, all_refreshed, without_name, most_lives}
+use Rattle.cs_live.specs.Lives.{LiveQuery, Said, made, news, all_refreshed, without_name, most_subscriptions}
 use Rattle.cs_wire.specs.Moments.{is_moment}
 use Rattle.cs_machine.specs.Refused.{refuse, with_query}
 use Rattle.cs_machine.specs.Replies.{said, not_done}
@@ -80,7 +80,7 @@ lively s l = answered (with_lives (s.lives ++ l ∷ []) s) (plain.live l.name l.
 abbrev pub subscribing : State → List ℕ → ℕ → Stepped State → Stepped State
 subscribing s name count next =
     cond (is_taken name s) (refuse s (name_used name))
-    (cond (nat_le most_lives count) (refuse s (full_subscriptions most_lives)) next)
+    (cond (nat_le most_subscriptions count) (refuse s (full_subscriptions most_subscriptions)) next)
 
 abbrev pub row_live : State → List ℕ → List ℕ → Pairs → Stepped State
 row_live s name text params =

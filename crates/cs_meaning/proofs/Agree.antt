@@ -4,7 +4,7 @@ use Rattle.std.specs.Prelude.{⊤, filter, flat_map}
 use Rattle.std.specs.Option.{option_map_or}
 use Rattle.cs_value.specs.Words.{as_list, list_of}
 use Rattle.cs_value.specs.Tree.{Tree, null}
-use Rattle.cs_view.specs.Keys.{Sel}
+use Rattle.cs_view.specs.Keys.{having}
 use Rattle.cs_view.specs.declared.key.Key.{Key}
 use Rattle.cs_meaning.specs.Joining.{mapped, flat_elements, flattened, entered, onward}
 use Rattle.cs_meaning.specs.Looked.{each_looked, entered_looked, onward_looked}
@@ -19,7 +19,7 @@ use Rattle.cs_meaning.specs.declared.join.Way.TheVariants.{Through, Over, After,
 -- the same documents have each of these keys
 abbrev pub AllSame : List Tree → List Tree → List Key → Type 0
 AllSame d1 d2 [] = ⊤
-AllSame d1 d2 (k ∷ ks) = (Sel k d1 ≡ Sel k d2) × AllSame d1 d2 ks
+AllSame d1 d2 (k ∷ ks) = (having k d1 ≡ having k d2) × AllSame d1 d2 ks
 
 pub left : (d1 d2 : List Tree) (a b : List Key) → AllSame d1 d2 (a ++ b) → AllSame d1 d2 a
 left d1 d2 [] b h = tt

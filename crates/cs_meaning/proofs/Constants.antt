@@ -7,12 +7,12 @@ use Rattle.cs_ops.specs.Equal.{equal}
 use Rattle.cs_syntax.specs.declared.tree.PreSign.TheVariants as sign
 use Rattle.cs_syntax.specs.Expression.{Expression, bool_literal, number_literal, text_literal, param, word, parent, chain, prefix, attr, bracket, Steps, no_steps, more_steps}
 use Rattle.cs_view.specs.Keys.{equals}
-use Rattle.cs_value.specs.Words.{followed}
+use Rattle.cs_value.specs.Words.{followed, field}
 use Rattle.cs_view.specs.declared.key.Scalar.{Scalar}
 use Rattle.cs_view.specs.declared.key.Scalar.TheVariants.{Bool as Boolean, Num, Text}
 use Rattle.cs_plan.specs.Constants.{literal, scalar_of, at_names, constant}
 use Rattle.cs_plan.specs.Filters.{few, path_of}
-use Rattle.cs_plan.specs.Steps.{in_scope, field, names_of}
+use Rattle.cs_plan.specs.Steps.{in_scope, names_of}
 use Rattle.cs_meaning.specs.Values.{value, rest_value, pipes_value}
 
 -- the value of a scalar

@@ -3,10 +3,9 @@ use Rattle.std.proofs.Common.{◌≡◌, Bool, true, false, cond, ◌&&◌, List
 use Rattle.std.specs.Prelude.{flat_map}
 use Rattle.std.specs.Option.{option_map_or}
 use Rattle.cs_value.specs.Tree.{Tree, Pairs}
-use Rattle.cs_value.specs.Words.{is_object, as_list, list_of}
-use Rattle.cs_func.specs.Lists.{is_null}
+use Rattle.cs_value.specs.Words.{is_object, as_list, list_of, is_null}
 use Rattle.cs_syntax.specs.Expression.{Expression, everything, round, call, array, object_literal, chain, prefix, run, within, between, Operands, no_operands, more_operands, Step, attr, deref, each, slice, bracket, project, pipe, Steps, no_steps, more_steps, Entry, keyed, bare, when, spread, Entries, no_entries, more_entries, Element, element, spread_element, Elements, no_elements, more_elements, Argument, argument, when_argument, Arguments, no_arguments, more_arguments, order_key, OrderKeys, no_keys, more_keys}
-use Rattle.cs_view.specs.Keys.{Sel}
+use Rattle.cs_view.specs.Keys.{having}
 use Rattle.cs_view.specs.declared.key.Key.{Key}
 use Rattle.cs_plan.specs.Filters.{key_in}
 use Rattle.cs_plan.specs.Simple.{is_quiet, quiet_operands, quiet_argument, quiet_arguments, quiet_element, quiet_elements, quiet_entry, quiet_entries, quiet_step, quiet_steps, quiet_keys}
@@ -198,7 +197,7 @@ module _ (docs : List Tree) (params : Pairs) where
   pub filter-alone : (e : Expression) (ss : Steps) (scope : List Tree) → is_quiet e ≡ true → quiet_steps ss ≡ true → filter_looked docs params (more_steps (bracket e) ss) scope ≡ key_in e scope params ∷ []
   filter-alone e ss scope qe qs =
       ap (λ ks. key_in e scope params ∷ ks)
-      (none (flat_map (λ d. looked docs params e (d ∷ scope)) (Sel (key_in e scope params) docs))
+      (none (flat_map (λ d. looked docs params e (d ∷ scope)) (having (key_in e scope params) docs))
       (entered_looked (entrance (kind ss)) (rest_looked docs params ss scope) (step_value docs params (bracket e) scope (list_of docs)))
-      (flat-none (λ d. looked docs params e (d ∷ scope)) (λ d. silent e qe (d ∷ scope)) (Sel (key_in e scope params) docs))
+      (flat-none (λ d. looked docs params e (d ∷ scope)) (λ d. silent e qe (d ∷ scope)) (having (key_in e scope params) docs))
       (entered-none (entrance (kind ss)) (rest_looked docs params ss scope) (silent-rest ss qs scope) (step_value docs params (bracket e) scope (list_of docs))))

@@ -5,9 +5,8 @@ use Rattle.std.specs.Option.{option_map_or}
 use Rattle.std.proofs.lemmas.Slice.Eq.{bytes_eq-Decides}
 use Rattle.cs_value.specs.Tree.{Tree, null, boolean, integer, text, list, object, Pairs, no_pairs}
 use Rattle.cs_value.specs.Pairs.{put}
-use Rattle.cs_value.specs.Words.{is_object, as_list, list_of}
+use Rattle.cs_value.specs.Words.{is_object, as_list, list_of, is_null}
 use Rattle.cs_value.proofs.Views.{members-trees}
-use Rattle.cs_func.specs.Lists.{is_null}
 use Rattle.cs_ops.specs.Operators as operators
 use Rattle.cs_ops.specs.Truth.{truth, said, both, either}
 use Rattle.cs_ops.specs.declared.op.Op.{Op}
@@ -15,9 +14,9 @@ use Rattle.cs_ops.specs.declared.op.Op.TheVariants.{And, Or}
 use Rattle.cs_syntax.specs.Brackets.{key_of}
 use Rattle.cs_syntax.specs.Faults.{is_path}
 use Rattle.cs_syntax.specs.Expression.{Expression, everything, round, call, array, object_literal, chain, prefix, run, within, between, Operands, no_operands, more_operands, Step, attr, deref, each, slice, bracket, project, pipe, Steps, no_steps, more_steps, Entry, keyed, bare, when, spread, Entries, no_entries, more_entries, Element, element, spread_element, Elements, no_elements, more_elements, Argument, argument, when_argument, Arguments, no_arguments, more_arguments, order_key, OrderKeys, no_keys, more_keys}
-use Rattle.cs_view.specs.Dataset.{At, same_id}
+use Rattle.cs_view.specs.Dataset.{standing, same_id}
 use Rattle.cs_view.specs.Document.{id_of}
-use Rattle.cs_view.specs.Keys.{has, Sel}
+use Rattle.cs_view.specs.Keys.{has, having}
 use Rattle.cs_view.specs.declared.key.Key.{Key}
 use Rattle.cs_view.specs.declared.key.Key.TheVariants.{All, Id}
 use Rattle.cs_plan.specs.Filters.{key_in}
@@ -42,7 +41,7 @@ filter-all : (xs : List Tree) → filter (has All) xs ≡ xs
 filter-all [] = refl
 filter-all (x ∷ xs) = ap (λ ys. x ∷ ys) (filter-all xs)
 
-all-same : (d1 d2 : List Tree) → Sel All d1 ≡ Sel All d2 → d1 ≡ d2
+all-same : (d1 d2 : List Tree) → having All d1 ≡ having All d2 → d1 ≡ d2
 all-same d1 d2 h = sym (filter-all d1) ∙ (h ∙ filter-all d2)
 
 -- the document of an id is the first of those that have its key
@@ -54,9 +53,9 @@ cond-first : (b : Bool) (d : Tree) (ds : List Tree) (v : Option Tree) → unwrap
 cond-first true d ds v h = refl
 cond-first false d ds v h = h
 
-at-first : (t : List ℕ) (ds : List Tree) → unwrap_or (At t ds) null ≡ first_of_all (Sel (Id t) ds)
+at-first : (t : List ℕ) (ds : List Tree) → unwrap_or (standing t ds) null ≡ first_of_all (having (Id t) ds)
 at-first t [] = refl
-at-first t (d ∷ ds) = cond-first (same_id t (id_of d)) d (Sel (Id t) ds) (At t ds) (at-first t ds)
+at-first t (d ∷ ds) = cond-first (same_id t (id_of d)) d (having (Id t) ds) (standing t ds) (at-first t ds)
 
 sought-agree : (d1 d2 : List Tree) (o : Option (List ℕ)) → Same d1 d2 (id_looked o) (id_looked o) (sought d1 o) (sought d2 o)
 sought-agree d1 d2 None h = (refl, refl)
@@ -164,14 +163,14 @@ module _ (d1 d2 : List Tree) (params : Pairs) where
   -- the documents that a `*` with a filter leaves, and what finding them looks up
   left-agree : (e : Expression) (scope : List Tree)
       → Agree d1 d2 (λ x. looked d1 params e (x ∷ scope)) (λ x. looked d2 params e (x ∷ scope)) (λ x. value d1 params e (x ∷ scope)) (λ x. value d2 params e (x ∷ scope))
-      → Sel (key_in e scope params) d1 ≡ Sel (key_in e scope params) d2
-      → Same d1 d2 (flat_map (λ x. looked d1 params e (x ∷ scope)) (Sel (key_in e scope params) d1)) (flat_map (λ x. looked d2 params e (x ∷ scope)) (Sel (key_in e scope params) d2))
+      → having (key_in e scope params) d1 ≡ having (key_in e scope params) d2
+      → Same d1 d2 (flat_map (λ x. looked d1 params e (x ∷ scope)) (having (key_in e scope params) d1)) (flat_map (λ x. looked d2 params e (x ∷ scope)) (having (key_in e scope params) d2))
       (left_by d1 params e scope) (left_by d2 params e scope)
   left-agree e scope h same s =
       let k = key_in e scope params in
       let w1 = filter-within (λ x. is_true (value d1 params e (x ∷ scope))) (has k) (λ x t. true-has_key d1 params e scope x t) d1 in
       let w2 = filter-within (λ x. is_true (value d2 params e (x ∷ scope))) (has k) (λ x t. true-has_key d2 params e scope x t) d2 in
-      let a = filter-agree d1 d2 (λ x. looked d1 params e (x ∷ scope)) (λ x. looked d2 params e (x ∷ scope)) (λ x. value d1 params e (x ∷ scope)) (λ x. value d2 params e (x ∷ scope)) h (Sel k d1) s in (
+      let a = filter-agree d1 d2 (λ x. looked d1 params e (x ∷ scope)) (λ x. looked d2 params e (x ∷ scope)) (λ x. value d1 params e (x ∷ scope)) (λ x. value d2 params e (x ∷ scope)) h (having k d1) s in (
         w1 ∙ (a.0 ∙ (ap (filter (λ x. is_true (value d2 params e (x ∷ scope)))) same ∙ sym w2)),
         a.1 ∙ ap (flat_map (λ x. looked d2 params e (x ∷ scope))) same,
       )
@@ -193,8 +192,8 @@ module _ (d1 d2 : List Tree) (params : Pairs) where
       → Agree d1 d2 (rest_looked d1 params ss scope) (rest_looked d2 params ss scope) (rest_value d1 params ss scope) (rest_value d2 params ss scope)
       → FilterSound (more_steps (bracket e) ss) scope
   filter-parts e ss scope c h r s =
-      let f1 = flat_map (λ x. looked d1 params e (x ∷ scope)) (Sel (key_in e scope params) d1) in
-      let f2 = flat_map (λ x. looked d2 params e (x ∷ scope)) (Sel (key_in e scope params) d2) in
+      let f1 = flat_map (λ x. looked d1 params e (x ∷ scope)) (having (key_in e scope params) d1) in
+      let f2 = flat_map (λ x. looked d2 params e (x ∷ scope)) (having (key_in e scope params) d2) in
       let v1 = step_value d1 params (bracket e) scope (list_of d1) in
       let v2 = step_value d2 params (bracket e) scope (list_of d2) in
       let a = then-agree d1 d2 f1 f2 v1 v2

@@ -4,7 +4,7 @@ use Rattle.std.specs.Prelude.{ℕ, length, filter, List, [], ◌∷◌, ◌++◌
 use Rattle.cs_value.specs.Words.{list_of}
 use Rattle.cs_value.specs.Tree.{Tree, null, Pairs}
 use Rattle.cs_syntax.specs.Expression.{Expression}
-use Rattle.cs_view.specs.Keys.{Sel}
+use Rattle.cs_view.specs.Keys.{having}
 use Rattle.cs_view.specs.declared.key.Key.{Key}
 use Rattle.cs_plan.specs.Simple.{filter_of, tail_of, steps_behind, query_key}
 use Rattle.cs_meaning.specs.Joining.{kind, entrance, entered}
@@ -41,4 +41,4 @@ tail e params ds = tail_over [] e params ds
 
 -- How many documents have the key of the query.
 abbrev pub cost : Expression → Pairs → List Tree → ℕ
-cost e params docs = length (Sel (query_key e params) docs)
+cost e params docs = length (having (query_key e params) docs)

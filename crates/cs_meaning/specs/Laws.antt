@@ -4,7 +4,7 @@ use Rattle.std.specs.List.Sorted.{IsStable}
 use Rattle.cs_value.specs.Tree.{Tree, null, Pairs}
 use Rattle.cs_syntax.specs.Expression.{Expression, Steps}
 use Rattle.cs_syntax.specs.Functions.{arity_of}
-use Rattle.cs_view.specs.Keys.{has, has_all, Sel}
+use Rattle.cs_view.specs.Keys.{has, has_all, having}
 use Rattle.cs_view.specs.declared.key.Key.{Key}
 use Rattle.cs_plan.specs.Filters.{filter_keys, key_in}
 use Rattle.cs_plan.specs.Simple.{is_quiet, is_simple, query_key}
@@ -17,7 +17,7 @@ use Rattle.cs_meaning.specs.Values.{value, rest_value, query_value}
 
 -- Two lists of documents have the same documents of each of these keys, in the same order.
 abbrev pub AgreeOn : List Key → List Tree → List Tree → Type 0
-AgreeOn keys d1 d2 = (k : Key) → Contains keys k → Sel k d1 ≡ Sel k d2
+AgreeOn keys d1 d2 = (k : Key) → Contains keys k → having k d1 ≡ having k d2
 
 -- What was looked up settles the value: over documents that agree on it the value is the same, and
 -- the same is looked up.
@@ -70,7 +70,7 @@ QuietAsksNothing = (e : Expression) (params : Pairs) (scope d1 d2 : List Tree) �
 -- The hits of a query are found among the documents that have its key.
 abbrev pub HitsHaveKey : Type 0
 HitsHaveKey = (e : Expression) (params : Pairs) (docs : List Tree)
-    → hits e params docs ≡ hits e params (Sel (query_key e params) docs)
+    → hits e params docs ≡ hits e params (having (query_key e params) docs)
 
 -- A rest of a chain gives null of null.
 abbrev pub RestKeepsNull : Type 0

@@ -4,10 +4,9 @@
 use Rattle.std.specs.Prelude.{ℕ, Bool, true, false, ◌&&◌, List, [], ◌∷◌, ◌++◌, flat_map, Option, Some, None, if◌then◌else◌}
 use Rattle.std.specs.Option.{option_map_or}
 use Rattle.cs_value.specs.Tree.{Tree, null, Pairs}
-use Rattle.cs_value.specs.Words.{is_object, as_list, list_of}
-use Rattle.cs_func.specs.Lists.{is_null}
+use Rattle.cs_value.specs.Words.{is_object, as_list, list_of, is_null}
 use Rattle.cs_syntax.specs.Expression.{Expression, everything, round, call, array, object_literal, chain, prefix, run, within, between, Operands, no_operands, more_operands, Step, attr, deref, each, slice, bracket, project, pipe, Steps, no_steps, more_steps, Entry, keyed, bare, when, spread, Entries, no_entries, more_entries, Element, element, spread_element, Elements, no_elements, more_elements, Argument, argument, when_argument, Arguments, no_arguments, more_arguments, order_key, OrderKeys, no_keys, more_keys}
-use Rattle.cs_view.specs.Keys.{Sel}
+use Rattle.cs_view.specs.Keys.{having}
 use Rattle.cs_view.specs.declared.key.Key.{Key}
 use Rattle.cs_view.specs.declared.key.Key.TheVariants.{All, Id}
 use Rattle.cs_plan.specs.Steps.{Bracketed, position, named, condition, bracketed, is_order_name}
@@ -103,7 +102,7 @@ abbrev mutual
   pub filter_looked : List Tree → Pairs → Steps → List Tree → List Key
   filter_looked docs params (more_steps (bracket e) ss) scope =
       key_in e scope params
-      ∷ (flat_map (λ d. looked docs params e (d ∷ scope)) (Sel (key_in e scope params) docs)
+      ∷ (flat_map (λ d. looked docs params e (d ∷ scope)) (having (key_in e scope params) docs)
       ++ entered_looked (entrance (kind ss)) (rest_looked docs params ss scope)
       (step_value docs params (bracket e) scope (list_of docs)))
   filter_looked docs params _ scope = []

@@ -6,7 +6,7 @@ use Rattle.std.specs.List.{list_any}
 use Rattle.std.specs.Str.{bytes_eq}
 use Rattle.cs_value.specs.Tree.{Tree, null, boolean, Pairs}
 use Rattle.cs_value.specs.Pairs.{find, put}
-use Rattle.cs_value.specs.Words.{as_text, as_object, as_list, ref_of}
+use Rattle.cs_value.specs.Words.{as_text, as_object, as_list, ref_of, is_null}
 use Rattle.cs_syntax.specs.declared.tree.BinSign.{BinSign}
 use Rattle.cs_syntax.specs.declared.tree.BinSign.TheVariants as sign
 use Rattle.cs_syntax.specs.declared.tree.PreSign.{PreSign}
@@ -20,13 +20,12 @@ use Rattle.cs_ops.specs.declared.op.Op.TheVariants.{Add, Sub, Mul, Rem, Eq, Ne, 
 use Rattle.cs_ops.specs.declared.op.Pre.{Pre}
 use Rattle.cs_ops.specs.declared.op.Pre.TheVariants.{Minus, Plus, Not}
 use Rattle.cs_func.specs.Functions.{has_two, value}
-use Rattle.cs_func.specs.Lists.{is_null}
 use Rattle.cs_func.specs.Names.{named}
 use Rattle.cs_func.specs.PathPattern.{path_matches}
 use Rattle.cs_func.specs.Refers.{refers}
 use Rattle.cs_func.specs.Texts.{of_texts}
 use Rattle.cs_func.specs.declared.function.Function.{Function}
-use Rattle.cs_view.specs.Dataset.{At}
+use Rattle.cs_view.specs.Dataset.{standing}
 
 -- A value is `true`: "And operator".
 abbrev pub is_true : Tree → Bool
@@ -161,4 +160,4 @@ reference_of v = option_and_then reference_in (as_object v)
 
 -- The document of the dataset that has the id, null where none has: "Dereference".
 abbrev pub sought : List Tree → Option (List ℕ) → Tree
-sought docs id = unwrap_or (option_and_then (λ t. At t docs) id) null
+sought docs id = unwrap_or (option_and_then (λ t. standing t docs) id) null

@@ -6,12 +6,12 @@ use Rattle.std.specs.Prelude.{Bool, true, false, List, [], ◌∷◌, ◌++◌, 
 use Rattle.std.specs.Option.{option_map_or}
 use Rattle.cs_value.specs.Tree.{Tree, null, boolean, text, object, Pairs, no_pairs}
 use Rattle.cs_value.specs.Pairs.{put}
-use Rattle.cs_value.specs.Words.{as_object, as_list, list_of, of_list}
+use Rattle.cs_value.specs.Words.{as_object, as_list, list_of, of_list, field}
 use Rattle.cs_syntax.specs.Brackets.{key_of}
 use Rattle.cs_syntax.specs.Faults.{is_path}
 use Rattle.cs_syntax.specs.Expression.{Expression, null_literal, bool_literal, number_literal, text_literal, param, word, this, everything, parent, round, call, array, object_literal, chain, prefix, run, within, between, Operands, no_operands, more_operands, Step, attr, deref, each, slice, bracket, project, pipe, Steps, no_steps, more_steps, Entry, keyed, bare, when, spread, Entries, no_entries, more_entries, Element, element, spread_element, Elements, no_elements, more_elements, Argument, argument, when_argument, Arguments, no_arguments, more_arguments, order_key, OrderKeys, no_keys, more_keys}
 use Rattle.cs_ops.specs.Operators as operators
-use Rattle.cs_plan.specs.Steps.{in_scope, field, position_of, Bracketed, position, named, condition, bracketed, is_order_name}
+use Rattle.cs_plan.specs.Steps.{in_scope, position_of, Bracketed, position, named, condition, bracketed, is_order_name}
 use Rattle.cs_plan.specs.Constants.{literal}
 use Rattle.cs_meaning.specs.Joining.{form, kind, way, entrance, entered, onward, base_entrance}
 use Rattle.cs_meaning.specs.Operators.{is_true, operated, signed, in_list_or_path, sole, callee, called, or_else, parameter, spread_into, put_under, reference_of, sought}

@@ -21,7 +21,7 @@ use Rattle.cs_meaning.specs.Positions.{sliced, element, element_at, elements_bet
 use Rattle.cs_meaning.specs.Values.{in_bracket, rest_value}
 use Rattle.cs_meaning.specs.Looked.{entered_looked, onward_looked, bracket_looked, rest_looked}
 use Rattle.cs_order.specs.Asked.{slice_end, bracket_end, first_asked}
-use Rattle.cs_order.specs.First.{first_of, first_elements, all_kept}
+use Rattle.cs_order.specs.First.{limited, first_elements, all_kept}
 use Rattle.cs_order.specs.First.{in_order as kept_in_order}
 use Rattle.cs_order.proofs.Kept.{first_in_order}
 
@@ -32,7 +32,7 @@ some-is i j h = cc
 of-list : (f : List Tree → Tree) (ts : List Tree) → of_list f (list_of ts) ≡ f ts
 of-list f ts = ap f (members-trees ts)
 
-pub first-of-list : (limit : Option ℕ) (ts : List Tree) → first_elements limit (list_of ts) ≡ list_of (first_of limit ts)
+pub first-of-list : (limit : Option ℕ) (ts : List Tree) → first_elements limit (list_of ts) ≡ list_of (limited limit ts)
 first-of-list None ts = refl
 first-of-list (Some k) ts = of-list (λ us. list_of (take k us)) ts
 
@@ -188,14 +188,14 @@ pub first_null : (limit : Option ℕ) → first_elements limit null ≡ null
 first_null None = refl
 first_null (Some k) = refl
 
-items-first : (limit : Option ℕ) (rs : List Ranked) → map (λ r. r.item) (first_of limit rs) ≡ first_of limit (map (λ r. r.item) rs)
+items-first : (limit : Option ℕ) (rs : List Ranked) → map (λ r. r.item) (limited limit rs) ≡ limited limit (map (λ r. r.item) rs)
 items-first None rs = refl
 items-first (Some k) rs = sym (take-map (λ (r : Ranked). r.item) k rs)
 
 ordered-list : (ds : List Bool) (f : Tree → List Tree) (v : Tree) (ts : List Tree) → as_list v ≡ Some ts → ordered ds f v ≡ in_order ds (map (ranked f) ts)
 ordered-list ds f v ts h = ap (λ (o : Option (List Tree)). option_map_or (λ xs. in_order ds (map (ranked f) xs)) o null) h
 
-pub first_ordered : (ds : List Bool) (f : Tree → List Tree) (limit : Option ℕ) (v : Tree) (ts items : List Tree) (rs : List Ranked) → as_list v ≡ Some ts → rs ≡ first_of limit (sorted ds (map (ranked f) ts)) → items ≡ map (λ r. r.item) rs
+pub first_ordered : (ds : List Bool) (f : Tree → List Tree) (limit : Option ℕ) (v : Tree) (ts items : List Tree) (rs : List Ranked) → as_list v ≡ Some ts → rs ≡ limited limit (sorted ds (map (ranked f) ts)) → items ≡ map (λ r. r.item) rs
     → list_of items ≡ first_elements limit (ordered ds f v)
 first_ordered ds f limit v ts items rs h is-rs is-items =
     ap list_of (is-items ∙ (ap (map (λ (r : Ranked). r.item)) is-rs ∙ items-first limit (sorted ds (map (ranked f) ts))))

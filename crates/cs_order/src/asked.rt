@@ -1,7 +1,7 @@
 //! How many of the first elements of a list the rest of a chain looks at.
 ghost use Rattle.std.specs.Prelude.{◌≡◌, ◌≤◌, IfSome, Some, map, pos};
 ghost use Rattle.cs_syntax.specs.Expression.{steps_of};
-ghost use Rattle.cs_syntax.specs.View.{expression, step as step_of};
+ghost use Rattle.cs_syntax.specs.View.{expression, step_of};
 ghost use Rattle.cs_plan.specs.Steps.{bracketed, position_of as position_in};
 ghost use Rattle.cs_order.specs.Asked.{slice_end, bracket_end, step_end, first_asked};
 

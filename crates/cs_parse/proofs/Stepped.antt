@@ -9,7 +9,8 @@ use Rattle.cs_syntax.specs.declared.tree.BinSign.{BinSign}
 use Rattle.cs_syntax.specs.declared.tree.PreSign.{PreSign}
 use Rattle.cs_syntax.specs.Expression.{Tok, number_tok, text_tok, param_tok, word_tok, sign_tok, Expression, Step, Entry, Element, Argument, OrderKey}
 use Rattle.cs_grammar.specs.Spells.{comparison_op, prefix_op, range_of}
-use Rattle.cs_grammar.specs.Reading.{Goal, expr, expr_from, conjunction, cmp, cmp_from, sum, product, run_from, neg_from, pow, pow_from, pre_from, link, base, carets_from, steps_from, arrow_from, bracket_from, pipe_from, keys_from, next_key, args_from, arg_from, next_arg, elements_from, next_element, entries_from, keyed_from, next_entry, Outcome, fail, got, bind, Oracle, match_after, expect, after, after_sign, after_word, after_keyword, after_attribute, after_caret, op_of, operand_of, text_key, read_goal, read_call, read_word, read_sign, read_projection, read_keyed_pipe, read_in, read_spread, read_expr_from, read_cmp, read_run, read_neg, read_pow, read_pre, read_base, read_carets, read_steps, read_arrow, read_bracket, read_pipe, read_keys, read_next_key, read_arg, read_next_arg, read_elements, read_next_element, read_entries, read_keyed, read_next_entry}
+use Rattle.cs_grammar.specs.Reading.{Goal, expr, expr_from, conjunction, cmp, cmp_from, sum, product, run_from, neg_from, pow, pow_from, pre_from, link, base, carets_from, steps_from, arrow_from, bracket_from, pipe_from, keys_from, next_key, args_from, arg_from, next_arg, elements_from, next_element, entries_from, keyed_from, next_entry, Outcome, fail, got, bind, Oracle, match_after, expect, after, after_sign, after_word, after_keyword, after_attribute, after_caret, op_of, operand_of, read_goal, read_call, read_word, read_sign, read_projection, read_keyed_pipe, read_in, read_spread, read_expr_from, read_cmp, read_run, read_neg, read_pow, read_pre, read_base, read_carets, read_steps, read_arrow, read_bracket, read_pipe, read_keys, read_next_key, read_arg, read_next_arg, read_elements, read_next_element, read_entries, read_keyed, read_next_entry}
+use Rattle.cs_syntax.specs.Brackets.{text_alone}
 use Rattle.cs_parse.proofs.Same.{Same, same_fail, same_got, weaker, same_bind, same_match, shorter_sign, shorter_table, shorter_word, shorter_keyword, shorter_attribute, shorter_caret}
 
 -- how many steps may nest before a token is taken: a goal that is reached without one has a lower
@@ -326,7 +327,7 @@ module _ {f p : Oracle} {N : ℕ} (H : Agree f p N) where
       by_sign sign.FatArrow ts _ _
       (λ s h. by_first expr s _ (omega arith)
       (λ v t i. by_call (next_entry _) t (omega arith) (omega arith)))
-      (by_match (text_key e) _ _
+      (by_match (text_alone e) _ _
       (λ k is. by_sign sign.Colon ts _ _
       (λ s h. by_first expr s _ (omega arith)
       (λ v t i. by_call (next_entry _) t (omega arith) (omega arith)))

@@ -9,7 +9,7 @@ use Rattle.cs_syntax.specs.declared.query.Query.{Query}
 use Rattle.cs_syntax.specs.Expression.{Tok, Expression}
 use Rattle.cs_syntax.specs.Faults.{Fault, fault}
 use Rattle.cs_syntax.specs.Lex.{IsNext, IsTokens, Reads, meanings}
-use Rattle.cs_syntax.specs.Queries.{query as expression_of}
+use Rattle.cs_syntax.specs.Queries.{expression_of}
 use Rattle.cs_grammar.specs.declared.fault.GrammarFault.{GrammarFault}
 use Rattle.cs_grammar.specs.declared.fault.GrammarFault.TheVariants as grammar
 use Rattle.cs_grammar.specs.Parsing.{Parses}

@@ -8,7 +8,7 @@ use Rattle.cs_syntax.specs.declared.query.Query.{Query}
 use Rattle.cs_syntax.specs.Expression.{Tok, Expression}
 use Rattle.cs_syntax.specs.Faults.{Fault, fault, unsupported, unknown_function, arity, no_key}
 use Rattle.cs_syntax.specs.Lex.{IsTokens, IsBadAt, meanings}
-use Rattle.cs_syntax.specs.Queries.{query as expression_of}
+use Rattle.cs_syntax.specs.Queries.{expression_of}
 use Rattle.cs_grammar.specs.Spells.{Spells}
 use Rattle.cs_parse.specs.Depth.{IsTooDeep, is_deep}
 use Rattle.cs_parse.specs.Spelling.{expression_in}

@@ -1,4 +1,4 @@
-// How deep the brackets of a text nest.
+//! How deep the brackets of a text nest.
 ghost use Rattle.std.specs.Prelude.{◌≡◌, ◌↔◌, ◌^◌, ◌++◌, ◌∷◌, [], ℕ, List, IsTrue};
 ghost use Rattle.cs_grammar.specs.View.{tok};
 ghost use Rattle.cs_syntax.specs.Expression.{Tok};

@@ -1,4 +1,4 @@
-// Why a text is no query.
+//! Why a text is no query.
 ghost use Rattle.std.specs.Prelude.{◌≡◌};
 ghost use Rattle.cs_parse.specs.declared.fault.ParseFault.TheVariants.{NoMemory};
 

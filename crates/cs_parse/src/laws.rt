@@ -1,5 +1,5 @@
-// What the readings of all texts have in common. The functions do nothing: each is there for its
-// clause, which holds for all texts.
+//! What the readings of all texts have in common. The functions do nothing: each is there for its
+//! clause, which holds for all texts.
 ghost use Rattle.std.specs.Prelude.{◌≡◌, ◌↔◌, ℕ, List, IsTrue};
 ghost use Rattle.cs_syntax.specs.Expression.{Tok};
 ghost use Rattle.cs_parse.specs.Depth.{IsTooDeep, is_deep};

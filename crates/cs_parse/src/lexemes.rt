@@ -1,4 +1,4 @@
-// The tokens of a text as the grammar reads them.
+//! The tokens of a text as the grammar reads them.
 ghost use Rattle.std.specs.Prelude.{◌≡◌, ◌<◌, ◌^◌, All, IfErr, IfOk, IfSome, Some, length, vec_len};
 ghost use Rattle.cs_grammar.specs.Parsing.{IsLexemeOf, IsSource};
 ghost use Rattle.cs_grammar.specs.View.{formed, tok};

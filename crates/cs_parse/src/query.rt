@@ -1,4 +1,4 @@
-// Queries from their texts.
+//! Queries from their texts.
 ghost use Rattle.std.specs.Prelude.{◌≡◌, ◌<◌, ◌^◌, IfSome, length};
 ghost use Rattle.cs_faults.specs.Found.{told};
 ghost use Rattle.cs_parse.specs.Verdict.{IsRead, faulty, reading, reading_of, verdict};

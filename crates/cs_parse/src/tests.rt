@@ -1,4 +1,4 @@
-// Small texts, each with what becomes of it, and how large a token is.
+//! Small texts, each with what becomes of it, and how large a token is.
 use super::*;
 use cs_grammar::Lexeme;
 use std::alloc::Global;

@@ -1,6 +1,6 @@
 -- Places in a list.
-use Rattle.std.proofs.Common.{◌≡◌, ℕ, zero, suc, ◌+◌, ◌-◌, ◌<◌, ◌≤◌, min, List, [], ◌∷◌, map, length, get_or, drop, take, refl, sym, ap, subst, ◌∙◌, Bool, true, false, true≢false, cond, ltb, ℤ, pos, negsuc, ◌+ℤ◌, arith, Some, None, slice_get, slice_range, if◌then◌else◌}
-use Rattle.std.proofs.lemmas.Bool.{ltb-true, ltb-false, lt-ltb}
+use Rattle.std.proofs.Common.{◌≡◌, ℕ, zero, suc, ◌+◌, ◌-◌, ◌≤◌, min, List, [], ◌∷◌, map, length, drop, take, refl, sym, ap, subst, ◌∙◌, Bool, true, false, cond, ltb, ℤ, pos, negsuc, arith, Some, None, slice_get, slice_range}
+use Rattle.std.proofs.lemmas.Bool.{ltb-false}
 use Rattle.std.proofs.lemmas.List.{drop-take, drop_min, length-take-le, drop-map}
 use Rattle.std.specs.List.{take-map}
 use Rattle.std.specs.Prelude.{unwrap_or}

@@ -5,7 +5,7 @@ use Rattle.cs_value.specs.View.{tree, fields}
 use Rattle.cs_value.specs.declared.val.Val as val
 use Rattle.cs_value.specs.declared.val.Fields.{Fields}
 use Rattle.cs_value.proofs.Views.{tree-Obj}
-use Rattle.cs_view.specs.Keys.{Sel}
+use Rattle.cs_view.specs.Keys.{having}
 use Rattle.cs_view.specs.declared.key.Key.TheVariants.{All}
 use Rattle.cs_syntax.specs.Expression.{Expression, bracket}
 use Rattle.cs_plan.specs.Steps.{bracketed}
@@ -16,7 +16,7 @@ use Rattle.cs_ops.specs.Arithmetic.{merged}
 pub form_of_bracket : (e : Expression) → form (bracket e) ≡ bracket_form (bracketed e)
 form_of_bracket e = refl
 
-pub every_one : (ds : List Tree) → Sel All ds ≡ ds
+pub every_one : (ds : List Tree) → having All ds ≡ ds
 every_one [] = refl
 every_one (d ∷ ds) = ap (λ (es : List Tree). d ∷ es) (every_one ds)
 

@@ -1,5 +1,5 @@
 -- Elements and slices of lists whose elements stand for trees.
-use Rattle.std.proofs.Common.{◌≡◌, ℕ, zero, suc, ◌<◌, ◌≤◌, min, List, [], ◌∷◌, map, length, get_or, drop, take, refl, sym, ap, ◌∙◌, Bool, false, ℤ, arith, Some, None, slice_range, Vec, Global, Result, Ok, Err, IfOk}
+use Rattle.std.proofs.Common.{◌≡◌, ℕ, zero, suc, ◌<◌, ◌≤◌, min, List, [], ◌∷◌, map, length, get_or, drop, take, refl, sym, ap, ◌∙◌, Bool, ℤ, arith, Some, slice_range, Vec, Global}
 use Rattle.std.proofs.lemmas.List.{drop-map, length-map}
 use Rattle.std.specs.List.{take-map}
 use Rattle.std.specs.Prelude.{slice_get, unwrap_or}

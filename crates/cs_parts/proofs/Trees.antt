@@ -6,7 +6,7 @@ use Rattle.cs_ops.specs.Equal.{equal}
 use Rattle.cs_ops.specs.Operators.{within}
 use Rattle.cs_value.specs.Tree.{Tree, null, boolean, object}
 use Rattle.cs_value.specs.Pairs.{find}
-use Rattle.cs_value.specs.Words.{as_text, as_list, list_of, of_list}
+use Rattle.cs_value.specs.Words.{as_text, as_list, list_of, of_list, field}
 use Rattle.cs_value.specs.View.{tree, fields}
 use Rattle.cs_value.specs.declared.val.Val.{Val, the_lemmas}
 use Rattle.cs_value.specs.declared.val.Val as val
@@ -14,7 +14,6 @@ use Rattle.cs_value.specs.declared.val.Fields.{Fields}
 use Rattle.cs_value.proofs.Views.{tree-List, tree-Obj, members-trees}
 use Rattle.cs_meaning.specs.Joining.{flat_elements}
 use Rattle.cs_meaning.specs.Operators.{reference_of, reference_in, targets}
-use Rattle.cs_plan.specs.Steps.{field}
 
 pub tree_of_null : tree val.Null ≡ null
 tree_of_null = search (rules, the_lemmas)

@@ -10,7 +10,8 @@ use Rattle.cs_value.specs.Pairs.{find, put}
 use Rattle.cs_view.proofs.Booleans.{and-left, and-right}
 use Rattle.cs_jsonmatch.specs.Places.{Location}
 use Rattle.cs_jsonmatch.specs.declared.places.Part.TheVariants.{Name, Pos}
-use Rattle.cs_alter.specs.Within.{at, nth, update_pair, update_item, changed, given, at_name, object_pairs, is_inside, Reach, present, absent, blocked, reach}
+use Rattle.cs_alter.specs.Within.{at, nth, update_pair, update_item, changed, given, object_pairs, is_inside, Reach, present, absent, blocked, reach}
+use Rattle.cs_value.specs.Words.{field}
 use Rattle.cs_patch.specs.Targets.{if_some, Target, target_by, targets_from}
 use Rattle.cs_patch.specs.Operations.{document, refused, too_deep, bounded}
 use Rattle.cs_patch.specs.Seen.{Seen, seen_of, outer_seen, is_missing, each_seen, are_standing}
@@ -42,9 +43,9 @@ one_more a b c g h = omega arith
 given_deep : (ns : List (List ℕ)) (new t : Tree) → length ns ≤ depth (given ns new t)
 given_deep [] new t = omega arith
 given_deep (n ∷ ns) new t =
-    one_more (length ns) (depth (given ns new (at_name n t)))
-    (pairs_depth (put n (given ns new (at_name n t)) (object_pairs t)))
-    (given_deep ns new (at_name n t)) (put_deep n (given ns new (at_name n t)) (object_pairs t))
+    one_more (length ns) (depth (given ns new (field n t)))
+    (pairs_depth (put n (given ns new (field n t)) (object_pairs t)))
+    (given_deep ns new (field n t)) (put_deep n (given ns new (field n t)) (object_pairs t))
 
 -- ---- a write where something stands
 module _ (m : ℕ) (l : Location) (g : Tree → Tree) (h : (u : Tree) → is_some (at l u) ≡ true → m ≤ depth (g u)) where

@@ -4,16 +4,17 @@ use Rattle.std.proofs.lemmas.Slice.Eq.{bytes_eq-Decides}
 use Rattle.std.specs.List.{list_any}
 use Rattle.std.proofs.lemmas.Bool.{false_from_ne_true}
 use Rattle.cs_value.specs.Tree.{Tree, null, boolean, integer, text, list, object}
-use Rattle.cs_value.specs.Pairs.{attribute, find}
-use Rattle.cs_value.specs.Words.{is_object}
+use Rattle.cs_value.specs.Pairs.{attribute}
+use Rattle.cs_value.specs.Words.{is_object, field}
 use Rattle.cs_jsonmatch.specs.Places.{Location}
 use Rattle.cs_jsonmatch.specs.declared.places.Part.{Part}
 use Rattle.cs_jsonmatch.specs.declared.places.Part.TheVariants.{Name, Pos}
-use Rattle.cs_alter.specs.Within.{update, changed, removed, drop_member, given, at_name, object_pairs}
+use Rattle.cs_alter.specs.Within.{update, changed, removed, drop_member, given, object_pairs}
 use Rattle.cs_alter.specs.Inserted.{Side, insert_into}
 use Rattle.cs_patch.specs.Operations.{immutable, fixed, fixed_at}
 use Rattle.cs_jsonmatch.specs.Path.{Step}
 use Rattle.cs_patch.proofs.Fixed.{other-put, other-without, other-update}
+use Rattle.cs_alter.proofs.Gifts.{found_in}
 
 -- An object stays one, and has the same under each fixed name.
 pub record Keeps (v w : Tree) : Type 0 where
@@ -97,22 +98,14 @@ removed-keeps [] m v b h = cc
 removed-keeps (x ∷ []) m v b h = drop-keeps x m v h
 removed-keeps (x ∷ y ∷ l) m v b h = update-keeps x (y ∷ l ++ m) (removed (y ∷ l)) v h
 
-pairs_of_object : (n : List ℕ) (v : Tree) → find n (object_pairs v) ≡ attribute n v
-pairs_of_object n null = refl
-pairs_of_object n (boolean b) = refl
-pairs_of_object n (integer m) = refl
-pairs_of_object n (text s) = refl
-pairs_of_object n (list ts) = refl
-pairs_of_object n (object ps) = refl
-
 given-keeps : (n : List ℕ) (ns : List (List ℕ)) (new v : Tree)
     → fixed_at (Name n ∷ map Name ns) ≡ None → Keeps v (given (n ∷ ns) new v)
 given-keeps n ns new v h = record {
   object = λ g. refl;
   same = λ m g.
-      other-put m n (given ns new (at_name n v)) (object_pairs v)
+      other-put m n (given ns new (field n v)) (object_pairs v)
       (free m n g (not_fixed (list_any (bytes_eq n) fixed) n h))
-      ∙ pairs_of_object m v;
+      ∙ found_in m v;
 }
 
 -- what `set` does at a place from which names lead on

@@ -1,6 +1,6 @@
 -- The causes of the code, and what it asks of targets. For private clauses.
 use Rattle.std.specs.Prelude.{ℕ, List, [], ◌∷◌, Option, Some, None, codes, cond}
-use Rattle.cs_ops.specs.Arithmetic.{is_whole}
+use Rattle.cs_ops.specs.Arithmetic.{is_of_64_bits}
 use Rattle.cs_patch.specs.Targets.{if_some}
 use Rattle.cs_patch.specs.Operations.{Refusal, immutable, not_number, overflow, not_array, fixed_at, or_else}
 use Rattle.cs_alter.specs.Alterations.{counted}
@@ -29,7 +29,7 @@ refusal_of path cause.Overflow = overflow path
 refusal_of path cause.NotArray = not_array path
 
 abbrev pub number_of : List ℕ → Change → Stands → Option Refusal
-number_of path c (stands.Number m) = cond (is_whole (counted c m)) None (Some (overflow path))
+number_of path c (stands.Number m) = cond (is_of_64_bits (counted c m)) None (Some (overflow path))
 number_of path c _ = Some (not_number path)
 
 abbrev pub list_at : List ℕ → Stands → Option Refusal

@@ -3,7 +3,7 @@
 use Rattle.std.specs.Prelude.{ℕ, ℤ, ◌+ℤ◌, ◌-ℤ◌, List, [], ◌∷◌, reverse, cond, Option, Some, None, bytes_eq, codes}
 use Rattle.std.specs.List.{list_any}
 use Rattle.cs_value.specs.Tree.{Tree, integer, list}
-use Rattle.cs_ops.specs.Arithmetic.{is_whole}
+use Rattle.cs_ops.specs.Arithmetic.{is_of_64_bits}
 use Rattle.cs_view.specs.Document.{is_shallow}
 use Rattle.cs_jsonmatch.specs.Path.{Step, Path}
 use Rattle.cs_jsonmatch.specs.Places.{Location}
@@ -52,7 +52,7 @@ or_else (Some r) q = Some r
 or_else None q = q
 
 abbrev pub number_refusal : List ℕ → (ℤ → ℤ) → Option Tree → Option Refusal
-number_refusal path f (Some (integer m)) = cond (is_whole (f m)) None (Some (overflow path))
+number_refusal path f (Some (integer m)) = cond (is_of_64_bits (f m)) None (Some (overflow path))
 number_refusal path f _ = Some (not_number path)
 
 abbrev pub list_refusal : List ℕ → Option Tree → Option Refusal

@@ -2,7 +2,7 @@
 ghost use Rattle.std.specs.Prelude.{◌≡◌, None, Some, IfOk, IfErr, OnOk, MatchResult};
 ghost use Rattle.cs_value.specs.View.{tree};
 ghost use Rattle.cs_view.specs.Document.{rev_of};
-ghost use Rattle.cs_view.specs.View.{doc as doc_of};
+ghost use Rattle.cs_view.specs.View.{document_of};
 ghost use Rattle.cs_patch.specs.Operations.{document, refused, and_then, set_path, unset_path, inc_path, dec_path};
 ghost use Rattle.cs_patch.specs.Patched.{paths, first_fault, in_turn, maybe_insert, operations, patched, revision_refusal};
 ghost use Rattle.cs_patch.specs.View.{patch as patch_of};
@@ -61,9 +61,9 @@ impl<'p> ReadPatch<'p> {
     fn check_revision(&self, alloc: Global, doc: &Doc) -> Result<(), PatchFault>
         ensures { MatchResult result
             (λ _. revision_refusal (read_patch self.now).if_revision
-            (rev_of (doc_of doc.now)) ≡ None)
+            (rev_of (document_of doc.now)) ≡ None)
             (IsPatchFault (λ r. revision_refusal (read_patch self.now).if_revision
-            (rev_of (doc_of doc.now)) ≡ Some r)) }
+            (rev_of (document_of doc.now)) ≡ Some r)) }
     {
         let Some(expected) = self.if_revision else {
             return Ok(());
@@ -157,8 +157,9 @@ impl<'p> ReadPatch<'p> {
     // What the operations make of a copy of the document.
     fn worked(&self, alloc: Global, doc: &Doc) -> Result<Val, PatchFault>
         ensures { MatchResult result
-            (λ v. operations (read_patch self.now) (doc_of doc.now) ≡ document (tree v))
-            (IsPatchFault (λ r. operations (read_patch self.now) (doc_of doc.now) ≡ refused r)) }
+            (λ v. operations (read_patch self.now) (document_of doc.now) ≡ document (tree v))
+            (IsPatchFault (λ r. operations (read_patch self.now) (document_of doc.now)
+            ≡ refused r)) }
     {
         let mut val = doc.val().copy(alloc)?;
         match self.work(alloc, &mut val) {
@@ -172,10 +173,10 @@ impl<'p> ReadPatch<'p> {
     /// refused for that cause: `Revision` first, then the operations' own in their order, each path
     /// on the outcome of the one before. `NoMemory` comes where the allocator has no room.
     pub fn apply(&self, alloc: Global, doc: &Doc, tx: &Txt, moment: &Txt) -> Result<Doc, PatchFault>
-        ensures done { IfOk result (λ d. patched (read_patch self.now) (doc_of doc.now) tx.now
-            moment.now ≡ document (doc_of d)) }
+        ensures done { IfOk result (λ d. patched (read_patch self.now) (document_of doc.now) tx.now
+            moment.now ≡ document (document_of d)) }
         ensures refused { IfErr result (IsPatchFault (λ r. patched (read_patch self.now)
-            (doc_of doc.now) tx.now moment.now ≡ refused r)) }
+            (document_of doc.now) tx.now moment.now ≡ refused r)) }
     {
         patched_is_a_document();
         self.check_revision(alloc, doc)?;
@@ -196,9 +197,11 @@ pub fn apply(
 ) -> Result<Doc, PatchFault>
     requires short { ArePathsShort (patch_of patch.now) }
     requires spelled { first_fault (paths (patch_of patch.now)) ≡ None }
-    ensures done { IfOk result (λ d. patched (patch_of patch.now) (doc_of doc.now) tx.now moment.now
-        ≡ document (doc_of d)) }
-    ensures refused { IfErr result (IsPatchFault (λ r. patched (patch_of patch.now) (doc_of doc.now)
+    ensures done { IfOk result (λ d. patched
+        (patch_of patch.now) (document_of doc.now) tx.now moment.now
+        ≡ document (document_of d)) }
+    ensures refused { IfErr result (IsPatchFault (λ r. patched
+        (patch_of patch.now) (document_of doc.now)
         tx.now moment.now ≡ refused r)) }
 {
     match ReadPatch::read(alloc, patch) {

@@ -7,8 +7,8 @@ ghost use Rattle.cs_patch.specs.Seen.{stands_of, way_of, seen, seen_of, is_absen
 ghost use Rattle.cs_jsonmatch.specs.View.{locations};
 ghost use Rattle.cs_jsonmatch.specs.declared.places.Part.TheVariants.{Name};
 
-use cs_alter::{copy_parts, look};
-use cs_jsonmatch::{Part, Place};
+use cs_alter::look;
+use cs_jsonmatch::{Part, Place, copy_parts};
 use cs_value::{NoMemory, Txt, Val};
 use std::alloc::Global;
 

@@ -9,7 +9,7 @@ use Rattle.std.proofs.lemmas.Slice.Eq.{bytes_eq-Decides}
 use Rattle.lru.specs.LruCache.{LruCache, lru_cache, promoted, put_entries}
 use Rattle.lru.proofs.CallerLemmas.{Contains-lookup, Contains-promoted, Contains-put_entries, IsPut}
 use Rattle.cs_syntax.specs.declared.query.Query.{Query}
-use Rattle.cs_syntax.specs.Queries.{query as expression_of}
+use Rattle.cs_syntax.specs.Queries.{expression_of}
 use Rattle.cs_parse.specs.Verdict.{query, verdict}
 use Rattle.cs_recent.specs.Recent.{AreRead, IsReadOf}
 

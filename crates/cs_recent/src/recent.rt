@@ -1,6 +1,6 @@
 //! The queries that were read last, by their texts.
 ghost use Rattle.std.specs.Prelude.{◌≡◌, IfOk, IfSome, string_bytes};
-ghost use Rattle.cs_syntax.specs.Queries.{query as expression_of};
+ghost use Rattle.cs_syntax.specs.Queries.{expression_of};
 ghost use Rattle.cs_parse.specs.Verdict.{query, verdict};
 
 use cs_syntax::Query;

@@ -1,5 +1,5 @@
 -- The headline of a run from that of its script.
-use Rattle.std.proofs.Common.{◌≡◌, ◌∙◌, ap, sym, refl, ℕ, List, [], ◌∷◌, ◌++◌, drop, length, ◌-◌, arith, Bool, true, false, ◌||◌, Option, None, Some, Ok, inl, inr, append_assoc}
+use Rattle.std.proofs.Common.{◌≡◌, ◌∙◌, ap, sym, refl, ℕ, List, [], ◌∷◌, ◌++◌, drop, length, ◌-◌, arith, true, false, Option, None, Some, Ok, inl, inr, append_assoc}
 use Rattle.std.proofs.Math.Seq.{drop-append_seam}
 use Rattle.std.proofs.lemmas.List.{append-nil}
 use Rattle.std.proofs.lemmas.Bool.Decides.{nat_tests}

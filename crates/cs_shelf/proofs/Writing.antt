@@ -6,9 +6,9 @@ use Rattle.std.specs.Map.{lookup}
 use Rattle.std.specs.Prelude.{◌<◌, IsSome, is_some, Result, Ok, Err, OnErr}
 use Rattle.cs_value.specs.Tree.{Tree}
 use Rattle.cs_view.specs.Document.{id_of}
-use Rattle.cs_view.specs.Dataset.{same_id, id_cmp, At, stands, placed}
+use Rattle.cs_view.specs.Dataset.{same_id, id_cmp, standing, stands, placed}
 use Rattle.cs_view.specs.Changes.{is_of_id}
-use Rattle.cs_view.proofs.Datasets.{same_id-same, same_id-refl, same_id-sym, At-placed, ascending-placed, same_docs}
+use Rattle.cs_view.proofs.Datasets.{same_id-same, same_id-refl, same_id-sym, standing-placed, ascending-placed, same_docs}
 use Rattle.cs_shelf.specs.Places.{Store, Order, tree_at, found, IsSound, IsEntered, AreLow, StandIn, most_places, trees_at}
 use Rattle.cs_shelf.specs.View.{documents}
 use Rattle.cs_shelf.specs.declared.shelf.Shelf.{Shelf}
@@ -99,7 +99,7 @@ module _ (s t : Store) (m n : Order) (i : List ℕ) (p : ℕ) (o : Option Tree) 
       let later : IsSound t n = sound_written own sound in
       same_docs (trees_at t n.entries) (placed i o (trees_at s m.entries)) (ascending_of t n later after) (ascending-placed i o (trees_at s m.entries) (ascending_of s m sound before))
       (λ x. at_of t n later after x ∙ found_written x ∙ ap (λ b. cond b o (found s (get id_cmp m x))) (same_id-sym i x) ∙ ap (cond (same_id x i) o) (sym (at_of s m sound before x))
-      ∙ sym (At-placed x i o (trees_at s m.entries) own))
+      ∙ sym (standing-placed x i o (trees_at s m.entries) own))
 
 pub own_id : (d : Tree) → is_of_id (id_of d) (Some d) ≡ true
 own_id d = same_id-refl (id_of d)
@@ -135,7 +135,7 @@ none_there (Some d) h = cc
 
 -- where no document of an id stands, the id has no place
 pub no_place_of : (d : Shelf) (x : List ℕ) → stands x (documents d) ≡ false → get id_cmp d.order x ≡ None
-no_place_of d x h = no_document d.store d.order x d.sound (sym (at-documents d x) ∙ none_there (At x (documents d)) h)
+no_place_of d x h = no_document d.store d.order x d.sound (sym (at-documents d x) ∙ none_there (standing x (documents d)) h)
 
 -- an id without a place has no document
 pub no_place_none : (d : Shelf) (x : List ℕ) → get id_cmp d.order x ≡ None → stands x (documents d) ≡ false
@@ -145,9 +145,9 @@ no_place_none d x h = ap is_some (at-documents d x ∙ ap (found d.store) h)
 pub taken_nowhere : (d : Shelf) (x : List ℕ) → get id_cmp d.order x ≡ None → documents d ≡ placed x None (documents d)
 taken_nowhere d x h =
     same_docs (documents d) (placed x None (documents d)) (ascending-documents d) (ascending-placed x None (documents d) (ascending-documents d))
-    (λ q. by_test q (same_id q x) refl ∙ sym (At-placed q x None (documents d) refl)) where
-      by_test : (q : List ℕ) (b : Bool) → same_id q x ≡ b → At q (documents d) ≡ cond b None (At q (documents d))
-      by_test q true e = ap (λ k. At k (documents d)) (same_id-same q x e) ∙ at-documents d x ∙ ap (found d.store) h
+    (λ q. by_test q (same_id q x) refl ∙ sym (standing-placed q x None (documents d) refl)) where
+      by_test : (q : List ℕ) (b : Bool) → same_id q x ≡ b → standing q (documents d) ≡ cond b None (standing q (documents d))
+      by_test q true e = ap (λ k. standing k (documents d)) (same_id-same q x e) ∙ at-documents d x ∙ ap (found d.store) h
       by_test q false e = refl
 
 pub on_err : {A E : Type 0} (r : Result A E) {P : Type 0} → P → OnErr r P

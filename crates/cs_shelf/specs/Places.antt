@@ -6,7 +6,7 @@ use Rattle.slab.specs.Slab.{Slab}
 use Rattle.cs_value.specs.Tree.{Tree, null}
 use Rattle.cs_view.specs.Document.{id_of}
 use Rattle.cs_view.specs.Dataset.{id_cmp}
-use Rattle.cs_view.specs.View.{doc}
+use Rattle.cs_view.specs.View.{document_of}
 use Rattle.cs_view.specs.declared.doc.Doc.{Doc}
 
 abbrev pub Store : Type 0
@@ -17,7 +17,7 @@ Order = BTreeMap (List ℕ) ℕ
 
 -- the document at a place
 abbrev pub tree_at : Store → ℕ → Option Tree
-tree_at s p = option_map doc (slab.get s p)
+tree_at s p = option_map document_of (slab.get s p)
 
 abbrev pub found : Store → Option ℕ → Option Tree
 found s None = None

@@ -6,10 +6,7 @@ use Rattle.cs_value.specs.Tree.{Tree}
 use Rattle.cs_view.specs.Document.{id_of}
 use Rattle.cs_view.specs.Dataset.{id_cmp}
 use Rattle.cs_view.specs.Keys.{has_ref}
-
-abbrev pub first_of : {X : Type 0} → List X → Option X
-first_of [] = None
-first_of (x ∷ xs) = Some x
+use Rattle.cs_value.specs.Words.{first_of}
 
 -- the id is above another, where one is given
 abbrev pub above : Option (List ℕ) → List ℕ → Bool

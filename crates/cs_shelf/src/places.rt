@@ -1,7 +1,7 @@
 //! Looking documents up.
 ghost use Rattle.std.specs.Prelude.{◌≡◌, ◌<◌, ◌≤◌, length, [], Some, option_map, IsSome, IfSome};
-ghost use Rattle.cs_view.specs.Dataset.{At};
-ghost use Rattle.cs_view.specs.View.{doc};
+ghost use Rattle.cs_view.specs.Dataset.{standing};
+ghost use Rattle.cs_view.specs.View.{document_of};
 ghost use Rattle.cs_shelf.specs.Places.{most_places};
 ghost use Rattle.cs_shelf.specs.View.{documents, doc_at, place_at};
 
@@ -43,7 +43,7 @@ impl Shelf {
     pub fn place(&self, id: &Txt) -> Option<u32>
         ensures place { result ≡ place_at self.now id.now }
         ensures found { option_map (doc_at self.now) result
-            ≡ option_map Some (At id.now (documents self.now)) }
+            ≡ option_map Some (standing id.now (documents self.now)) }
         ensures low { IfSome result (λ p. p < most_places) }
     {
         self.order.get(id).copied()
@@ -51,7 +51,7 @@ impl Shelf {
 
     /// What stands at a place, if a document does.
     pub fn found(&self, place: u32) -> Option<&Doc>
-        ensures { option_map (λ d. doc d.now) result ≡ doc_at self.now place }
+        ensures { option_map (λ d. document_of d.now) result ≡ doc_at self.now place }
     {
         self.store.get(place as usize)
     }
@@ -59,7 +59,7 @@ impl Shelf {
     /// The document at a place where one stands.
     pub fn at(&self, place: u32) -> &Doc
         requires { IsSome (doc_at self.now place) }
-        ensures { doc_at self.now place ≡ Some (doc result.now) }
+        ensures { doc_at self.now place ≡ Some (document_of result.now) }
     {
         match self.store.get(place as usize) {
             Some(doc) => doc,
@@ -69,7 +69,8 @@ impl Shelf {
 
     /// The document with the id: `None` exactly where there is none.
     pub fn get(&self, id: &Txt) -> Option<&Doc>
-        ensures { option_map (λ d. doc d.now) result ≡ At id.now (documents self.now) }
+        ensures { option_map (λ d. document_of d.now) result
+            ≡ standing id.now (documents self.now) }
     {
         match self.place(id) {
             Some(place) => Some(self.at(place)),

@@ -11,7 +11,8 @@ use cs_view::{Key, has_all, has_ref};
 use std::alloc::Global;
 use std::cmp::Ordering;
 
-fn is_above(low: Option<&Txt>, id: &Txt) -> bool
+/// Whether an id is above another, where one is given.
+pub fn is_above(low: Option<&Txt>, id: &Txt) -> bool
     ensures { result ≡ above (option_map (λ i. i.now) low.entry) id.now }
 {
     match low {

@@ -4,7 +4,7 @@ ghost use Rattle.std.specs.BTreeMap.{IsOrdered, get};
 ghost use Rattle.slab.specs.Slab.{HasRoomFor};
 ghost use Rattle.cs_view.specs.Dataset.{id_cmp, stands, with_doc, without};
 ghost use Rattle.cs_view.specs.Document.{id_of};
-ghost use Rattle.cs_view.specs.View.{doc as document};
+ghost use Rattle.cs_view.specs.View.{document_of};
 ghost use Rattle.cs_shelf.specs.Places.{IsSound, IsEntered, AreLow, StandIn, most_places, tree_at, trees_at};
 ghost use Rattle.cs_shelf.specs.View.{documents, StayIn};
 
@@ -19,7 +19,7 @@ use std::collections::BTreeMap;
 fn replace_at(store: &mut Slab<Doc>, place: u32, doc: Doc)
     requires { IsSome (tree_at store.old place) }
     ensures { (p : ℕ)
-        → tree_at store.new p ≡ cond (p == place) (Some (document doc)) (tree_at store.old p) }
+        → tree_at store.new p ≡ cond (p == place) (Some (document_of doc)) (tree_at store.old p) }
 {
     drop(store.try_remove(place as usize));
     let _place = store.insert_reserved(doc);
@@ -54,7 +54,7 @@ fn next_place(store: &Slab<Doc>) -> Option<u32>
 fn fill(store: &mut Slab<Doc>, place: u32, doc: Doc)
     requires { (store.old.vacant_key ≡ place) × HasRoomFor store.old 1 }
     ensures { (p : ℕ)
-        → tree_at store.new p ≡ cond (p == place) (Some (document doc)) (tree_at store.old p) }
+        → tree_at store.new p ≡ cond (p == place) (Some (document_of doc)) (tree_at store.old p) }
 {
     let _key = store.insert_reserved(doc);
 }
@@ -66,7 +66,7 @@ fn put_new(
     order: &mut BTreeMap<Txt, u32>,
     doc: Doc,
 ) -> Result<(), NoMemory>
-    requires fresh { get id_cmp order.old (id_of (document doc)) ≡ None }
+    requires fresh { get id_cmp order.old (id_of (document_of doc)) ≡ None }
     requires sound { IsSound store.old order.old }
     requires entered { IsEntered store.old order.old }
     requires low { AreLow order.old }
@@ -75,7 +75,7 @@ fn put_new(
     ensures low { AreLow order.new }
     ensures ordered { IsOrdered id_cmp order.new }
     ensures put { OnOk result (trees_at store.new order.new.entries
-        ≡ with_doc (document doc) (trees_at store.old order.old.entries)) }
+        ≡ with_doc (document_of doc) (trees_at store.old order.old.entries)) }
     ensures kept { OnErr result (trees_at store.new order.new.entries
         ≡ trees_at store.old order.old.entries) }
     ensures stay { StandIn order.old order.new }
@@ -102,9 +102,9 @@ impl Shelf {
     /// Puts a document at a new place, where none of its id stands. `NoMemory` where the allocator
     /// has no room for it; nothing changes then.
     pub fn add(&mut self, doc: Doc) -> Result<(), NoMemory>
-        requires { stands (id_of (document doc)) (documents self.old) ≡ false }
+        requires { stands (id_of (document_of doc)) (documents self.old) ≡ false }
         ensures put { OnOk result (documents self.new
-            ≡ with_doc (document doc) (documents self.old)) }
+            ≡ with_doc (document_of doc) (documents self.old)) }
         ensures kept { OnErr result (documents self.new ≡ documents self.old) }
         ensures stay { StayIn self.old self.new }
     {
@@ -113,8 +113,8 @@ impl Shelf {
 
     /// Puts a document in the place of the one of its id. It takes no memory.
     pub fn replace(&mut self, doc: Doc)
-        requires { stands (id_of (document doc)) (documents self.old) ≡ true }
-        ensures put { documents self.new ≡ with_doc (document doc) (documents self.old) }
+        requires { stands (id_of (document_of doc)) (documents self.old) ≡ true }
+        ensures put { documents self.new ≡ with_doc (document_of doc) (documents self.old) }
         ensures stay { StayIn self.old self.new }
     {
         match place_of(&self.order, doc.id()) {

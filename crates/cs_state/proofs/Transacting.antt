@@ -2,7 +2,7 @@
 use Rattle.std.proofs.Common.{◌≡◌, refl, ap, sym, ◌∙◌, ℕ, List, [], ◌∷◌, ◌++◌, true, false, Err, Ok}
 use Rattle.std.proofs.lemmas.List.{append-nil}
 use Rattle.cs_value.specs.Tree.{Tree}
-use Rattle.cs_view.specs.Changes.{Edit, After, AreChangesBetween, changes_between}
+use Rattle.cs_view.specs.Changes.{Edit, after_changes, AreChangesBetween, changes_between}
 use Rattle.cs_view.specs.Dataset.{is_dataset}
 use Rattle.cs_view.specs.Laws.{ChangesAreComputed, ChangesAreOneList}
 use Rattle.cs_view.proofs.Booleans.{and-left}
@@ -34,11 +34,11 @@ row_accepted s x after cs unused ok are =
 pub changes_known : CommitsKeepDatasets → ChangesAreComputed → ChangesAreOneList
     → (s : State) (x : Transaction) (cs : List Edit)
     → is_dataset s.docs ≡ true
-    → commit x s.moment s.docs ≡ Ok (After s.docs cs)
-    → AreChangesBetween s.docs (After s.docs cs) cs
-    → changes_between s.docs (After s.docs cs) ≡ cs
+    → commit x s.moment s.docs ≡ Ok (after_changes s.docs cs)
+    → AreChangesBetween s.docs (after_changes s.docs cs) cs
+    → changes_between s.docs (after_changes s.docs cs) ≡ cs
 changes_known keeps computes one s x cs held ok between =
-    let after = After s.docs cs in
+    let after = after_changes s.docs cs in
     let kept = keeps x s.moment s.docs after held ok in
     let computed = computes s.docs after (and-left _ _ held) (and-left _ _ kept.0) in
     one s.docs after (changes_between s.docs after) cs computed between
@@ -48,11 +48,11 @@ pub row_known : CommitsKeepDatasets → ChangesAreComputed → ChangesAreOneList
     → (s : State) (x : Transaction) (cs : List Edit)
     → is_dataset s.docs ≡ true
     → s.is_used x.id ≡ false
-    → commit x s.moment s.docs ≡ Ok (After s.docs cs)
-    → AreChangesBetween s.docs (After s.docs cs) cs
-    → by_transaction s x ≡ installed s x.id (After s.docs cs) cs
+    → commit x s.moment s.docs ≡ Ok (after_changes s.docs cs)
+    → AreChangesBetween s.docs (after_changes s.docs cs) cs
+    → by_transaction s x ≡ installed s x.id (after_changes s.docs cs) cs
 row_known keeps computes one s x cs held unused ok between =
-    row_accepted s x (After s.docs cs) cs unused ok
+    row_accepted s x (after_changes s.docs cs) cs unused ok
     (changes_known keeps computes one s x cs held ok between)
 
 -- a refused one

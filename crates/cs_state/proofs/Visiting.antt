@@ -1,6 +1,6 @@
 -- How far the counter rises over a transaction.
 use Rattle.std.proofs.Common.{◌≡◌, ◌≤◌, ◌+◌, ap, sym, ◌∙◌, subst, ℕ, List, Bool, true, false, cond, arith}
-use Rattle.cs_view.specs.Changes.{Edit, After, changes_between}
+use Rattle.cs_view.specs.Changes.{Edit, after_changes, changes_between}
 use Rattle.cs_body.specs.Transaction.{Transaction}
 use Rattle.cs_txn.specs.Visits.{are_simple, costs}
 use Rattle.cs_docs.specs.Store.{docs}
@@ -26,8 +26,8 @@ paid s x unused = ap (λ b. cond b 0 (costs x.id s.moment 0 x.actions s.docs)) u
 pub few_accepted : (held : Held) (x : Transaction) (cs : List Edit) (old mid new : ℕ)
     → (state held).is_used x.id ≡ false
     → by_transaction (state held) x
-    ≡ installed (state held) x.id (After (state held).docs cs) cs
-    → changes_between (state held).docs (After (state held).docs cs) ≡ cs
+    ≡ installed (state held) x.id (after_changes (state held).docs cs) cs
+    → changes_between (state held).docs (after_changes (state held).docs cs) ≡ cs
     → (are_simple x.actions ≡ true
     → mid ≤ old + costs x.id (state held).moment 0 x.actions (state held).docs)
     → (IsUntouched held.live cs → new ≡ mid)

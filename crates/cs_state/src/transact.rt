@@ -5,7 +5,7 @@ ghost use Rattle.std.specs.Prelude.{◌≡◌, ◌++◌, ◌<◌, ◌≤◌, ◌
 ghost use Rattle.indexmap.specs.IndexSet.{contains_text, spare};
 ghost use Rattle.cs_value.specs.Tree.{widest};
 ghost use Rattle.cs_value.specs.View.{tree};
-ghost use Rattle.cs_view.specs.Changes.{After, AreChangesBetween, Before, LeadTo, are_changes};
+ghost use Rattle.cs_view.specs.Changes.{after_changes, AreChangesBetween, before_changes, LeadTo, are_changes};
 ghost use Rattle.cs_view.specs.View.{edit, edits};
 ghost use Rattle.cs_docs.specs.Store.{docs as docs_of, prepared as changes_of};
 ghost use Rattle.cs_docs.specs.Verdict.{AreTaken};
@@ -205,9 +205,9 @@ impl State {
         requires short { AreShort (plain txn.now).actions }
         requires usable { IsUsable self.now }
         ensures accepted { IfOk result (λ p. commit (plain txn.now) self.now.moment
-            (docs_of self.now.docs) ≡ Ok (After (docs_of self.now.docs) (changes_of p))) }
+            (docs_of self.now.docs) ≡ Ok (after_changes (docs_of self.now.docs) (changes_of p))) }
         ensures changes { IfOk result (λ p. AreChangesBetween (docs_of self.now.docs)
-            (After (docs_of self.now.docs) (changes_of p)) (changes_of p)) }
+            (after_changes (docs_of self.now.docs) (changes_of p)) (changes_of p)) }
         ensures taken { IfOk result (λ p. AreTaken (docs_of self.now.docs) (changes_of p)) }
         ensures refused { IfErr result (λ r. IsRefusal r
             (commit (plain txn.now) self.now.moment (docs_of self.now.docs))) }
@@ -233,9 +233,11 @@ impl State {
         requires usable { IsUsable self.old }
         ensures does { IfOk result (λ tally. Does out.old.items out.new.items tally self.new line
             (installed (state self.old) tx.now
-            (After (docs_of self.old.docs) (changes_of prepared.now)) (changes_of prepared.now))) }
+            (after_changes (docs_of self.old.docs) (changes_of prepared.now))
+            (changes_of prepared.now))) }
         ensures leaves { OnErr result (Leaves self.old self.new (installed (state self.old) tx.now
-            (After (docs_of self.old.docs) (changes_of prepared.now)) (changes_of prepared.now))) }
+            (after_changes (docs_of self.old.docs) (changes_of prepared.now))
+            (changes_of prepared.now))) }
         ensures quiet { IsUntouched self.old.live (changes_of prepared.now)
             → steps.new ≡ steps.old }
     {
@@ -303,11 +305,12 @@ impl State {
         requires taken { AreTaken (docs_of self.old.docs) (changes_of prepared.now) }
         requires usable { IsUsable self.old }
         ensures docs { OnOk result (docs_of self.new.docs
-            ≡ After (docs_of self.old.docs) (changes_of prepared.now)) }
+            ≡ after_changes (docs_of self.old.docs) (changes_of prepared.now)) }
         ensures index { OnOk result (IsIndexOf self.new.index self.new.docs) }
         ensures others { OnOk result (AllButStore self.old self.new) }
         ensures leaves { OnErr result (Leaves self.old self.new (installed (state self.old) _tx.now
-            (After (docs_of self.old.docs) (changes_of prepared.now)) (changes_of prepared.now))) }
+            (after_changes (docs_of self.old.docs) (changes_of prepared.now))
+            (changes_of prepared.now))) }
     {
         match install(&mut self.docs, &mut self.index, prepared) {
             Ok(()) => Ok(()),
@@ -331,7 +334,8 @@ impl State {
     ) -> Result<Tally, NoMemory>
         requires changes { are_changes (edits changes.now) ≡ true }
         requires led { LeadTo (docs_of self.old.docs) (edits changes.now) }
-        requires fits { Fits self.old.live (Before (docs_of self.old.docs) (edits changes.now)) }
+        requires fits { Fits self.old.live (before_changes (docs_of self.old.docs)
+            (edits changes.now)) }
         requires index { IsIndexOf self.old.index self.old.docs }
         ensures lines { OnOk result (out.new.items ≡ out.old.items ++ live_lines line
             (news (docs_of self.old.docs) (lives self.old.live))) }

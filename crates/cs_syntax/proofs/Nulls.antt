@@ -4,7 +4,7 @@ use Rattle.cs_value.specs.Tree.{Tree, null, boolean, integer, text, list, object
 use Rattle.cs_value.specs.View.{tree}
 use Rattle.cs_value.specs.declared.val.Val as val
 use Rattle.cs_value.specs.declared.val.Val.{the_lemmas}
-use Rattle.cs_syntax.specs.Nulls.{is_null}
+use Rattle.cs_value.specs.Words.{is_null}
 
 pub null_then : (v : Tree) → is_null v ≡ true → v ≡ null
 null_then null h = refl

@@ -3,7 +3,7 @@
 use Rattle.std.proofs.Common.{◌≡◌, ℕ, List, [], ◌∷◌, map, length, refl, sym, ap, ◌∙◌, arith, rules, Vec, Box, Global, Bool}
 use Rattle.cs_syntax.specs.Expression.{everything, call, array, object_literal, chain, prefix, run, word, parent, within, between, slice, bracket, project, pipe, bare, when, when_argument, order_key, arguments_of, elements_of, entries_of, steps_of, operands_of, keys_of}
 use Rattle.cs_syntax.specs.Functions.{count_of}
-use Rattle.cs_syntax.specs.View.{expression, arg, elem, entry, step, key, operands}
+use Rattle.cs_syntax.specs.View.{expression, argument_of, element_of, entry_of, step_of, order_key_of, operands}
 use Rattle.cs_syntax.specs.declared.tree.Arg.{Arg, the_lemmas}
 use Rattle.cs_syntax.specs.declared.tree.Arg as arg_code
 use Rattle.cs_syntax.specs.declared.tree.BinSign.{BinSign}
@@ -18,13 +18,13 @@ use Rattle.cs_syntax.specs.declared.tree.Step.{Step as CodeStep}
 use Rattle.cs_syntax.specs.declared.tree.Step as step_code
 
 pub expression_call : (name : List ℕ) (args : Vec Arg Global) →
-    expression (code.Call name args) ≡ call name (arguments_of (map arg args.items))
-unfolding expression arg
+    expression (code.Call name args) ≡ call name (arguments_of (map argument_of args.items))
+unfolding expression argument_of
 expression_call name args = search (rules, the_lemmas)
 
 pub expression_chain : (base : Box Expr Global) (ss : Vec CodeStep Global) →
-    expression (code.Chain base ss) ≡ chain (expression base.value) (steps_of (map step ss.items))
-unfolding expression step
+    expression (code.Chain base ss) ≡ chain (expression base.value) (steps_of (map step_of ss.items))
+unfolding expression step_of
 expression_chain base ss = search (rules, the_lemmas)
 
 pub expression_run : (first : Box Expr Global) (rest : Vec (BinSign × Expr) Global) →
@@ -33,23 +33,23 @@ pub expression_run : (first : Box Expr Global) (rest : Vec (BinSign × Expr) Glo
 unfolding expression operands
 expression_run first rest = search (rules, the_lemmas)
 
-pub step_project : (es : Vec Entry Global) → step (step_code.Project es)
-    ≡ project (entries_of (map entry es.items))
-unfolding step entry
+pub step_project : (es : Vec Entry Global) → step_of (step_code.Project es)
+    ≡ project (entries_of (map entry_of es.items))
+unfolding step_of entry_of
 step_project es = search (rules, the_lemmas)
 
-pub step_pipe : (name : List ℕ) (ks : Vec OrderKey Global) → step (step_code.Pipe name ks)
-    ≡ pipe name (keys_of (map key ks.items))
-unfolding step key
+pub step_pipe : (name : List ℕ) (ks : Vec OrderKey Global) → step_of (step_code.Pipe name ks)
+    ≡ pipe name (keys_of (map order_key_of ks.items))
+unfolding step_of order_key_of
 step_pipe name ks = search (rules, the_lemmas)
 
-pub step_slice : (from to : Expr) (closed : Bool) → step (step_code.Slice from to closed)
+pub step_slice : (from to : Expr) (closed : Bool) → step_of (step_code.Slice from to closed)
     ≡ slice (expression from) (expression to) closed
-unfolding step expression
+unfolding step_of expression
 step_slice from to closed = search (rules, the_lemmas)
 
-pub step_bracket : (e : Expr) → step (step_code.Bracket e) ≡ bracket (expression e)
-unfolding step expression
+pub step_bracket : (e : Expr) → step_of (step_code.Bracket e) ≡ bracket (expression e)
+unfolding step_of expression
 step_bracket e = search (rules, the_lemmas)
 
 pub expression_within : (left right : Box Expr Global) → expression (code.Within left right)
@@ -63,35 +63,35 @@ pub expression_between : (left from to : Box Expr Global) (closed : Bool) →
 unfolding expression
 expression_between left from to closed = search (rules, the_lemmas)
 
-pub entry_bare : (e : Expr) → entry (entry_code.Bare e) ≡ bare (expression e)
-unfolding entry expression
+pub entry_bare : (e : Expr) → entry_of (entry_code.Bare e) ≡ bare (expression e)
+unfolding entry_of expression
 entry_bare e = search (rules, the_lemmas)
 
-pub entry_when : (c e : Expr) → entry (entry_code.When c e) ≡ when (expression c) (expression e)
-unfolding entry expression
+pub entry_when : (c e : Expr) → entry_of (entry_code.When c e) ≡ when (expression c) (expression e)
+unfolding entry_of expression
 entry_when c e = search (rules, the_lemmas)
 
-pub arg_when : (c e : Expr) → arg (arg_code.When c e)
+pub arg_when : (c e : Expr) → argument_of (arg_code.When c e)
     ≡ when_argument (expression c) (expression e)
-unfolding arg expression
+unfolding argument_of expression
 arg_when c e = search (rules, the_lemmas)
 
-pub key_seen : (k : OrderKey) → key k ≡ order_key (expression k.key) k.desc
-unfolding key expression
+pub key_seen : (k : OrderKey) → order_key_of k ≡ order_key (expression k.key) k.desc
+unfolding order_key_of expression
 key_seen k = search (rules, the_lemmas)
 
-pub count_of_arguments : (xs : List Arg) → count_of (arguments_of (map arg xs)) ≡ length xs
+pub count_of_arguments : (xs : List Arg) → count_of (arguments_of (map argument_of xs)) ≡ length xs
 count_of_arguments [] = refl
 count_of_arguments (x ∷ xs) = omega (arith, count_of_arguments xs)
 
 pub expression_array : (es : Vec Elem Global) → expression (code.Array es)
-    ≡ array (elements_of (map elem es.items))
-unfolding expression elem
+    ≡ array (elements_of (map element_of es.items))
+unfolding expression element_of
 expression_array es = search (rules, the_lemmas)
 
 pub expression_object : (es : Vec Entry Global) → expression (code.Object es)
-    ≡ object_literal (entries_of (map entry es.items))
-unfolding expression entry
+    ≡ object_literal (entries_of (map entry_of es.items))
+unfolding expression entry_of
 expression_object es = search (rules, the_lemmas)
 
 pub expression_prefix : (signs : Vec PreSign Global) (e : Box Expr Global) →
@@ -114,7 +114,7 @@ expression_up n = search (rules, the_lemmas)
 -- by the parts that code has at hand
 pub chain_parts : (e : Expr) (base : Box Expr Global) (v : Vec CodeStep Global) (b : Expr)
     (ss : List CodeStep) → e ≡ code.Chain base v → b ≡ base.value → ss ≡ v.items
-    → expression e ≡ chain (expression b) (steps_of (map step ss))
+    → expression e ≡ chain (expression b) (steps_of (map step_of ss))
 chain_parts e base v b ss is there same = ap expression is ∙ (expression_chain base v
-    ∙ (ap (λ (x : Expr). chain (expression x) (steps_of (map step v.items))) (sym there)
-    ∙ ap (λ (x : List CodeStep). chain (expression b) (steps_of (map step x))) (sym same)))
+    ∙ (ap (λ (x : Expr). chain (expression x) (steps_of (map step_of v.items))) (sym there)
+    ∙ ap (λ (x : List CodeStep). chain (expression b) (steps_of (map step_of x))) (sym same)))

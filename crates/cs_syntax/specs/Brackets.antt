@@ -21,6 +21,11 @@ abbrev pub is_text : Expression → Bool
 is_text (text_literal s) = true
 is_text _ = false
 
+-- the text that an expression is, if it is one alone
+abbrev pub text_alone : Expression → Option (List ℕ)
+text_alone (text_literal s) = Some s
+text_alone _ = None
+
 -- only `+` and `-` stand in front
 abbrev pub are_signs : List PreSign → Bool
 are_signs [] = true

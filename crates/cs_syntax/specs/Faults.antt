@@ -10,6 +10,7 @@ use Rattle.cs_syntax.specs.Expression.{Expression, number_literal, round, call, 
 use Rattle.cs_syntax.specs.Brackets.{is_position, is_text, is_constant, key_of}
 use Rattle.cs_syntax.specs.Functions.{Arity, exactly, arity_of, accepts, is_left_out}
 use Rattle.cs_syntax.specs.Numbers.{has_exponent, has_fraction, is_wide}
+use Rattle.cs_value.specs.Words.{first_of}
 
 -- a form or function that the profile leaves out, by its name; a function that there is not; a
 -- call with a wrong number of arguments, or with `=>` where none may stand; a bare entry whose
@@ -165,10 +166,6 @@ abbrev mutual
 -- the faults of an expression in the order of the text
 abbrev pub faults : Expression → List Fault
 faults e = at_first e ++ behind_first e
-
-abbrev pub first_of : List Fault → Option Fault
-first_of [] = None
-first_of (x ∷ xs) = Some x
 
 -- the first fault in the order of the text
 abbrev pub fault : Expression → Option Fault

@@ -5,7 +5,6 @@ pub mod Expression
 pub mod Faults
 pub mod Functions
 pub mod Lex
-pub mod Nulls
 pub mod Numbers
 pub mod Queries
 pub mod Signs

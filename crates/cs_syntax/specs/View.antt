@@ -60,41 +60,41 @@ unfoldable pub expression : Expr → Expression
 expression = fold-Expr Argument Element Entry Expression Step OrderKey arg_step elem_step
     entry_step expr_step step_step order_key_step
 
-unfoldable pub step : CodeStep → Step
-step = fold-Step Argument Element Entry Expression Step OrderKey arg_step elem_step entry_step
+unfoldable pub step_of : CodeStep → Step
+step_of = fold-Step Argument Element Entry Expression Step OrderKey arg_step elem_step entry_step
     expr_step step_step order_key_step
 
-unfoldable pub entry : CodeEntry → Entry
-entry = fold-Entry Argument Element Entry Expression Step OrderKey arg_step elem_step entry_step
+unfoldable pub entry_of : CodeEntry → Entry
+entry_of = fold-Entry Argument Element Entry Expression Step OrderKey arg_step elem_step entry_step
     expr_step step_step order_key_step
 
-unfoldable pub elem : Elem → Element
-elem = fold-Elem Argument Element Entry Expression Step OrderKey arg_step elem_step entry_step
+unfoldable pub element_of : Elem → Element
+element_of = fold-Elem Argument Element Entry Expression Step OrderKey arg_step elem_step entry_step
     expr_step step_step order_key_step
 
-unfoldable pub arg : Arg → Argument
-arg = fold-Arg Argument Element Entry Expression Step OrderKey arg_step elem_step entry_step
+unfoldable pub argument_of : Arg → Argument
+argument_of = fold-Arg Argument Element Entry Expression Step OrderKey arg_step elem_step entry_step
     expr_step step_step order_key_step
 
-unfoldable pub key : CodeOrderKey → OrderKey
-key = fold-OrderKey Argument Element Entry Expression Step OrderKey arg_step elem_step entry_step
-    expr_step step_step order_key_step
+unfoldable pub order_key_of : CodeOrderKey → OrderKey
+order_key_of = fold-OrderKey Argument Element Entry Expression Step OrderKey arg_step elem_step
+    entry_step expr_step step_step order_key_step
 
 -- the lists of a tree
 unfoldable pub operands : List (BinSign × Expr) → List (BinSign × Expression)
 operands xs = map (λ x. (x.0, expression x.1)) xs
 
 unfoldable pub steps : List CodeStep → List Step
-steps ss = map step ss
+steps ss = map step_of ss
 
 unfoldable pub entries : List CodeEntry → List Entry
-entries xs = map entry xs
+entries xs = map entry_of xs
 
 unfoldable pub elements : List Elem → List Element
-elements xs = map elem xs
+elements xs = map element_of xs
 
 unfoldable pub arguments : List Arg → List Argument
-arguments xs = map arg xs
+arguments xs = map argument_of xs
 
 unfoldable pub keys : List CodeOrderKey → List OrderKey
-keys ks = map key ks
+keys ks = map order_key_of ks

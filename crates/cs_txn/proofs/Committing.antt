@@ -1,7 +1,7 @@
 -- A transaction whose mutations are done.
 use Rattle.std.proofs.Common.{◌≡◌, List, Ok, sym, ap, subst, ◌∙◌, true}
 use Rattle.cs_value.specs.Tree.{Tree}
-use Rattle.cs_view.specs.Changes.{Edit, After, are_changes, LeadFrom, AreChangesBetween}
+use Rattle.cs_view.specs.Changes.{Edit, after_changes, are_changes, LeadFrom, AreChangesBetween}
 use Rattle.cs_view.proofs.Changed.{between-lead}
 use Rattle.cs_shelf.proofs.Standing.{ascending-documents}
 use Rattle.cs_docs.specs.Verdict.{fits, verdict}
@@ -25,7 +25,7 @@ judged o = and_then (λ d. held d (verdict d)) o
 -- the changes of a working dataset over a store
 pub led : (store : Docs) (w : Working) (cs : List Edit) → base w ≡ docs store
     → AreChangesBetween (base w) (working w) cs
-    → (are_changes cs ≡ true) × LeadFrom (docs store) cs × (After (docs store) cs ≡ working w)
+    → (are_changes cs ≡ true) × LeadFrom (docs store) cs × (after_changes (docs store) cs ≡ working w)
 led store w cs is between =
     between-lead (docs store) (working w) cs (ascending-documents store.shelf)
     (ascending-working w)
@@ -34,10 +34,10 @@ led store w cs is between =
 -- they are those between the store's dataset and the one after them
 pub between_again : (store : Docs) (w : Working) (cs es : List Edit) → base w ≡ docs store
     → AreChangesBetween (base w) (working w) cs → es ≡ cs
-    → AreChangesBetween (docs store) (After (docs store) es) es
+    → AreChangesBetween (docs store) (after_changes (docs store) es) es
 between_again store w cs es is between same =
     subst (λ (d : List Tree). AreChangesBetween (docs store) d es)
-    (sym (ap (After (docs store)) same ∙ (led store w cs is between).2))
+    (sym (ap (after_changes (docs store)) same ∙ (led store w cs is between).2))
     (subst (AreChangesBetween (docs store) (working w)) (sym same)
     (subst (λ (d : List Tree). AreChangesBetween d (working w) cs) is between))
 

@@ -2,7 +2,7 @@
 use Rattle.std.proofs.Common.{◌≡◌, ◌≢◌, ℕ, List, [], ◌∷◌, Option, Some, None, sym, ap, ◌∙◌}
 use Rattle.std.specs.FinMap.Entries.{find}
 use Rattle.cs_value.specs.Tree.{Tree}
-use Rattle.cs_view.specs.Dataset.{id_cmp, At}
+use Rattle.cs_view.specs.Dataset.{id_cmp, standing}
 use Rattle.cs_view.specs.Changes.{Edit, IsChangeAt, AreChangesBetween}
 use Rattle.cs_view.proofs.Changed.{AreFoundIn, each_found}
 use Rattle.cs_txn.specs.Laws.{EachDiffers}
@@ -19,11 +19,11 @@ differ_at b a None s h is = absurd cc
 differ_at b a (Some t) s h is = let e : t ≡ s = cc in apart b a s h.0 (sym e ∙ h.1)
 
 each_at : (one other : List Tree) (all cs : List Edit)
-    → ((q : List ℕ) → IsChangeAt (At q one) (At q other) (find id_cmp q all))
+    → ((q : List ℕ) → IsChangeAt (standing q one) (standing q other) (find id_cmp q all))
     → AreFoundIn all cs → EachDiffers cs
 each_at one other all [] h f = tt
 each_at one other all (c ∷ cs) h f = (
-  differ_at (At c.0 one) (At c.0 other) (find id_cmp c.0 all) c.1 (h c.0) f.0,
+  differ_at (standing c.0 one) (standing c.0 other) (find id_cmp c.0 all) c.1 (h c.0) f.0,
   each_at one other all cs h f.1,
 )
 

@@ -3,7 +3,7 @@ use Rattle.std.proofs.Common.{◌≡◌, ℕ, ◌+◌, ◌≤◌, List, [], ◌�
 use Rattle.std.specs.List.{list_all}
 use Rattle.cs_value.specs.Tree.{Tree}
 use Rattle.cs_view.specs.Document.{is_document, is_body, is_shallow, id_of}
-use Rattle.cs_view.specs.Dataset.{At, same_id, ascending, is_dataset, stands, with_doc, without}
+use Rattle.cs_view.specs.Dataset.{standing, same_id, ascending, is_dataset, stands, with_doc, without}
 use Rattle.cs_view.proofs.Booleans.{and-left, and-right}
 use Rattle.cs_view.proofs.Datasets.{dataset-placed}
 use Rattle.cs_docs.specs.Limits.{most_documents}
@@ -30,10 +30,10 @@ without-dataset : (id : List ℕ) (docs : List Tree) → is_dataset docs ≡ tru
 without-dataset id docs g = dataset-placed id None docs refl g
 
 found_document : (id : List ℕ) (docs : List Tree) (d : Tree) → list_all is_document docs ≡ true
-    → At id docs ≡ Some d → is_document d ≡ true
+    → standing id docs ≡ Some d → is_document d ≡ true
 found_document id [] d h e = absurd cc
 found_document id (x ∷ xs) d h e =
-    elim (same_id id (id_of x)) as (λ b. cond b (Some x) (At id xs) ≡ Some d → is_document d ≡
+    elim (same_id id (id_of x)) as (λ b. cond b (Some x) (standing id xs) ≡ Some d → is_document d ≡
     true) [
       | true ↦ λ g. let same : x ≡ d = cc in
           subst (λ u. is_document u ≡ true) same (and-left (is_document x) (list_all is_document
@@ -117,7 +117,7 @@ outcome-leads id docs (patch.refused r) g h = err-leads (cause_of id r)
 
 there-leads : PatchedIsADocument → (p : Patch) (tx moment : List ℕ) (docs : List Tree) (id : List
     ℕ)
-    → is_dataset docs ≡ true → (o : Option Tree) → At id docs ≡ o
+    → is_dataset docs ≡ true → (o : Option Tree) → standing id docs ≡ o
     → Leads (patched_there p tx moment docs id o)
 there-leads law p tx moment docs id g None h = err-leads _
 there-leads law p tx moment docs id g (Some d) h =
@@ -129,7 +129,7 @@ there-leads law p tx moment docs id g (Some d) h =
 patched-leads : PatchedIsADocument → (p : Patch) (tx moment id : List ℕ) (docs : List Tree)
     → is_dataset docs ≡ true → Leads (patched_at p tx moment id docs)
 patched-leads law p tx moment id docs g =
-    there-leads law p tx moment docs id g (At id docs) refl
+    there-leads law p tx moment docs id g (standing id docs) refl
 
 step-leads : (f : List Tree → Attempt) (r : Attempt) → Leads r
     → ((docs : List Tree) → is_dataset docs ≡ true → Leads (f docs)) → Leads (and_then f r)

@@ -1,5 +1,5 @@
 -- The ids of the documents that values name, as the keys of a set.
-use Rattle.std.proofs.Common.{◌≡◌, ℕ, ◌+◌, ◌<◌, List, [], ◌∷◌, length, get_or, drop, map, filter, Bor, Vec, Global, Bool, true, false, ◌||◌, cond, is_some, bytes_eq, codes, Option, Some, None, Ordering, Less, Equal, Greater, refl, sym, ap, ◌∙◌}
+use Rattle.std.proofs.Common.{◌≡◌, ℕ, ◌+◌, ◌<◌, List, [], ◌∷◌, length, get_or, drop, map, filter, Bor, Vec, Global, Bool, true, false, ◌||◌, cond, is_some, bytes_eq, codes, Option, Some, None, Less, refl, sym, ap, ◌∙◌}
 use Rattle.std.proofs.lemmas.Cmp.{nat_list_cmp_total}
 use Rattle.std.proofs.lemmas.List.{at_drop_more}
 use Rattle.std.proofs.lemmas.Map.Lookups.{btree_set_from_contains, exact_bytes}
@@ -17,9 +17,9 @@ use Rattle.cs_value.specs.declared.val.Val.{Val}
 use Rattle.cs_value.specs.declared.val.Val as val
 use Rattle.cs_value.proofs.Views.{tree-List, members-trees}
 use Rattle.cs_view.specs.Document.{id_of, passes}
-use Rattle.cs_view.specs.Dataset.{id_cmp, same_id, keyed, At, ascending, stands, kept_if}
+use Rattle.cs_view.specs.Dataset.{id_cmp, same_id, keyed, standing, ascending, stands, kept_if}
 use Rattle.cs_view.proofs.Booleans.{and-left, and-right}
-use Rattle.cs_view.proofs.Datasets.{At-id, At-filter, ascending-filter, same_id-sym, is_lt-Less}
+use Rattle.cs_view.proofs.Datasets.{standing-id, standing-filter, ascending-filter, same_id-sym, is_lt-Less}
 use Rattle.cs_txn.specs.Mutated.{elements, names, names_one, named_ids}
 
 -- ---- the ids of documents in order
@@ -44,7 +44,7 @@ among_stands : (q : List ℕ) (ds : List Tree)
 among_stands q [] = refl
 among_stands q (d ∷ ds) =
     elim (same_id q (id_of d)) as (λ b.
-    (b || list_any (same_id q) (map id_of ds)) ≡ is_some (cond b (Some d) (At q ds))) [
+    (b || list_any (same_id q) (map id_of ds)) ≡ is_some (cond b (Some d) (standing q ds))) [
       | true ↦ refl
       | false ↦ among_stands q ds
     ]
@@ -89,11 +89,11 @@ none_kept : (b : Bool) → (b ≡ true → false ≡ true) → false ≡ b
 none_kept true h = h refl
 none_kept false h = refl
 
-kept_by : (f : List ℕ → Bool) (q : List ℕ) (docs : List Tree) (o : Option Tree) → At q docs ≡ o
+kept_by : (f : List ℕ → Bool) (q : List ℕ) (docs : List Tree) (o : Option Tree) → standing q docs ≡ o
     → (f q ≡ true → is_some o ≡ true) → is_some (kept_if (λ d. f (id_of d)) o) ≡ f q
 kept_by f q docs None is there = none_kept (f q) there
 kept_by f q docs (Some d) is there =
-    some_kept (f (id_of d)) d ∙ ap f (sym (At-id q docs d is))
+    some_kept (f (id_of d)) d ∙ ap f (sym (standing-id q docs d is))
 
 -- the keys of a set of the ids that the values name
 pub named_keys : (docs ts : List Tree) (ids : BTreeSet (List ℕ)) → ascending docs ≡ true
@@ -105,8 +105,8 @@ named_keys docs ts ids asc ordered all held =
     let p : Tree → Bool = λ d. f (id_of d) in
     btree_set_from_contains nat_list_cmp_total ids (record { keys = named_ids docs ts }) ordered
     (ids_ascend (filter p docs) (ascending-filter p docs asc))
-    (λ q. held q ∙ sym (among_stands q (filter p docs) ∙ ap is_some (At-filter p q docs asc)
-    ∙ kept_by f q docs (At q docs) refl (named_stands docs q ts all)))
+    (λ q. held q ∙ sym (among_stands q (filter p docs) ∙ ap is_some (standing-filter p q docs asc)
+    ∙ kept_by f q docs (standing q docs) refl (named_stands docs q ts all)))
     exact_bytes
 
 by_cases : (n was r : Bool) → cond (cond n true was) true r ≡ cond was true (n || r)

@@ -4,7 +4,7 @@ use Rattle.std.specs.List.{AllByRecursion}
 use Rattle.cs_value.specs.Tree.{Tree}
 use Rattle.cs_view.specs.Document.{id_of, is_body, is_document, is_shallow}
 use Rattle.cs_view.specs.Dataset.{is_dataset}
-use Rattle.cs_view.specs.Changes.{Edit, are_changes, LeadFrom, After, AreChangesBetween}
+use Rattle.cs_view.specs.Changes.{Edit, are_changes, LeadFrom, after_changes, AreChangesBetween}
 use Rattle.cs_docs.specs.Limits.{most_documents}
 use Rattle.cs_docs.specs.References.{clean}
 use Rattle.cs_body.specs.Laws.{ActionIsWithin}
@@ -48,4 +48,4 @@ CommitsAreTheirChanges =
     → is_dataset docs ≡ true
     → commit txn moment docs ≡ Ok after
     → AreChangesBetween docs after cs
-    → (are_changes cs ≡ true) × LeadFrom docs cs × (After docs cs ≡ after) × EachDiffers cs
+    → (are_changes cs ≡ true) × LeadFrom docs cs × (after_changes docs cs ≡ after) × EachDiffers cs

@@ -5,7 +5,7 @@ use Rattle.std.specs.List.{list_all, list_any}
 use Rattle.cs_value.specs.Tree.{Tree, null, boolean, integer, text, list, object, members, Pairs}
 use Rattle.cs_value.specs.Words.{text_at}
 use Rattle.cs_view.specs.Document.{id_of, is_body, is_shallow, passes}
-use Rattle.cs_view.specs.Dataset.{At, stands, with_doc, without}
+use Rattle.cs_view.specs.Dataset.{standing, stands, with_doc, without}
 use Rattle.cs_parse.specs.Verdict.{Reading, query, verdict}
 use Rattle.cs_meaning.specs.Values.{query_value}
 use Rattle.cs_patch.specs.Operations as patch
@@ -107,7 +107,7 @@ patched_there p tx moment docs id None = Err (missing id)
 patched_there p tx moment docs id (Some d) = by_outcome id docs (patched p d tx moment)
 
 abbrev pub patched_at : Patch → List ℕ → List ℕ → List ℕ → List Tree → Attempt
-patched_at p tx moment id docs = patched_there p tx moment docs id (At id docs)
+patched_at p tx moment id docs = patched_there p tx moment docs id (standing id docs)
 
 -- the documents of the ids, one after another
 abbrev pub patched_all : Patch → List ℕ → List ℕ → List (List ℕ) → List Tree → Attempt

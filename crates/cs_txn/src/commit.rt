@@ -1,7 +1,7 @@
 //! What a transaction comes to over a store's dataset.
 ghost use Rattle.std.specs.Prelude.{◌≡◌, ◌≤◌, ◌<◌, ◌^◌, ◌+◌, List, true, Ok, OnOk, IfOk, IfErr, length};
 ghost use Rattle.cs_value.specs.Tree.{Tree};
-ghost use Rattle.cs_view.specs.Changes.{After, AreChangesBetween};
+ghost use Rattle.cs_view.specs.Changes.{after_changes, AreChangesBetween};
 ghost use Rattle.cs_docs.specs.Faults.{IsFault};
 ghost use Rattle.cs_docs.specs.Store.{prepared};
 ghost use Rattle.cs_docs.specs.Verdict.{Verdict, AreTaken};
@@ -98,9 +98,9 @@ pub fn prepare<R: Referrers, L: Ledger>(
     requires few { length txn.now.mutations.items < 2 ^ 31 }
     requires short { AreShort (transaction txn.now).actions }
     ensures accepted { IfOk result (λ p. commit (transaction txn.now) moment.now
-        (indexed store.entry) ≡ Ok (After (indexed store.entry) (prepared p))) }
+        (indexed store.entry) ≡ Ok (after_changes (indexed store.entry) (prepared p))) }
     ensures changes { IfOk result (λ p. AreChangesBetween (indexed store.entry)
-        (After (indexed store.entry) (prepared p)) (prepared p)) }
+        (after_changes (indexed store.entry) (prepared p)) (prepared p)) }
     ensures taken { IfOk result (λ p. AreTaken (indexed store.entry) (prepared p)) }
     ensures refused { IfErr result (λ r. IsRefusal r
         (commit (transaction txn.now) moment.now (indexed store.entry))) }

@@ -1,7 +1,7 @@
 //! The documents that the query of a mutation finds.
 ghost use Rattle.std.specs.Prelude.{◌≡◌, ◌≤◌, ◌<◌, ◌^◌, ◌+◌, true, Ok, Err, IfOk, IfErr, length};
 ghost use Rattle.cs_value.specs.View.{fields};
-ghost use Rattle.cs_syntax.specs.Queries.{query as expression_of};
+ghost use Rattle.cs_syntax.specs.Queries.{expression_of};
 ghost use Rattle.cs_parse.specs.Verdict.{query as is_query, verdict};
 ghost use Rattle.cs_txn.specs.Mutated.{found, found_by};
 ghost use Rattle.cs_txn.specs.View.{IsTold};

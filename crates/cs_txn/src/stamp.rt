@@ -4,7 +4,7 @@ ghost use Rattle.cs_value.specs.Pairs.{put};
 ghost use Rattle.cs_value.specs.Tree.{text, object};
 ghost use Rattle.cs_value.specs.View.{tree, fields};
 ghost use Rattle.cs_view.specs.Document.{is_body, is_shallow, has_text};
-ghost use Rattle.cs_view.specs.View.{doc};
+ghost use Rattle.cs_view.specs.View.{document_of};
 ghost use Rattle.cs_txn.specs.Install.{entered, with_made_id};
 
 use crate::laws::entered_is_a_document;
@@ -56,7 +56,7 @@ fn stamp(alloc: Global, attributes: &mut Fields, tx: &str, moment: &str) -> Resu
 pub fn entered(alloc: Global, body: Val, tx: &str, moment: &str) -> Result<Doc, NoMemory>
     requires body { is_body (tree body) ≡ true }
     requires shallow { is_shallow (tree body) ≡ true }
-    ensures { IfOk result (λ d. doc d ≡ entered tx.now moment.now (tree body)) }
+    ensures { IfOk result (λ d. document_of d ≡ entered tx.now moment.now (tree body)) }
 {
     entered_is_a_document();
     let Val::Obj(mut attributes) = body else {

@@ -1,4 +1,4 @@
-// A copy of a value.
+//! A copy of a value.
 ghost use Rattle.std.specs.Prelude.{◌≡◌, IfOk};
 ghost use Rattle.cs_value.specs.View.{tree, fields, list_tree};
 

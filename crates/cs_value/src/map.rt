@@ -1,4 +1,4 @@
-// An ordered map from names to values, of one allocation while it is small.
+//! An ordered map from names to values, of one allocation while it is small.
 ghost use Rattle.std.specs.Prelude.{◌≡◌, ◌^◌, ◌<◌, [], length, IfOk, OnOk, OnErr, ◌↔◌, IsTrue};
 ghost use Rattle.std.specs.Map.{lookup, remove_entry};
 ghost use Rattle.std.specs.BTreeMap.{insert_entry, is_at};

@@ -1,4 +1,4 @@
-// What no clause says: how large a value is, and that an object has room on both of its forms.
+//! What no clause says: how large a value is, and that an object has room on both of its forms.
 ghost use Rattle.std.specs.Prelude.{◌≤◌};
 
 use crate::map::name::Name;

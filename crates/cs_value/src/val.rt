@@ -4,6 +4,7 @@ ghost use Rattle.cs_value.specs.Tree.{no_pairs, depth as tree_depth};
 ghost use Rattle.cs_value.specs.Pairs.{find, put, without, attribute};
 ghost use Rattle.cs_value.specs.Value.{IsValue};
 ghost use Rattle.cs_value.specs.View.{tree, fields};
+ghost use Rattle.cs_value.specs.Words.{ref_of};
 
 use crate::map::OrderedMap;
 use crate::memory::NoMemory;
@@ -119,6 +120,17 @@ impl Fields {
         ensures { option_map (λ v. tree v.now) result ≡ find name.now (fields self.now) }
     {
         self.pairs.get(name)
+    }
+
+    /// The text under `_ref`, by which an object refers to a document. `None` exactly where no text
+    /// stands there.
+    pub fn reference(&self) -> Option<&Txt>
+        ensures { option_map (λ t. t.now) result ≡ ref_of (fields self.now) }
+    {
+        match self.get("_ref") {
+            Some(Val::Text(target)) => Some(target),
+            _ => None,
+        }
     }
 
     /// Puts the value at the name, and gives back the value that it replaces: `Ok(None)` exactly

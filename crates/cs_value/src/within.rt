@@ -1,5 +1,5 @@
-// Whether the lists and objects of a value nest no deeper than a number. The walk goes no deeper
-// than that number, so a value that nests far deeper costs no stack.
+//! Whether the lists and objects of a value nest no deeper than a number. The walk goes no deeper
+//! than that number, so a value that nests far deeper costs no stack.
 ghost use Rattle.std.specs.Prelude.{◌≡◌, nat_le};
 ghost use Rattle.cs_value.specs.Tree.{depth, trees, trees_depth, pairs_depth};
 ghost use Rattle.cs_value.specs.View.{tree, fields, list_tree};

@@ -8,7 +8,7 @@ use Rattle.std.specs.FinMap.Entries.{by_order, find, put, where_key, is_sorted, 
 use Rattle.std.proofs.lemmas.Bool.{and_from}
 use Rattle.cs_value.specs.Tree.{Tree}
 use Rattle.cs_view.specs.Document.{id_of, is_document}
-use Rattle.cs_view.specs.Dataset.{id_cmp, same_id, keyed, At, ascending, is_dataset, with_doc, without, placed, kept_if}
+use Rattle.cs_view.specs.Dataset.{id_cmp, same_id, keyed, standing, ascending, is_dataset, with_doc, without, placed, kept_if}
 use Rattle.cs_view.specs.Changes.{is_of_id, is_document_or_none}
 use Rattle.cs_view.proofs.Booleans.{and-left, and-right, to_T, from_T}
 
@@ -67,8 +67,8 @@ keyed-without id (e ∷ es) =
       | false ↦ keyed-without id es
     ]
 
-pub At-with_doc : (q : List ℕ) (d : Tree) (es : List Tree) → At q (with_doc d es) ≡ cond (same_id q (id_of d)) (Some d) (At q es)
-At-with_doc q d es = ap (find id_cmp q) (keyed-with_doc d es) ∙ find-put id_cmp nat_list_cmp_total q (id_of d) d (keyed es)
+pub standing-with_doc : (q : List ℕ) (d : Tree) (es : List Tree) → standing q (with_doc d es) ≡ cond (same_id q (id_of d)) (Some d) (standing q es)
+standing-with_doc q d es = ap (find id_cmp q) (keyed-with_doc d es) ∙ find-put id_cmp nat_list_cmp_total q (id_of d) d (keyed es)
 
 alike : (id q x : List ℕ) → id_cmp q x ≡ Equal → not (same_id id x) ≡ not (same_id id q)
 alike id q x h = ap (λ y. not (same_id id y)) (sym (exact_bytes q x h))
@@ -79,15 +79,15 @@ flipped false false x y h = refl
 flipped true false x y h = cc
 flipped false true x y h = cc
 
-pub At-without : (q id : List ℕ) (es : List Tree) → At q (without id es) ≡ cond (same_id q id) None (At q es)
-At-without q id es = ap (find id_cmp q) (keyed-without id es) ∙ find-where_key id_cmp (λ k. not (same_id id k)) q (alike id q) (keyed es) ∙ flipped _ _ _ _ (same_id-sym id q)
+pub standing-without : (q id : List ℕ) (es : List Tree) → standing q (without id es) ≡ cond (same_id q id) None (standing q es)
+standing-without q id es = ap (find id_cmp q) (keyed-without id es) ∙ find-where_key id_cmp (λ k. not (same_id id k)) q (alike id q) (keyed es) ∙ flipped _ _ _ _ (same_id-sym id q)
 
 -- what stands under an id after a document, or none, was put in the place of one
-pub At-placed : (q id : List ℕ) (o : Option Tree) (es : List Tree) → is_of_id id o ≡ true → At q (placed id o es) ≡ cond (same_id q id) o (At q es)
-At-placed q id None es h = At-without q id es
-At-placed q id (Some d) es h =
+pub standing-placed : (q id : List ℕ) (o : Option Tree) (es : List Tree) → is_of_id id o ≡ true → standing q (placed id o es) ≡ cond (same_id q id) o (standing q es)
+standing-placed q id None es h = standing-without q id es
+standing-placed q id (Some d) es h =
     let e : id ≡ id_of d = same_id-same id (id_of d) h in
-    At-with_doc q d es ∙ ap (λ k. cond (same_id q k) (Some d) (At q es)) (sym e)
+    standing-with_doc q d es ∙ ap (λ k. cond (same_id q k) (Some d) (standing q es)) (sym e)
 
 -- the ids still ascend
 pub ascending-placed : (id : List ℕ) (o : Option Tree) (es : List Tree) → ascending es ≡ true → ascending (placed id o es) ≡ true
@@ -122,22 +122,22 @@ unkeyed [] = refl
 unkeyed (d ∷ ds) = ap (λ r. d ∷ r) (unkeyed ds)
 
 -- a dataset is known by what stands under each id
-pub same_docs : (one other : List Tree) → ascending one ≡ true → ascending other ≡ true → ((q : List ℕ) → At q one ≡ At q other) → one ≡ other
+pub same_docs : (one other : List Tree) → ascending one ≡ true → ascending other ≡ true → ((q : List ℕ) → standing q one ≡ standing q other) → one ≡ other
 same_docs one other g h is =
     sym (unkeyed one) ∙ ap (λ es. map (λ (p : List ℕ × Tree). p.1) es) (same_entries id_cmp nat_list_cmp_total (λ a b e. exact_bytes a b e) (keyed one) (keyed other) (to_T _ g) (to_T _ h) is) ∙ unkeyed other
 
 -- a document that stands under an id has it
-pub At-id : (q : List ℕ) (ds : List Tree) (d : Tree) → At q ds ≡ Some d → q ≡ id_of d
-At-id q [] d h = absurd (cc)
-At-id q (e ∷ es) d h =
-    elim (same_id q (id_of e)) as (λ b. same_id q (id_of e) ≡ b → cond b (Some e) (At q es) ≡ Some d → q ≡ id_of d) [
+pub standing-id : (q : List ℕ) (ds : List Tree) (d : Tree) → standing q ds ≡ Some d → q ≡ id_of d
+standing-id q [] d h = absurd (cc)
+standing-id q (e ∷ es) d h =
+    elim (same_id q (id_of e)) as (λ b. same_id q (id_of e) ≡ b → cond b (Some e) (standing q es) ≡ Some d → q ≡ id_of d) [
       | true ↦ λ t g. let s : e ≡ d = cc in same_id-same q (id_of e) t ∙ ap id_of s
-      | false ↦ λ t g. At-id q es d g
+      | false ↦ λ t g. standing-id q es d g
     ] refl h
 
-pub At-is_of_id : (k : List ℕ) (docs : List Tree) (o : Option Tree) → At k docs ≡ o → is_of_id k o ≡ true
-At-is_of_id k docs None h = refl
-At-is_of_id k docs (Some d) h = ap (same_id k) (sym (At-id k docs d h)) ∙ same_id-refl k
+pub standing-is_of_id : (k : List ℕ) (docs : List Tree) (o : Option Tree) → standing k docs ≡ o → is_of_id k o ≡ true
+standing-is_of_id k docs None h = refl
+standing-is_of_id k docs (Some d) h = ap (same_id k) (sym (standing-id k docs d h)) ∙ same_id-refl k
 
 -- ---- the documents that pass a test
 below-filter : (p : Tree → Bool) (k : List ℕ) (ds : List Tree) → below_all id_cmp k (keyed ds) ≡ true → below_all id_cmp k (keyed (filter p ds)) ≡ true
@@ -152,13 +152,13 @@ ascending-filter p (d ∷ ds) h =
     let rest = ascending-filter p ds (and-right (below_all id_cmp (id_of d) (keyed ds)) _ h) in
     elim (p d) as (λ b. ascending (cond b (d ∷ filter p ds) (filter p ds)) ≡ true) [ true ↦ and_from _ _ (below-filter p (id_of d) ds (and-left _ _ h)) rest | false ↦ rest ]
 
-pub At-filter : (p : Tree → Bool) (q : List ℕ) (ds : List Tree) → ascending ds ≡ true → At q (filter p ds) ≡ kept_if p (At q ds)
-At-filter p q [] h = refl
-At-filter p q (d ∷ ds) h = by_tests (At-filter p q ds (and-right (below_all id_cmp (id_of d) (keyed ds)) _ h)) (p d) refl (same_id q (id_of d)) refl where
-  by_tests : At q (filter p ds) ≡ kept_if p (At q ds) → (b : Bool) → p d ≡ b → (c : Bool) → same_id q (id_of d) ≡ c
-      → At q (cond b (d ∷ filter p ds) (filter p ds)) ≡ kept_if p (cond c (Some d) (At q ds))
+pub standing-filter : (p : Tree → Bool) (q : List ℕ) (ds : List Tree) → ascending ds ≡ true → standing q (filter p ds) ≡ kept_if p (standing q ds)
+standing-filter p q [] h = refl
+standing-filter p q (d ∷ ds) h = by_tests (standing-filter p q ds (and-right (below_all id_cmp (id_of d) (keyed ds)) _ h)) (p d) refl (same_id q (id_of d)) refl where
+  by_tests : standing q (filter p ds) ≡ kept_if p (standing q ds) → (b : Bool) → p d ≡ b → (c : Bool) → same_id q (id_of d) ≡ c
+      → standing q (cond b (d ∷ filter p ds) (filter p ds)) ≡ kept_if p (cond c (Some d) (standing q ds))
   by_tests ih true g true t = rw (t, g) refl
   by_tests ih true g false t = rw t ih
   by_tests ih false g false t = ih
   by_tests ih false g true t =
-      ih ∙ ap (kept_if p) (subst (λ (z : List ℕ). At z ds ≡ None) (sym (same_id-same q (id_of d) t)) (find-above (id_of d) (keyed ds) (and-left _ _ h))) ∙ sym (ap (λ b. cond b (Some d) None) g)
+      ih ∙ ap (kept_if p) (subst (λ (z : List ℕ). standing z ds ≡ None) (sym (same_id-same q (id_of d) t)) (find-above (id_of d) (keyed ds) (and-left _ _ h))) ∙ sym (ap (λ b. cond b (Some d) None) g)

@@ -2,10 +2,10 @@
 use Rattle.std.proofs.Common.{◌≡◌, ℕ, List, [], ◌∷◌, filter, Bool, true, false, cond, Option, Some, None, option_map, refl, sym, ap, ◌∙◌}
 use Rattle.std.specs.FinMap.Entries.{find}
 use Rattle.cs_value.specs.Tree.{Tree}
-use Rattle.cs_view.specs.Dataset.{id_cmp, same_id, At, ascending, kept_if}
-use Rattle.cs_view.specs.Changes.{Edit, is_of_id, are_changes, After, after_of, changes_where}
-use Rattle.cs_view.proofs.Datasets.{same_docs, ascending-filter, At-filter}
-use Rattle.cs_view.proofs.Changed.{OwnIds, own_ids, At-After, ascending-After}
+use Rattle.cs_view.specs.Dataset.{id_cmp, same_id, standing, ascending, kept_if}
+use Rattle.cs_view.specs.Changes.{Edit, is_of_id, are_changes, after_changes, after_of, changes_where}
+use Rattle.cs_view.proofs.Datasets.{same_docs, ascending-filter, standing-filter}
+use Rattle.cs_view.proofs.Changed.{OwnIds, own_ids, standing-after_changes, ascending-after_changes}
 
 abbrev both_kept : (Tree → Bool) → Option Tree × Option Tree → Option Tree × Option Tree
 both_kept p s = (kept_if p s.0, kept_if p s.1)
@@ -37,16 +37,16 @@ kept_after p (Some s) now = refl
 
 pub filter_follows : (p : Tree → Bool) (docs : List Tree) (cs : List Edit) → ascending docs ≡ true
     → are_changes cs ≡ true
-    → filter p (After docs cs) ≡ After (filter p docs) (changes_where p cs)
+    → filter p (after_changes docs cs) ≡ after_changes (filter p docs) (changes_where p cs)
 filter_follows p docs cs h changes =
     let own : OwnIds cs = own_ids cs changes in
-    let after : ascending (After docs cs) ≡ true = ascending-After docs cs h in
+    let after : ascending (after_changes docs cs) ≡ true = ascending-after_changes docs cs h in
     let before : ascending (filter p docs) ≡ true = ascending-filter p docs h in
-    same_docs (filter p (After docs cs)) (After (filter p docs) (changes_where p cs))
-    (ascending-filter p (After docs cs) after)
-    (ascending-After (filter p docs) (changes_where p cs) before)
-    (λ q. At-filter p q (After docs cs) after ∙ ap (kept_if p) (At-After q docs cs own)
-    ∙ kept_after p (find id_cmp q cs) (At q docs)
-    ∙ sym (At-After q (filter p docs) (changes_where p cs) (own-where p cs own)
-    ∙ ap (λ f. after_of f (At q (filter p docs))) (find-where p q cs)
-    ∙ ap (after_of (option_map (both_kept p) (find id_cmp q cs))) (At-filter p q docs h)))
+    same_docs (filter p (after_changes docs cs)) (after_changes (filter p docs) (changes_where p cs))
+    (ascending-filter p (after_changes docs cs) after)
+    (ascending-after_changes (filter p docs) (changes_where p cs) before)
+    (λ q. standing-filter p q (after_changes docs cs) after ∙ ap (kept_if p) (standing-after_changes q docs cs own)
+    ∙ kept_after p (find id_cmp q cs) (standing q docs)
+    ∙ sym (standing-after_changes q (filter p docs) (changes_where p cs) (own-where p cs own)
+    ∙ ap (λ f. after_of f (standing q (filter p docs))) (find-where p q cs)
+    ∙ ap (after_of (option_map (both_kept p) (find id_cmp q cs))) (standing-filter p q docs h)))

@@ -9,7 +9,7 @@ use Rattle.cs_value.specs.View.{tree, list_tree}
 use Rattle.cs_value.specs.declared.val.Val.{Val}
 use Rattle.cs_value.specs.declared.val.Val as val
 use Rattle.cs_view.specs.Dataset.{same_id}
-use Rattle.cs_view.specs.Keys.{equals, has_element, has, Sel, selected}
+use Rattle.cs_view.specs.Keys.{equals, has_element, has, having, selected}
 use Rattle.cs_view.specs.declared.key.Key.{Key}
 use Rattle.cs_view.specs.declared.key.Scalar.{Scalar}
 
@@ -20,7 +20,7 @@ pub element_of_list : (s : Scalar) (v : Vec Val Global) → has_element s (tree 
 element_of_list s v = ap (has_element s) (tree-List v) ∙ ap (list_any (equals s)) (members-trees (list_tree v.items))
 
 -- the documents that have the one key of a list are those that have it
-pub selected_one : (k : Key) (ds : List Tree) → selected (k ∷ []) ds ≡ Sel k ds
+pub selected_one : (k : Key) (ds : List Tree) → selected (k ∷ []) ds ≡ having k ds
 selected_one k [] = refl
 selected_one k (d ∷ ds) =
     ap (λ b. cond b (d ∷ selected (k ∷ []) ds) (selected (k ∷ []) ds)) (and-true (has k d))

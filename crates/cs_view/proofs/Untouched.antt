@@ -4,14 +4,14 @@ use Rattle.std.specs.FinMap.Entries.{find}
 use Rattle.std.specs.List.{Contains}
 use Rattle.cs_value.specs.Tree.{Tree}
 use Rattle.cs_view.specs.Document.{passes}
-use Rattle.cs_view.specs.Dataset.{id_cmp, same_id, At, ascending, kept_if}
-use Rattle.cs_view.specs.Changes.{Edit, are_changes, Before, After, before_of, after_of}
-use Rattle.cs_view.specs.Keys.{has, Sel}
+use Rattle.cs_view.specs.Dataset.{id_cmp, same_id, standing, ascending, kept_if}
+use Rattle.cs_view.specs.Changes.{Edit, are_changes, before_changes, after_changes, before_of, after_of}
+use Rattle.cs_view.specs.Keys.{has, having}
 use Rattle.cs_view.specs.Touched.{touches, is_touched, touched}
 use Rattle.cs_view.specs.declared.key.Key.{Key}
 use Rattle.cs_view.proofs.Booleans.{or-left, or-right, passes_nowhere}
-use Rattle.cs_view.proofs.Datasets.{same_docs, ascending-filter, At-filter}
-use Rattle.cs_view.proofs.Changed.{own_ids, At-Before, At-After, ascending-Before, ascending-After}
+use Rattle.cs_view.proofs.Datasets.{same_docs, ascending-filter, standing-filter}
+use Rattle.cs_view.proofs.Changed.{own_ids, standing-before_changes, standing-after_changes, ascending-before_changes, ascending-after_changes}
 
 not_kept : (p : Tree → Bool) (o : Option Tree) → passes p o ≡ false → kept_if p o ≡ None
 not_kept p None h = refl
@@ -28,14 +28,14 @@ same_kept k q now (c ∷ cs) h =
       | false ↦ same_kept k q now cs (or-right (touches k c) (is_touched cs k) h)
     ]
 
-pub untouched-key : (docs : List Tree) (cs : List Edit) → ascending docs ≡ true → are_changes cs ≡ true → (k : Key) → is_touched cs k ≡ false → Sel k (Before docs cs) ≡ Sel k (After docs cs)
+pub untouched-key : (docs : List Tree) (cs : List Edit) → ascending docs ≡ true → are_changes cs ≡ true → (k : Key) → is_touched cs k ≡ false → having k (before_changes docs cs) ≡ having k (after_changes docs cs)
 untouched-key docs cs h changes k t =
-    let before : ascending (Before docs cs) ≡ true = ascending-Before docs cs h in
-    let after : ascending (After docs cs) ≡ true = ascending-After docs cs h in
-    same_docs (Sel k (Before docs cs)) (Sel k (After docs cs)) (ascending-filter (has k) (Before docs cs) before) (ascending-filter (has k) (After docs cs) after)
-    (λ q. At-filter (has k) q (Before docs cs) before ∙ ap (kept_if (has k)) (At-Before q docs cs (own_ids cs changes))
-    ∙ same_kept k q (At q docs) cs t
-    ∙ sym (At-filter (has k) q (After docs cs) after ∙ ap (kept_if (has k)) (At-After q docs cs (own_ids cs changes))))
+    let before : ascending (before_changes docs cs) ≡ true = ascending-before_changes docs cs h in
+    let after : ascending (after_changes docs cs) ≡ true = ascending-after_changes docs cs h in
+    same_docs (having k (before_changes docs cs)) (having k (after_changes docs cs)) (ascending-filter (has k) (before_changes docs cs) before) (ascending-filter (has k) (after_changes docs cs) after)
+    (λ q. standing-filter (has k) q (before_changes docs cs) before ∙ ap (kept_if (has k)) (standing-before_changes q docs cs (own_ids cs changes))
+    ∙ same_kept k q (standing q docs) cs t
+    ∙ sym (standing-filter (has k) q (after_changes docs cs) after ∙ ap (kept_if (has k)) (standing-after_changes q docs cs (own_ids cs changes))))
 
-pub untouched-keys : (docs : List Tree) (cs : List Edit) → ascending docs ≡ true → are_changes cs ≡ true → (keys : List Key) → touched keys cs ≡ false → (k : Key) → Contains keys k → Sel k (Before docs cs) ≡ Sel k (After docs cs)
+pub untouched-keys : (docs : List Tree) (cs : List Edit) → ascending docs ≡ true → are_changes cs ≡ true → (keys : List Key) → touched keys cs ≡ false → (k : Key) → Contains keys k → having k (before_changes docs cs) ≡ having k (after_changes docs cs)
 untouched-keys docs cs h changes keys t k c = untouched-key docs cs h changes k (passes_nowhere (is_touched cs) keys k t c)

@@ -5,7 +5,7 @@ use Rattle.std.specs.FinMap.Entries.{find, is_sorted}
 use Rattle.cs_value.specs.Tree.{Tree}
 use Rattle.cs_value.specs.Same.{same_tree}
 use Rattle.cs_view.specs.Document.{id_of, is_document}
-use Rattle.cs_view.specs.Dataset.{id_cmp, same_id, At, with_doc, placed, kept_if}
+use Rattle.cs_view.specs.Dataset.{id_cmp, same_id, standing, with_doc, placed, kept_if}
 
 -- a change: an id, what stands under it before, and what stands there after
 abbrev pub Edit : Type 0
@@ -34,21 +34,21 @@ are_documents cs = list_all (λ c. is_document_or_none c.1.0 && is_document_or_n
 
 -- each `before` is what the dataset holds under that id
 abbrev pub LeadFrom : List Tree → List Edit → Type 0
-LeadFrom docs cs = AllByRecursion (λ c. c.1.0 ≡ At c.0 docs) cs
+LeadFrom docs cs = AllByRecursion (λ c. c.1.0 ≡ standing c.0 docs) cs
 
 -- each `after` is what the dataset holds under that id
 abbrev pub LeadTo : List Tree → List Edit → Type 0
-LeadTo docs cs = AllByRecursion (λ c. c.1.1 ≡ At c.0 docs) cs
+LeadTo docs cs = AllByRecursion (λ c. c.1.1 ≡ standing c.0 docs) cs
 
 -- the dataset with each change's `before` in the place of its id
-abbrev pub Before : List Tree → List Edit → List Tree
-Before docs [] = docs
-Before docs (c ∷ cs) = placed c.0 c.1.0 (Before docs cs)
+abbrev pub before_changes : List Tree → List Edit → List Tree
+before_changes docs [] = docs
+before_changes docs (c ∷ cs) = placed c.0 c.1.0 (before_changes docs cs)
 
 -- the dataset with each change's `after` in the place of its id
-abbrev pub After : List Tree → List Edit → List Tree
-After docs [] = docs
-After docs (c ∷ cs) = placed c.0 c.1.1 (After docs cs)
+abbrev pub after_changes : List Tree → List Edit → List Tree
+after_changes docs [] = docs
+after_changes docs (c ∷ cs) = placed c.0 c.1.1 (after_changes docs cs)
 
 -- what stands under an id before, or after, changes that hold these sides of the id, or do not
 -- speak of it
@@ -72,7 +72,7 @@ IsChangeAt before after (Some sides) = (before ≢ after) × (sides ≡ (before,
 abbrev pub AreChangesBetween : List Tree → List Tree → List Edit → Type 0
 AreChangesBetween one other cs =
     (ids_ascend cs ≡ true)
-    × ((id : List ℕ) → IsChangeAt (At id one) (At id other) (find id_cmp id cs))
+    × ((id : List ℕ) → IsChangeAt (standing id one) (standing id other) (find id_cmp id cs))
 
 -- the one document stands on both sides, or none on either
 abbrev pub is_same_side : Option Tree → Option Tree → Bool
@@ -82,7 +82,7 @@ is_same_side a b = false
 
 -- the two datasets hold not the same under the id
 abbrev pub differ_at : List Tree → List Tree → List ℕ → Bool
-differ_at one other id = not (is_same_side (At id one) (At id other))
+differ_at one other id = not (is_same_side (standing id one) (standing id other))
 
 -- documents with each id that one of the two datasets has, and with no other
 abbrev pub united : List Tree → List Tree → List Tree
@@ -92,7 +92,7 @@ united (d ∷ ds) other = with_doc d (united ds other)
 -- the one list of the changes from one dataset to another
 abbrev pub changes_between : List Tree → List Tree → List Edit
 changes_between one other =
-    map (λ d. (id_of d, (At (id_of d) one, At (id_of d) other)))
+    map (λ d. (id_of d, (standing (id_of d) one, standing (id_of d) other)))
     (filter (λ d. differ_at one other (id_of d)) (united one other))
 
 -- the changes of those documents that pass a test

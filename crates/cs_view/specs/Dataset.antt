@@ -21,11 +21,11 @@ abbrev pub keyed : List Tree → List (List ℕ × Tree)
 keyed docs = map (λ d. (id_of d, d)) docs
 
 -- the document with the id
-abbrev pub At : List ℕ → List Tree → Option Tree
-At id docs = find id_cmp id (keyed docs)
+abbrev pub standing : List ℕ → List Tree → Option Tree
+standing id docs = find id_cmp id (keyed docs)
 
 abbrev pub stands : List ℕ → List Tree → Bool
-stands id docs = is_some (At id docs)
+stands id docs = is_some (standing id docs)
 
 -- the ids ascend strictly
 abbrev pub ascending : List Tree → Bool

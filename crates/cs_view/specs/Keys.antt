@@ -55,8 +55,8 @@ has (Elem ns s) d = passes (has_element s) (followed ns d)
 has (Ref t) d = has_ref t d
 
 -- the documents of the dataset that have the key
-abbrev pub Sel : Key → List Tree → List Tree
-Sel k docs = filter (has k) docs
+abbrev pub having : Key → List Tree → List Tree
+having k docs = filter (has k) docs
 
 -- whether a document has each of the keys
 abbrev pub has_all : List Key → Tree → Bool

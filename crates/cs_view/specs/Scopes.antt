@@ -7,9 +7,9 @@ use Rattle.cs_view.specs.declared.scope.Scope.{Scope, Scope', Held-Scope-parent,
 
 -- its value, and then the values of the scope around it
 abbrev mutual
-  pub scope : Scope → List Tree
-  scope (Scope' this parent) = tree this.now ∷ outer parent
+  pub scope_of : Scope → List Tree
+  scope_of (Scope' this parent) = tree this.now ∷ outer parent
 
   pub outer : Held-Scope-parent → List Tree
   outer None' = []
-  outer (Some' p s) = scope s
+  outer (Some' p s) = scope_of s

@@ -6,12 +6,12 @@ use Rattle.cs_view.specs.Changes.{Edit}
 use Rattle.cs_view.specs.declared.doc.Doc.{Doc}
 use Rattle.cs_view.specs.declared.change.Change.{Change}
 
-abbrev pub doc : Doc → Tree
-doc d = tree d.val.value
+abbrev pub document_of : Doc → Tree
+document_of d = tree d.val.value
 
 -- an id with the documents before and after
 abbrev pub edit : Change → Edit
-edit c = (c.id, (option_map doc c.before, option_map doc c.after))
+edit c = (c.id, (option_map document_of c.before, option_map document_of c.after))
 
 abbrev pub edits : List Change → List Edit
 edits cs = map edit cs

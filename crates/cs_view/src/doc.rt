@@ -90,13 +90,13 @@ fn is_document(val: &Val) -> bool
 }
 
 impl Doc {
-    ghost use Rattle.cs_view.specs.View.{doc};
+    ghost use Rattle.cs_view.specs.View.{document_of};
 
     /// The document that the value is. `NoDocument` comes exactly where it is none, and has the
     /// value. `NoMemory` where the allocator has no room for what copies share.
     pub fn make(alloc: Global, val: Val) -> Result<Doc, DocFault>
         ensures { MatchResult result
-            (λ d. (is_document (tree val) ≡ true) × (doc d ≡ tree val))
+            (λ d. (is_document (tree val) ≡ true) × (document_of d ≡ tree val))
             (IsUnmade (tree val)) }
     {
         if !is_document(&val) {
@@ -112,7 +112,7 @@ impl Doc {
     /// allocator has no room for what copies share.
     pub fn of(alloc: Global, val: Val) -> Result<Doc, NoMemory>
         requires { is_document (tree val) ≡ true }
-        ensures { IfOk result (λ d. doc d ≡ tree val) }
+        ensures { IfOk result (λ d. document_of d ≡ tree val) }
     {
         match Rc::new(alloc, val) {
             Ok(val) => Ok(Doc { val }),
@@ -122,7 +122,7 @@ impl Doc {
 
     /// The document as a value.
     pub fn val(&self) -> &Val
-        ensures { tree result.now ≡ doc self.now }
+        ensures { tree result.now ≡ document_of self.now }
     {
         self.val.as_ref()
     }
@@ -130,7 +130,7 @@ impl Doc {
     /// Its `_id`.
     #[tactic(auto, using(crate::proofs::Documents::document_id))]
     pub fn id(&self) -> &Txt
-        ensures { result.now ≡ id_of (doc self.now) }
+        ensures { result.now ≡ id_of (document_of self.now) }
     {
         let Some(id) = text(self.val(), "_id") else {
             unreachable!()
@@ -141,7 +141,7 @@ impl Doc {
     /// Its `_rev`: the id of the transaction that wrote it last.
     #[tactic(auto, using(crate::proofs::Documents::document_rev))]
     pub fn rev(&self) -> &Txt
-        ensures { result.now ≡ rev_of (doc self.now) }
+        ensures { result.now ≡ rev_of (document_of self.now) }
     {
         let Some(rev) = text(self.val(), "_rev") else {
             unreachable!()
@@ -152,7 +152,7 @@ impl Doc {
     /// A copy of the document, which shares its value and takes no memory. `NoMemory` where more
     /// copies stand than can be counted.
     pub fn copy(&self) -> Result<Doc, NoMemory>
-        ensures { IfOk result (λ d. doc d ≡ doc self.now) }
+        ensures { IfOk result (λ d. document_of d ≡ document_of self.now) }
     {
         match self.val.clone() {
             Ok(val) => Ok(Doc { val }),

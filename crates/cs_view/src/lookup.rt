@@ -1,14 +1,13 @@
 //! Which documents have a key.
-ghost use Rattle.std.specs.Prelude.{◌≡◌, option_map, option_and_then, codes};
+ghost use Rattle.std.specs.Prelude.{◌≡◌, option_map};
 ghost use Rattle.std.specs.List.{list_any};
 ghost use Rattle.std.specs.Str.{bytes_eq};
-ghost use Rattle.cs_value.specs.Pairs.{find};
 ghost use Rattle.cs_value.specs.Tree.{trees};
 ghost use Rattle.cs_value.specs.View.{tree, fields, list_tree};
-ghost use Rattle.cs_value.specs.Words.{as_text, followed};
+ghost use Rattle.cs_value.specs.Words.{followed, ref_of};
 ghost use Rattle.cs_view.specs.Document.{passes};
 ghost use Rattle.cs_view.specs.Keys.{has, has_all, equals, has_element, has_ref, some_has_ref, some_pair_has_ref};
-ghost use Rattle.cs_view.specs.View.{doc as document};
+ghost use Rattle.cs_view.specs.View.{document_of};
 
 use crate::doc::Doc;
 use crate::key::{Key, Scalar};
@@ -17,7 +16,7 @@ use cs_value::{Fields, Txt, Val};
 /// Whether the document has the key. It takes no memory.
 #[tactic(auto, using(crate::proofs::Looking::one_id))]
 pub fn has(key: &Key, doc: &Doc) -> bool
-    ensures { result ≡ has key.now (document doc.now) }
+    ensures { result ≡ has key.now (document_of doc.now) }
 {
     match key {
         Key::All => true,
@@ -36,7 +35,7 @@ pub fn has(key: &Key, doc: &Doc) -> bool
 
 /// Whether the document has each of the keys. It takes no memory.
 pub fn has_all(keys: &[Key], doc: &Doc) -> bool
-    ensures { result ≡ has_all keys.now (document doc.now) }
+    ensures { result ≡ has_all keys.now (document_of doc.now) }
 {
     for key in keys {
         if !has(key, doc) {
@@ -89,14 +88,11 @@ fn some_equals(scalar: &Scalar, items: &Vec<Val>) -> bool
 }
 
 fn is_ref(object: &Fields, target: &Txt) -> bool
-    ensures { result
-        ≡ passes (λ s. bytes_eq s target.now)
-        (option_and_then as_text (find (codes "_ref") (fields object.now))) }
+    ensures { result ≡ passes (λ s. bytes_eq s target.now) (ref_of (fields object.now)) }
 {
-    if let Some(Val::Text(text)) = object.get("_ref") {
-        text.as_str() == target.as_str()
-    } else {
-        false
+    match object.reference() {
+        Some(text) => text.as_str() == target.as_str(),
+        None => false,
     }
 }
 

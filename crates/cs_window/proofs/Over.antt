@@ -6,7 +6,7 @@ use Rattle.std.proofs.lemmas.Grind.{common_steps}
 use Rattle.cs_value.specs.Words.{list_of}
 use Rattle.cs_value.specs.Tree.{Tree, null, Pairs}
 use Rattle.cs_syntax.specs.Expression.{Expression, everything, chain, attr, deref, each, slice, bracket, project, pipe, Steps, no_steps, more_steps, order_key, OrderKeys, no_keys, more_keys}
-use Rattle.cs_view.specs.Keys.{Sel}
+use Rattle.cs_view.specs.Keys.{having}
 use Rattle.cs_view.specs.declared.key.Key.{Key}
 use Rattle.cs_plan.specs.Filters.{key_in}
 use Rattle.cs_plan.specs.Simple.{is_filter, is_quiet, is_simple, quiet_keys, quiet_step, quiet_steps, are_tail_steps, filter_of, query_key, steps_behind, tail_of}
@@ -73,7 +73,7 @@ looked-hits docs params f ss c q starts =
     let all : Steps = more_steps (bracket f) ss in
     let k : Key = key_in f scope params in
     let v : Tree = entered (base_entrance everything (kind all)) (rest_value docs params all scope) (list_of docs) in
-    let none : flat_map (λ d. looked docs params f (d ∷ scope)) (Sel k docs) ≡ [] = flat-none (λ d. looked docs params f (d ∷ scope)) (λ d. silent docs params f q (d ∷ scope)) (Sel k docs) in
+    let none : flat_map (λ d. looked docs params f (d ∷ scope)) (having k docs) ≡ [] = flat-none (λ d. looked docs params f (d ∷ scope)) (λ d. silent docs params f q (d ∷ scope)) (having k docs) in
     let left : step_value docs params (bracket f) scope (list_of docs) ≡ list_of (hits e params docs) = left-value docs params f scope c ∙ ap list_of (left-hits docs params f ss q) in
     let first : filter_looked docs params all scope ≡ k ∷ entered_keys docs params ss (hits e params docs)
     = ap (λ (ks : List Key). k ∷ (ks ++ entered_looked (entrance (kind ss)) (rest_looked docs params ss scope) (step_value docs params (bracket f) scope (list_of docs)))) none

@@ -8,7 +8,7 @@ use Rattle.std.proofs.lemmas.List.Elements.{All-cons, All-nil}
 use Rattle.std.proofs.lemmas.List.Kept.{AllPairs-cons}
 use Rattle.cs_value.specs.Tree.{Tree, Pairs, no_pairs, more_pairs}
 use Rattle.cs_value.specs.Pairs.{find}
-use Rattle.cs_wire.specs.Commands.{is_among, keys_of, has_keys}
+use Rattle.cs_wire.specs.Commands.{is_among, key_names, has_keys}
 use Rattle.cs_wire.specs.Rows.{Row, rows}
 use Rattle.cs_wire.proofs.Asking.{equal_texts}
 
@@ -19,10 +19,10 @@ tested_at Equal p k l t found e here more h = ap p (equal_texts k l e) ∙ here
 tested_at Greater p k l t found e here more h = more h
 
 -- a key that is there passes what all keys pass
-tested : (p : List ℕ → Bool) (k : List ℕ) (ps : Pairs) → list_all p (keys_of ps) ≡ true → is_some (find k ps) ≡ true → p k ≡ true
+tested : (p : List ℕ → Bool) (k : List ℕ) (ps : Pairs) → list_all p (key_names ps) ≡ true → is_some (find k ps) ≡ true → p k ≡ true
 tested p k no_pairs all there = absurd (true≢false (sym there))
 tested p k (more_pairs l t ps) all there =
-    let parts = and_parts (p l) (list_all p (keys_of ps)) all in
+    let parts = and_parts (p l) (list_all p (key_names ps)) all in
     tested_at (slice_cmp nat_cmp k l) p k l t (find k ps) refl parts.0 (λ h. tested p k ps parts.1 h) there
 
 -- the keys that s has or may have
@@ -40,7 +40,7 @@ stranger : (ks : List (List ℕ)) (s : Row) (ps : Pairs) → list_any (λ k. not
 stranger [] s ps some all h = true≢false (sym some)
 stranger (k ∷ ks) s ps some all h =
     let parts = and_parts (is_some (find k ps)) (list_all (λ k. is_some (find k ps)) ks) all in
-    let has = and_parts (list_all (λ k. is_some (find k ps)) s.must) (list_all (λ k. is_among k (known s)) (keys_of ps)) h in
+    let has = and_parts (list_all (λ k. is_some (find k ps)) s.must) (list_all (λ k. is_among k (known s)) (key_names ps)) h in
     let among : is_among k (known s) ≡ true = tested (λ k. is_among k (known s)) k ps has.1 parts.0 in
     let rest : list_any (λ k. not (is_among k (known s))) ks ≡ true = ap (λ b. not b || list_any (λ k. not (is_among k (known s))) ks) (sym among) ∙ some in
     stranger ks s ps rest parts.1 h
@@ -50,7 +50,7 @@ Excludes ps r s = has_keys r.must r.may ps ≡ true → has_keys s.must s.may ps
 
 excluded_by : (r s : Row) (ps : Pairs) → needs_more r s ≡ true → Excludes ps r s
 excluded_by r s ps e h k =
-    stranger r.must s ps e (and_parts (list_all (λ k. is_some (find k ps)) r.must) (list_all (λ k. is_among k (known r)) (keys_of ps)) h).0 k
+    stranger r.must s ps e (and_parts (list_all (λ k. is_some (find k ps)) r.must) (list_all (λ k. is_among k (known r)) (key_names ps)) h).0 k
 
 excluded_or : (b : Bool) (r s : Row) (ps : Pairs) → needs_more r s ≡ b → (b || needs_more s r) ≡ true → Excludes ps r s
 excluded_or true r s ps e h = excluded_by r s ps e

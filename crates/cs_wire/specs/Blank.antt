@@ -7,5 +7,5 @@ abbrev pub is_blank_byte : ℕ → Bool
 is_blank_byte b = b == code " " || b == code "\t" || b == code "\r"
 
 -- spaces, tabs and carriage returns alone
-abbrev pub is_blank : List ℕ → Bool
-is_blank line = list_all is_blank_byte line
+abbrev pub is_blank_line : List ℕ → Bool
+is_blank_line line = list_all is_blank_byte line

@@ -19,14 +19,14 @@ pub data Request : Type 0 where
 abbrev pub is_among : List ℕ → List (List ℕ) → Bool
 is_among k ks = list_any (bytes_eq k) ks
 
-abbrev pub keys_of : Pairs → List (List ℕ)
-keys_of ps = map (λ p. p.0) (attributes ps)
+abbrev pub key_names : Pairs → List (List ℕ)
+key_names ps = map (λ p. p.0) (attributes ps)
 
 -- every key that must be there is there, and there is no key but these and those that may be
 abbrev pub has_keys : (must may : List (List ℕ)) → Pairs → Bool
 has_keys must may ps =
     list_all (λ k. is_some (find k ps)) must
-    && list_all (λ k. is_among k (must ++ may)) (keys_of ps)
+    && list_all (λ k. is_among k (must ++ may)) (key_names ps)
 
 abbrev pub text_in : List ℕ → Pairs → Option (List ℕ)
 text_in k ps = option_and_then as_text (find k ps)

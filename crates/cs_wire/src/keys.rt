@@ -3,7 +3,7 @@ ghost use Rattle.std.specs.Prelude.{◌≡◌, ◌++◌, map, is_some};
 ghost use Rattle.std.specs.List.{list_all};
 ghost use Rattle.cs_value.specs.Pairs.{find};
 ghost use Rattle.cs_value.specs.View.{fields};
-ghost use Rattle.cs_wire.specs.Commands.{is_among, keys_of, has_keys};
+ghost use Rattle.cs_wire.specs.Commands.{is_among, key_names, has_keys};
 
 use cs_value::Fields;
 
@@ -40,7 +40,7 @@ fn is_known(key: &str, must: &[&str], may: &[&str]) -> bool
 fn has_only(object: &Fields, must: &[&str], may: &[&str]) -> bool
     ensures { result ≡ list_all
         (λ k. is_among k (map (λ k. k.now) must.entry.now ++ map (λ k. k.now) may.entry.now))
-        (keys_of (fields object.now)) }
+        (key_names (fields object.now)) }
 {
     for (key, _) in object.pairs.iter() {
         if !is_known(key, must, may) {

@@ -7,18 +7,18 @@ use Rattle.std.specs.Ordering.{is_eq, is_lt, ordering_reverse}
 use Rattle.std.proofs.lemmas.Bool.{and_from}
 use Rattle.cs_value.specs.Tree.{Tree}
 use Rattle.cs_view.specs.Document.{id_of}
-use Rattle.cs_view.specs.Dataset.{id_cmp, same_id, At, ascending, kept_if}
+use Rattle.cs_view.specs.Dataset.{id_cmp, same_id, standing, ascending, kept_if}
 use Rattle.cs_view.specs.Keys.{has_all, selected}
 use Rattle.cs_view.specs.declared.key.Key.{Key}
-use Rattle.cs_view.proofs.Changed.{ascending-After}
-use Rattle.cs_view.proofs.Datasets.{same_id-same, same_docs, ascending-filter, At-filter, is_lt-Less}
+use Rattle.cs_view.proofs.Changed.{ascending-after_changes}
+use Rattle.cs_view.proofs.Datasets.{same_id-same, same_docs, ascending-filter, standing-filter, is_lt-Less}
 use Rattle.cs_shelf.specs.View.{documents}
 use Rattle.cs_shelf.proofs.Standing.{ascending-documents}
 use Rattle.cs_docs.proofs.Filters.{IsBelow, below-head, below-tail, head-below, tail-ascends, members}
 use Rattle.cs_index.specs.View.{store_of}
 use Rattle.cs_working.specs.Working.{worked, base, working}
 use Rattle.cs_working.specs.declared.working.Working.{Working}
-use Rattle.cs_working.proofs.Workings.{At-working}
+use Rattle.cs_working.proofs.Workings.{standing-working}
 
 -- the first documents, as far as their ids are below this one, and those after them
 abbrev pub lower_docs : List ℕ → List Tree → List Tree
@@ -57,11 +57,11 @@ abbrev or_else : Option Tree → Option Tree → Option Tree
 or_else None b = b
 or_else (Some a) b = Some a
 
-At-append : (q : List ℕ) (xs ys : List Tree) → At q (xs ++ ys) ≡ or_else (At q xs) (At q ys)
-At-append q [] ys = refl
-At-append q (x ∷ xs) ys =
-    let rest = At-append q xs ys in
-    elim (same_id q (id_of x)) as (λ b. cond b (Some x) (At q (xs ++ ys)) ≡ or_else (cond b (Some x) (At q xs)) (At q ys)) [ true ↦ refl | false ↦ rest ]
+standing-append : (q : List ℕ) (xs ys : List Tree) → standing q (xs ++ ys) ≡ or_else (standing q xs) (standing q ys)
+standing-append q [] ys = refl
+standing-append q (x ∷ xs) ys =
+    let rest = standing-append q xs ys in
+    elim (same_id q (id_of x)) as (λ b. cond b (Some x) (standing q (xs ++ ys)) ≡ or_else (cond b (Some x) (standing q xs)) (standing q ys)) [ true ↦ refl | false ↦ rest ]
 
 parted : (id : List ℕ) (ds : List Tree) → lower_docs id ds ++ upper_docs id ds ≡ ds
 parted id [] = refl
@@ -79,16 +79,16 @@ module _ (touched : List ℕ → Bool) where
     by_test false e = refl
     by_test true e = absurd (true≢false (sym g ∙ ap touched (sym (same_id-same b a e)) ∙ h))
 
-  At-untouched : (q : List ℕ) (ds : List Tree) → AreTouched ds → touched q ≡ false → At q ds ≡ None
-  At-untouched q [] all h = refl
-  At-untouched q (d ∷ ds) all h = ap (λ b. cond b (Some d) (At q ds)) (apart (id_of d) q all.0 h) ∙ At-untouched q ds all.1 h
+  standing-untouched : (q : List ℕ) (ds : List Tree) → AreTouched ds → touched q ≡ false → standing q ds ≡ None
+  standing-untouched q [] all h = refl
+  standing-untouched q (d ∷ ds) all h = ap (λ b. cond b (Some d) (standing q ds)) (apart (id_of d) q all.0 h) ∙ standing-untouched q ds all.1 h
 
-  pub At-merged : (q : List ℕ) (ds ps : List Tree) → AreTouched ps → At q (merged_docs touched ds ps) ≡ cond (touched q) (At q ps) (At q ds)
-  At-merged q [] ps all = by_test (touched q) refl where
-    by_test : (b : Bool) → touched q ≡ b → At q ps ≡ cond b (At q ps) None
+  pub standing-merged : (q : List ℕ) (ds ps : List Tree) → AreTouched ps → standing q (merged_docs touched ds ps) ≡ cond (touched q) (standing q ps) (standing q ds)
+  standing-merged q [] ps all = by_test (touched q) refl where
+    by_test : (b : Bool) → touched q ≡ b → standing q ps ≡ cond b (standing q ps) None
     by_test true e = refl
-    by_test false e = At-untouched q ps all e
-  At-merged q (d ∷ ds) ps all = by_tests (touched (id_of d)) refl (touched q) refl (At-merged q ds ps all) (At-merged q ds (upper_docs (id_of d) ps) (all-upper _ (id_of d) ps all)) where
+    by_test false e = standing-untouched q ps all e
+  standing-merged q (d ∷ ds) ps all = by_tests (touched (id_of d)) refl (touched q) refl (standing-merged q ds ps all) (standing-merged q ds (upper_docs (id_of d) ps) (all-upper _ (id_of d) ps all)) where
     low : List Tree
     low = lower_docs (id_of d) ps
 
@@ -96,25 +96,25 @@ module _ (touched : List ℕ → Bool) where
     high = upper_docs (id_of d) ps
 
     by_tests : (b : Bool) → touched (id_of d) ≡ b → (c : Bool) → touched q ≡ c
-        → At q (merged_docs touched ds ps) ≡ cond (touched q) (At q ps) (At q ds)
-        → At q (merged_docs touched ds high) ≡ cond (touched q) (At q high) (At q ds)
-        → At q (cond b (merged_docs touched ds ps) (low ++ d ∷ merged_docs touched ds high)) ≡ cond c (At q ps) (cond (same_id q (id_of d)) (Some d) (At q ds))
-    by_tests true e true f here there = here ∙ ap (λ t. cond t (At q ps) (At q ds)) f
-    by_tests true e false f here there = here ∙ ap (λ t. cond t (At q ps) (At q ds)) f ∙ sym (ap (λ t. cond t (Some d) (At q ds)) (apart (id_of d) q e f))
+        → standing q (merged_docs touched ds ps) ≡ cond (touched q) (standing q ps) (standing q ds)
+        → standing q (merged_docs touched ds high) ≡ cond (touched q) (standing q high) (standing q ds)
+        → standing q (cond b (merged_docs touched ds ps) (low ++ d ∷ merged_docs touched ds high)) ≡ cond c (standing q ps) (cond (same_id q (id_of d)) (Some d) (standing q ds))
+    by_tests true e true f here there = here ∙ ap (λ t. cond t (standing q ps) (standing q ds)) f
+    by_tests true e false f here there = here ∙ ap (λ t. cond t (standing q ps) (standing q ds)) f ∙ sym (ap (λ t. cond t (Some d) (standing q ds)) (apart (id_of d) q e f))
     by_tests false e true f here there =
-        At-append q low (d ∷ merged_docs touched ds high)
-        ∙ ap (λ t. or_else (At q low) (cond t (Some d) (At q (merged_docs touched ds high)))) (other e f)
-        ∙ ap (or_else (At q low)) (there ∙ ap (λ t. cond t (At q high) (At q ds)) f)
-        ∙ sym (At-append q low high) ∙ ap (At q) (parted (id_of d) ps) where
+        standing-append q low (d ∷ merged_docs touched ds high)
+        ∙ ap (λ t. or_else (standing q low) (cond t (Some d) (standing q (merged_docs touched ds high)))) (other e f)
+        ∙ ap (or_else (standing q low)) (there ∙ ap (λ t. cond t (standing q high) (standing q ds)) f)
+        ∙ sym (standing-append q low high) ∙ ap (standing q) (parted (id_of d) ps) where
           other : touched (id_of d) ≡ false → touched q ≡ true → same_id q (id_of d) ≡ false
           other g h = by_test (same_id q (id_of d)) refl where
             by_test : (t : Bool) → same_id q (id_of d) ≡ t → t ≡ false
             by_test false s = refl
             by_test true s = absurd (true≢false (sym h ∙ ap touched (same_id-same q (id_of d) s) ∙ g))
     by_tests false e false f here there =
-        At-append q low (d ∷ merged_docs touched ds high)
-        ∙ ap (λ o. or_else o (cond (same_id q (id_of d)) (Some d) (At q (merged_docs touched ds high)))) (At-untouched q low (all-lower _ (id_of d) ps all) f)
-        ∙ ap (cond (same_id q (id_of d)) (Some d)) (there ∙ ap (λ t. cond t (At q high) (At q ds)) f)
+        standing-append q low (d ∷ merged_docs touched ds high)
+        ∙ ap (λ o. or_else o (cond (same_id q (id_of d)) (Some d) (standing q (merged_docs touched ds high)))) (standing-untouched q low (all-lower _ (id_of d) ps all) f)
+        ∙ ap (cond (same_id q (id_of d)) (Some d)) (there ∙ ap (λ t. cond t (standing q high) (standing q ds)) f)
 
 -- ---- the ids ascend
 below-trans : (k j : List ℕ) (ds : List Tree) → id_cmp k j ≡ Less → IsBelow j ds → IsBelow k ds
@@ -209,7 +209,7 @@ ascending-merged touched (d ∷ ds) ps all g h =
 -- ---- the documents that have each of some keys
 touched_put : (w : Working) → AreTouched (contains id_cmp w.touched) (documents w.put)
 touched_put w = each (documents w.put) (members (documents w.put) (ascending-documents w.put)) where
-  each : (ds : List Tree) → AllByRecursion (λ d. At (id_of d) (documents w.put) ≡ Some d) ds → AreTouched (contains id_cmp w.touched) ds
+  each : (ds : List Tree) → AllByRecursion (λ d. standing (id_of d) (documents w.put) ≡ Some d) ds → AreTouched (contains id_cmp w.touched) ds
   each [] h = tt
   each (d ∷ ds) h = (w.noted (id_of d) (ap is_some h.0), each ds h.1)
 
@@ -222,13 +222,13 @@ merged_working w ks =
     let t : List ℕ → Bool = contains id_cmp w.touched in
     let store : ascending (base w) ≡ true = ascending-documents (store_of w.store).shelf in
     let put : ascending (documents w.put) ≡ true = ascending-documents w.put in
-    let now : ascending (working w) ≡ true = ascending-After (base w) (worked (base w) (documents w.put) w.touched.keys) store in
+    let now : ascending (working w) ≡ true = ascending-after_changes (base w) (worked (base w) (documents w.put) w.touched.keys) store in
     let all : AreTouched t (selected ks (documents w.put)) = all-filter _ (has_all ks) (documents w.put) (touched_put w) in
     same_docs (merged_docs t (selected ks (base w)) (selected ks (documents w.put))) (selected ks (working w))
     (ascending-merged t (selected ks (base w)) (selected ks (documents w.put)) all (ascending-filter (has_all ks) (base w) store) (ascending-filter (has_all ks) (documents w.put) put))
     (ascending-filter (has_all ks) (working w) now)
-    (λ q. At-merged t q (selected ks (base w)) (selected ks (documents w.put)) all
-    ∙ ap (λ o. cond (t q) o (At q (selected ks (base w)))) (At-filter (has_all ks) q (documents w.put) put)
-    ∙ ap (λ o. cond (t q) (kept_if (has_all ks) (At q (documents w.put))) o) (At-filter (has_all ks) q (base w) store)
-    ∙ kept_side (has_all ks) (t q) (At q (documents w.put)) (At q (base w))
-    ∙ ap (kept_if (has_all ks)) (sym (At-working w q)) ∙ sym (At-filter (has_all ks) q (working w) now))
+    (λ q. standing-merged t q (selected ks (base w)) (selected ks (documents w.put)) all
+    ∙ ap (λ o. cond (t q) o (standing q (selected ks (base w)))) (standing-filter (has_all ks) q (documents w.put) put)
+    ∙ ap (λ o. cond (t q) (kept_if (has_all ks) (standing q (documents w.put))) o) (standing-filter (has_all ks) q (base w) store)
+    ∙ kept_side (has_all ks) (t q) (standing q (documents w.put)) (standing q (base w))
+    ∙ ap (kept_if (has_all ks)) (sym (standing-working w q)) ∙ sym (standing-filter (has_all ks) q (working w) now))

@@ -8,7 +8,7 @@ use Rattle.std.specs.Ordering.{is_lt}
 use Rattle.std.specs.Prelude.{IfSome}
 use Rattle.cs_value.specs.Tree.{Tree}
 use Rattle.cs_view.specs.Document.{id_of}
-use Rattle.cs_view.specs.Dataset.{id_cmp, At}
+use Rattle.cs_view.specs.Dataset.{id_cmp, standing}
 use Rattle.cs_view.specs.Keys.{has_all, selected}
 use Rattle.cs_view.specs.declared.key.Key.{Key}
 use Rattle.cs_shelf.specs.Places.{or_null, most_places}
@@ -80,7 +80,7 @@ map_behind w [] = refl
 map_behind w (p ∷ ps) = ap₂ (λ (o : Option Tree) (r : List (Option Tree)). o ∷ r) (behind_at w p) (map_behind w ps)
 
 -- what the store holds under an id and at a place stands at the low place
-low_stands : (w : Working) (s : ℕ) (d : Tree) → store_at w.store s ≡ Some d → At (id_of d) (base w) ≡ Some d
+low_stands : (w : Working) (s : ℕ) (d : Tree) → store_at w.store s ≡ Some d → standing (id_of d) (base w) ≡ Some d
     → doc_at w (low_place w s (id_of d)) ≡ Some d
 low_stands w s d here at = by_test (nat_lt s most_places) refl where
   by_place : (o : Option ℕ) → IfSome o (λ p. p < most_places) → option_map (store_at w.store) o ≡ Some (Some d) → doc_at w (place_or s o) ≡ Some d
@@ -95,7 +95,7 @@ low_stands w s d here at = by_test (nat_lt s most_places) refl where
 
 -- each of the documents is what the store holds under its id
 abbrev AreOwn : Working → List Tree → Type 0
-AreOwn w ds = AllByRecursion (λ d. At (id_of d) (base w) ≡ Some d) ds
+AreOwn w ds = AllByRecursion (λ d. standing (id_of d) (base w) ≡ Some d) ds
 
 own_selected : (w : Working) (ks : List Key) → AreOwn w (selected ks (base w))
 own_selected w ks = all-filter _ (has_all ks) (base w) (members (base w) (ascending-documents (store_of w.store).shelf))

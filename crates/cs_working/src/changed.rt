@@ -2,7 +2,7 @@
 ghost use Rattle.std.specs.Prelude.{◌≡◌, ◌↔◌, ◌++◌, IsTrue, IfOk, OnOk, option_map};
 ghost use Rattle.std.specs.Option.{option_to_list};
 ghost use Rattle.cs_view.specs.Changes.{AreChangesBetween};
-ghost use Rattle.cs_view.specs.View.{doc as document, edit, edits};
+ghost use Rattle.cs_view.specs.View.{document_of, edit, edits};
 ghost use Rattle.cs_working.specs.Changed.{IsOneChange};
 ghost use Rattle.cs_working.specs.Working.{base, working};
 
@@ -13,8 +13,8 @@ use std::alloc::Global;
 
 // Whether both are none, or the same tree.
 fn same_side(one: Option<&Doc>, other: Option<&Doc>) -> bool
-    ensures { IsTrue result ↔ (option_map (λ d. document d.now) one.entry
-        ≡ option_map (λ d. document d.now) other.entry) }
+    ensures { IsTrue result ↔ (option_map (λ d. document_of d.now) one.entry
+        ≡ option_map (λ d. document_of d.now) other.entry) }
 {
     match (one, other) {
         (Some(a), Some(b)) => a.val().same(b.val()),
@@ -25,7 +25,7 @@ fn same_side(one: Option<&Doc>, other: Option<&Doc>) -> bool
 
 fn copied(doc: Option<&Doc>) -> Result<Option<Doc>, NoMemory>
     ensures { IfOk result
-        (λ o. option_map document o ≡ option_map (λ d. document d.now) doc.entry) }
+        (λ o. option_map document_of o ≡ option_map (λ d. document_of d.now) doc.entry) }
 {
     match doc {
         Some(doc) => Ok(Some(doc.copy()?)),
@@ -40,8 +40,9 @@ fn change_of(
     before: Option<&Doc>,
     after: Option<&Doc>,
 ) -> Result<Option<Change>, NoMemory>
-    ensures { IfOk result (λ o. IsOneChange id.now (option_map (λ d. document d.now) before.entry)
-        (option_map (λ d. document d.now) after.entry) (option_map edit o)) }
+    ensures { IfOk result (λ o. IsOneChange id.now
+        (option_map (λ d. document_of d.now) before.entry)
+        (option_map (λ d. document_of d.now) after.entry) (option_map edit o)) }
 {
     if same_side(before, after) {
         return Ok(None);

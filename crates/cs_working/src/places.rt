@@ -1,8 +1,8 @@
 //! Places of a working dataset: below [`MOST_PLACES`] those of the store, and from there on those
 //! of what is put.
 ghost use Rattle.std.specs.Prelude.{◌≡◌, Some, IsSome, option_map};
-ghost use Rattle.cs_view.specs.Dataset.{At};
-ghost use Rattle.cs_view.specs.View.{doc as document};
+ghost use Rattle.cs_view.specs.Dataset.{standing};
+ghost use Rattle.cs_view.specs.View.{document_of};
 ghost use Rattle.cs_shelf.specs.View.{documents};
 ghost use Rattle.cs_working.specs.Working.{base, working, doc_at};
 
@@ -15,7 +15,7 @@ impl<'d> Working<'d> {
     // The place of what the store holds under the id.
     fn store_place(&self, id: &Txt) -> Option<u32>
         ensures { option_map (doc_at self.now) result
-            ≡ option_map Some (At id.now (base self.now)) }
+            ≡ option_map Some (standing id.now (base self.now)) }
     {
         self.store.docs().place(id)
     }
@@ -23,7 +23,7 @@ impl<'d> Working<'d> {
     // The place of what is put under the id.
     fn put_place(&self, id: &Txt) -> Option<u32>
         ensures { option_map (doc_at self.now) result
-            ≡ option_map Some (At id.now (documents self.now.put)) }
+            ≡ option_map Some (standing id.now (documents self.now.put)) }
     {
         match self.put.place(id) {
             Some(place) => Some(MOST_PLACES + place),
@@ -34,7 +34,7 @@ impl<'d> Working<'d> {
     // The place of the document with the id: `None` exactly where there is none.
     pub(crate) fn place(&self, id: &Txt) -> Option<u32>
         ensures { option_map (doc_at self.now) result
-            ≡ option_map Some (At id.now (working self.now)) }
+            ≡ option_map Some (standing id.now (working self.now)) }
     {
         if self.touched.contains(id) {
             self.put_place(id)
@@ -46,7 +46,7 @@ impl<'d> Working<'d> {
     // The document at a place where one stands.
     pub(crate) fn at(&self, place: u32) -> &Doc
         requires { IsSome (doc_at self.now place) }
-        ensures { doc_at self.now place ≡ Some (document result.now) }
+        ensures { doc_at self.now place ≡ Some (document_of result.now) }
     {
         if place < MOST_PLACES {
             self.store.docs().at(place)

@@ -1,7 +1,7 @@
 //! The dataset that a transaction works on.
 ghost use Rattle.std.specs.Prelude.{◌≡◌, option_map, OnOk, OnErr};
-ghost use Rattle.cs_view.specs.Dataset.{At, stands, with_doc, without};
-ghost use Rattle.cs_view.specs.View.{doc as document};
+ghost use Rattle.cs_view.specs.Dataset.{standing, stands, with_doc, without};
+ghost use Rattle.cs_view.specs.View.{document_of};
 ghost use Rattle.cs_shelf.specs.View.{documents};
 ghost use Rattle.cs_index.specs.View.{indexed};
 ghost use Rattle.cs_working.specs.Noted.{AreNoted};
@@ -27,7 +27,7 @@ pub struct Working<'d> {
 // Puts a document in the place of its id.
 fn put_in(shelf: &mut Shelf, doc: Doc) -> Result<(), NoMemory>
     ensures put { OnOk result (documents shelf.new
-        ≡ with_doc (document doc) (documents shelf.old)) }
+        ≡ with_doc (document_of doc) (documents shelf.old)) }
     ensures kept { OnErr result (documents shelf.new ≡ documents shelf.old) }
 {
     if shelf.get(doc.id()).is_some() {
@@ -56,14 +56,14 @@ impl<'d> Working<'d> {
 
     // What the store holds under the id.
     pub(crate) fn stored(&self, id: &Txt) -> Option<&Doc>
-        ensures { option_map (λ d. document d.now) result ≡ At id.now (base self.now) }
+        ensures { option_map (λ d. document_of d.now) result ≡ standing id.now (base self.now) }
     {
         self.store.docs().get(id)
     }
 
     /// The document with the id: `None` exactly where there is none.
     pub fn get(&self, id: &Txt) -> Option<&Doc>
-        ensures { option_map (λ d. document d.now) result ≡ At id.now (working self.now) }
+        ensures { option_map (λ d. document_of d.now) result ≡ standing id.now (working self.now) }
     {
         if self.touched.contains(id) {
             self.put.get(id)
@@ -83,7 +83,7 @@ impl<'d> Working<'d> {
     pub fn put(&mut self, doc: Doc) -> Result<(), NoMemory>
         ensures store { base self.new ≡ base self.old }
         ensures put { OnOk result (working self.new
-            ≡ with_doc (document doc) (working self.old)) }
+            ≡ with_doc (document_of doc) (working self.old)) }
     {
         let id = doc.id().copy(self.alloc)?;
         drop(self.touched.insert(id)?);

@@ -5,11 +5,11 @@ use Rattle.cs_value.specs.View.{tree, fields}
 use Rattle.cs_value.specs.Words.{as_list}
 use Rattle.cs_plan.specs.Steps.{is_order_name}
 use Rattle.cs_syntax.specs.Expression.{Expression, Step, more_steps, more_arguments, more_keys, call, run, operands_of, steps_of, arguments_of, keys_of}
-use Rattle.cs_syntax.specs.View.{expression, operands, step, entry, arg, key}
+use Rattle.cs_syntax.specs.View.{expression, operands, step_of, entry_of, argument_of, order_key_of}
 use Rattle.cs_syntax.specs.declared.tree.Arg.{Arg as CodeArg}
 use Rattle.cs_syntax.specs.declared.tree.OrderKey.{OrderKey as CodeKey}
 use Rattle.cs_syntax.specs.declared.tree.Step.{Step as CodeStep}
-use Rattle.cs_view.specs.Scopes.{scope}
+use Rattle.cs_view.specs.Scopes.{scope_of}
 use Rattle.cs_view.specs.declared.key.Key.{Key}
 use Rattle.cs_meaning.specs.Joining.{form, kind, way, entrance}
 use Rattle.cs_meaning.specs.declared.join.Entrance.TheVariants.{Whole}
@@ -61,7 +61,7 @@ pub expressions::eval-returns-in_ok-left-in-Run-clause-keys : goal.expressions::
 expressions::eval-returns-in_ok-left-in-Run-clause-keys g t c =
     let docs = g.S.Source.docs c.args.source.now in
     let ps = fields c.args.params.now in
-    let sc = scope c.args.frame.now in
+    let sc = scope_of c.args.frame.now in
     let b = expression c.deref-in-Run.result.now in
     let xs = operands_of (operands c.deref-in-Run-2.result.now) in
     let v = got c.in_ok-left-in-Run.left in
@@ -76,7 +76,7 @@ pub steps::one_step-returns-in-Pipe-clause-value : goal.steps::one_step-returns-
 steps::one_step-returns-in-Pipe-clause-value g t c =
     let docs = g.S.Source.docs c.args.source.now in
     let ps = fields c.args.params.now in
-    let sc = scope c.args.frame.now in
+    let sc = scope_of c.args.frame.now in
     subst (λ (y : Tree). IfOk c.ordered.result (λ g'. got g' ≡ y))
     (ap (λ (s : Step). step_value docs ps s sc (got c.args.value)) (pipe_parts c.args.step.now c.in-Pipe.name c.in-Pipe.order c.deref-in-Pipe.result.now c.in-Pipe.is c.deref-in-Pipe.ensures.value))
     c.ordered.ensures.value
@@ -85,64 +85,64 @@ pub calls::select-eval-requires : goal.calls::select-eval-requires
 calls::select-eval-requires g t c κs within =
     let docs = g.S.Source.docs c.args.source.now in
     let ps = fields c.args.params.now in
-    let sc = scope c.args.frame.now in
+    let sc = scope_of c.args.frame.now in
     let l = c.loop-first in
     let is = c.in-Some.ensures.cases.0 in
-    let x = arg c.in-Some.first.now in
-    let xs = arguments_of (map arg c.in-Some.later.now) in
+    let x = argument_of c.in-Some.first.now in
+    let xs = arguments_of (map argument_of c.in-Some.later.now) in
     let e = expression c.in-Some-2.expr.now in
     let h : chosen docs ps x sc ≡ Some e = sym c.in_ok-expr.ensures.value ∙ ap (λ o. option_map (λ y. expression y.now) o) c.in-Some-2.is in
-    let heavy : arguments_weight (arguments_of (map arg l.behind.now)) ≡ arguments_weight (more_arguments x xs) = ap (λ (ys : List CodeArg). arguments_weight (arguments_of (map arg ys))) is in
+    let heavy : arguments_weight (arguments_of (map argument_of l.behind.now)) ≡ arguments_weight (more_arguments x xs) = ap (λ (ys : List CodeArg). arguments_weight (arguments_of (map argument_of ys))) is in
     (omega (arith, chosen_weight docs ps x sc e h, heavy, l.invariant.lighter), within)
 
 pub calls::select-returns-in-Some-2-clause-value : goal.calls::select-returns-in-Some-2-clause-value
 calls::select-returns-in-Some-2-clause-value g t c =
     let docs = g.S.Source.docs c.args.source.now in
     let ps = fields c.args.params.now in
-    let sc = scope c.args.frame.now in
+    let sc = scope_of c.args.frame.now in
     let l = c.loop-first in
     let is = c.in-Some.ensures.cases.0 in
-    let x = arg c.in-Some.first.now in
-    let xs = arguments_of (map arg c.in-Some.later.now) in
+    let x = argument_of c.in-Some.first.now in
+    let xs = arguments_of (map argument_of c.in-Some.later.now) in
     let e = expression c.in-Some-2.expr.now in
     let h : chosen docs ps x sc ≡ Some e = sym c.in_ok-expr.ensures.value ∙ ap (λ o. option_map (λ y. expression y.now) o) c.in-Some-2.is in
     subst (λ (y : Tree). IfOk c.eval.result (λ g'. got g' ≡ y))
-    (selected_here docs ps x xs sc e h ∙ (ap (λ (ys : List CodeArg). selected docs ps (arguments_of (map arg ys)) sc) (sym is) ∙ l.invariant.value))
+    (selected_here docs ps x xs sc e h ∙ (ap (λ (ys : List CodeArg). selected docs ps (arguments_of (map argument_of ys)) sc) (sym is) ∙ l.invariant.value))
     c.eval.ensures.value
 
 pub calls::select-returns-in-Some-2-clause-keys : goal.calls::select-returns-in-Some-2-clause-keys
 calls::select-returns-in-Some-2-clause-keys g t c =
     let docs = g.S.Source.docs c.args.source.now in
     let ps = fields c.args.params.now in
-    let sc = scope c.args.frame.now in
+    let sc = scope_of c.args.frame.now in
     let l = c.loop-first in
     let is = c.in-Some.ensures.cases.0 in
-    let x = arg c.in-Some.first.now in
-    let xs = arguments_of (map arg c.in-Some.later.now) in
+    let x = argument_of c.in-Some.first.now in
+    let xs = arguments_of (map argument_of c.in-Some.later.now) in
     let e = expression c.in-Some-2.expr.now in
     let h : chosen docs ps x sc ≡ Some e = sym c.in_ok-expr.ensures.value ∙ ap (λ o. option_map (λ y. expression y.now) o) c.in-Some-2.is in
     subst (λ (ks : List Key). OnOk c.eval.result (c.eval.new.keys ≡ ks))
     (one_after_another l.keys c.choice.new.keys (selected_looked docs ps (more_arguments x xs) sc) (chosen_looked docs ps x sc) (looked docs ps e sc) c.in_ok-expr.ensures.keys
     (sym (selected_looks_here docs ps x xs sc e h))
-    ∙ (ap (λ (ys : List CodeArg). l.keys ++ selected_looked docs ps (arguments_of (map arg ys)) sc) (sym is) ∙ l.invariant.keys))
+    ∙ (ap (λ (ys : List CodeArg). l.keys ++ selected_looked docs ps (arguments_of (map argument_of ys)) sc) (sym is) ∙ l.invariant.keys))
     c.eval.ensures.keys
 
 pub calls::select-loop-first-preserved : goal.calls::select-loop-first-preserved
 calls::select-loop-first-preserved g t c =
     let docs = g.S.Source.docs c.args.source.now in
     let ps = fields c.args.params.now in
-    let sc = scope c.args.frame.now in
+    let sc = scope_of c.args.frame.now in
     let l = c.loop-first in
     let is = c.in-Some.ensures.cases.0 in
-    let x = arg c.in-Some.first.now in
-    let xs = arguments_of (map arg c.in-Some.later.now) in
+    let x = argument_of c.in-Some.first.now in
+    let xs = arguments_of (map argument_of c.in-Some.later.now) in
     let n : chosen docs ps x sc ≡ None = sym c.in_ok-expr.ensures.value ∙ ap (λ o. option_map (λ y. expression y.now) o) c.in_default-2.is in
-    let heavy : arguments_weight (arguments_of (map arg l.behind.now)) ≡ arguments_weight (more_arguments x xs) = ap (λ (ys : List CodeArg). arguments_weight (arguments_of (map arg ys))) is in
+    let heavy : arguments_weight (arguments_of (map argument_of l.behind.now)) ≡ arguments_weight (more_arguments x xs) = ap (λ (ys : List CodeArg). arguments_weight (arguments_of (map argument_of ys))) is in
     record {
-      value = selected_on docs ps x xs sc n ∙ (ap (λ (ys : List CodeArg). selected docs ps (arguments_of (map arg ys)) sc) (sym is) ∙ l.invariant.value);
+      value = selected_on docs ps x xs sc n ∙ (ap (λ (ys : List CodeArg). selected docs ps (arguments_of (map argument_of ys)) sc) (sym is) ∙ l.invariant.value);
       keys = one_after_another l.keys c.choice.new.keys (selected_looked docs ps (more_arguments x xs) sc) (chosen_looked docs ps x sc) (selected_looked docs ps xs sc) c.in_ok-expr.ensures.keys
           (sym (selected_looks_on docs ps x xs sc n))
-          ∙ (ap (λ (ys : List CodeArg). l.keys ++ selected_looked docs ps (arguments_of (map arg ys)) sc) (sym is) ∙ l.invariant.keys);
+          ∙ (ap (λ (ys : List CodeArg). l.keys ++ selected_looked docs ps (arguments_of (map argument_of ys)) sc) (sym is) ∙ l.invariant.keys);
       lighter = omega (arith, heavy, l.invariant.lighter);
     }
 
@@ -150,22 +150,22 @@ pub calls::select-returns-clause-value : goal.calls::select-returns-clause-value
 calls::select-returns-clause-value g t c =
     let docs = g.S.Source.docs c.args.source.now in
     let ps = fields c.args.params.now in
-    let sc = scope c.args.frame.now in
+    let sc = scope_of c.args.frame.now in
     let l = c.loop-first in
-    tree_of_null ∙ (ap (λ (ys : List CodeArg). selected docs ps (arguments_of (map arg ys)) sc) (sym (none_left l.behind.now c.in_default.ensures.cases)) ∙ l.invariant.value)
+    tree_of_null ∙ (ap (λ (ys : List CodeArg). selected docs ps (arguments_of (map argument_of ys)) sc) (sym (none_left l.behind.now c.in_default.ensures.cases)) ∙ l.invariant.value)
 
 pub expressions::eval-call-requires : goal.expressions::eval-call-requires
 expressions::eval-call-requires g t c κs within =
-    let e : expression c.args.expr.now ≡ call c.in-Call.name (arguments_of (map arg c.deref-in-Call.result.now)) =
-    ap expression c.in-Call.is ∙ (expression_call c.in-Call.name c.in-Call.args ∙ ap (λ (xs : List CodeArg). call c.in-Call.name (arguments_of (map arg xs))) (sym c.deref-in-Call.ensures.value)) in
-    let w : weight (expression c.args.expr.now) ≡ 9 + arguments_weight (arguments_of (map arg c.deref-in-Call.result.now)) = ap weight e in
+    let e : expression c.args.expr.now ≡ call c.in-Call.name (arguments_of (map argument_of c.deref-in-Call.result.now)) =
+    ap expression c.in-Call.is ∙ (expression_call c.in-Call.name c.in-Call.args ∙ ap (λ (xs : List CodeArg). call c.in-Call.name (arguments_of (map argument_of xs))) (sym c.deref-in-Call.ensures.value)) in
+    let w : weight (expression c.args.expr.now) ≡ 9 + arguments_weight (arguments_of (map argument_of c.deref-in-Call.result.now)) = ap weight e in
     (omega arith, within)
 
 pub expressions::within-arguments-requires : goal.expressions::within-arguments-requires
 expressions::within-arguments-requires g t c κs within =
     let right = expression c.args.right.now in
-    let xs = arguments_of (map arg c.in-Some.args.now) in
-    let h : path_arguments right ≡ Some xs = sym c.path_arguments.ensures ∙ ap (λ o. option_map (λ ys. arguments_of (map arg ys.now)) o) c.in-Some.is in
+    let xs = arguments_of (map argument_of c.in-Some.args.now) in
+    let h : path_arguments right ≡ Some xs = sym c.path_arguments.ensures ∙ ap (λ o. option_map (λ ys. arguments_of (map argument_of ys.now)) o) c.in-Some.is in
     let w : weight right ≡ 9 + arguments_weight xs = path_weight right xs h in
     (omega (arith, w), within)
 
@@ -173,12 +173,12 @@ pub expressions::within-returns-in_ok-values-in-Some-clause-value : goal.express
 expressions::within-returns-in_ok-values-in-Some-clause-value g t c =
     let docs = g.S.Source.docs c.args.source.now in
     let ps = fields c.args.params.now in
-    let sc = scope c.args.frame.now in
+    let sc = scope_of c.args.frame.now in
     let left = expression c.args.left.now in
     let right = expression c.args.right.now in
-    let xs = arguments_of (map arg c.in-Some.args.now) in
+    let xs = arguments_of (map argument_of c.in-Some.args.now) in
     let here = item c.in_ok-here.here in
-    let h : path_arguments right ≡ Some xs = sym c.path_arguments.ensures ∙ ap (λ o. option_map (λ ys. arguments_of (map arg ys.now)) o) c.in-Some.is in
+    let h : path_arguments right ≡ Some xs = sym c.path_arguments.ensures ∙ ap (λ o. option_map (λ ys. arguments_of (map argument_of ys.now)) o) c.in-Some.is in
     subst (λ (y : Tree). IfOk c.matches_path.result (λ g'. got g' ≡ y))
     (ap (λ (us : List Tree). in_path here (sole us)) c.in_ok-values-in-Some.ensures.value
     ∙ within_path docs ps left right sc xs here c.in_ok-here.ensures.value h)
@@ -188,11 +188,11 @@ pub expressions::within-returns-in_ok-values-in-Some-clause-keys : goal.expressi
 expressions::within-returns-in_ok-values-in-Some-clause-keys g t c =
     let docs = g.S.Source.docs c.args.source.now in
     let ps = fields c.args.params.now in
-    let sc = scope c.args.frame.now in
+    let sc = scope_of c.args.frame.now in
     let left = expression c.args.left.now in
     let right = expression c.args.right.now in
-    let xs = arguments_of (map arg c.in-Some.args.now) in
-    let h : path_arguments right ≡ Some xs = sym c.path_arguments.ensures ∙ ap (λ o. option_map (λ ys. arguments_of (map arg ys.now)) o) c.in-Some.is in
+    let xs = arguments_of (map argument_of c.in-Some.args.now) in
+    let h : path_arguments right ≡ Some xs = sym c.path_arguments.ensures ∙ ap (λ o. option_map (λ ys. arguments_of (map argument_of ys.now)) o) c.in-Some.is in
     on_ok c.matches_path.result
     (c.in_ok-values-in-Some.ensures.keys
     ∙ one_after_another c.args.keys.now c.settled.new.keys (looked docs ps left sc ++ looked docs ps right sc) (looked docs ps left sc) (arguments_looked docs ps xs sc) c.in_ok-here.ensures.keys
@@ -202,17 +202,17 @@ pub expressions::within-returns-in_ok-list-in-None-clause-value : goal.expressio
 expressions::within-returns-in_ok-list-in-None-clause-value g t c =
     let docs = g.S.Source.docs c.args.source.now in
     let ps = fields c.args.params.now in
-    let sc = scope c.args.frame.now in
+    let sc = scope_of c.args.frame.now in
     let left = expression c.args.left.now in
     let right = expression c.args.right.now in
-    let h : path_arguments right ≡ None = sym c.path_arguments.ensures ∙ ap (λ o. option_map (λ ys. arguments_of (map arg ys.now)) o) c.in-None.is in
+    let h : path_arguments right ≡ None = sym c.path_arguments.ensures ∙ ap (λ o. option_map (λ ys. arguments_of (map argument_of ys.now)) o) c.in-None.is in
     c.is_among.ensures ∙ within_list docs ps left right sc (item c.in_ok-here.here)
     (got c.in_ok-list-in-None.list) c.in_ok-here.ensures.value
     c.in_ok-list-in-None.ensures.value h
 
 pub steps::one_step-ordered-requires : goal.steps::one_step-ordered-requires
 steps::one_step-ordered-requires g t c κs within =
-    let w : step_weight (step c.args.step.now) ≡ 9 + keys_weight (keys_of (map key c.deref-in-Pipe.result.now)) =
+    let w : step_weight (step_of c.args.step.now) ≡ 9 + keys_weight (keys_of (map order_key_of c.deref-in-Pipe.result.now)) =
     ap step_weight (sym (pipe_parts c.args.step.now c.in-Pipe.name c.in-Pipe.order c.deref-in-Pipe.result.now c.in-Pipe.is c.deref-in-Pipe.ensures.value)) in
     (omega arith, within)
 
@@ -220,7 +220,7 @@ pub chains::climb-loop-levels-init : goal.chains::climb-loop-levels-init
 chains::climb-loop-levels-init g t c =
     let docs = g.S.Source.docs c.args.source.now in
     let ps = fields c.args.params.now in
-    let sc = scope c.args.frame.now in
+    let sc = scope_of c.args.frame.now in
     record {
       value = first_value docs ps sc c.args.first c.new-levels.result.items
           c.new-levels.ensures.items;
@@ -236,7 +236,7 @@ pub chains::climb-loop-levels-preserved : goal.chains::climb-loop-levels-preserv
 chains::climb-loop-levels-preserved g t c =
     let docs = g.S.Source.docs c.args.source.now in
     let ps = fields c.args.params.now in
-    let sc = scope c.args.frame.now in
+    let sc = scope_of c.args.frame.now in
     let l = c.loop-levels in
     let ws = levels_waiting c.next_task.new.levels.items in
     let old = reached_waiting l.here ++ levels_waiting l.levels.items in
@@ -261,7 +261,7 @@ pub chains::climb-loop-levels-smaller : goal.chains::climb-loop-levels-smaller
 chains::climb-loop-levels-smaller g t c =
     let docs = g.S.Source.docs c.args.source.now in
     let ps = fields c.args.params.now in
-    let sc = scope c.args.frame.now in
+    let sc = scope_of c.args.frame.now in
     let l = c.loop-levels in
     let ws = levels_waiting c.next_task.new.levels.items in
     let old = reached_waiting l.here ++ levels_waiting l.levels.items in
@@ -274,7 +274,7 @@ pub chains::climb-returns-in-Done-clause-value : goal.chains::climb-returns-in-D
 chains::climb-returns-in-Done-clause-value g t c =
     let docs = g.S.Source.docs c.args.source.now in
     let ps = fields c.args.params.now in
-    let sc = scope c.args.frame.now in
+    let sc = scope_of c.args.frame.now in
     let l = c.loop-levels in
     let rest = rest_of docs ps sc in
     done_value rest c.in_ok-value.field-0 c.next_task.new.levels.items c.in-Done.value _
@@ -285,7 +285,7 @@ pub chains::climb-returns-in-Done-clause-keys : goal.chains::climb-returns-in-Do
 chains::climb-returns-in-Done-clause-keys g t c =
     let docs = g.S.Source.docs c.args.source.now in
     let ps = fields c.args.params.now in
-    let sc = scope c.args.frame.now in
+    let sc = scope_of c.args.frame.now in
     let l = c.loop-levels in
     let old = reached_waiting l.here ++ levels_waiting l.levels.items in
     done_looks docs ps sc _ l.keys old
@@ -320,19 +320,19 @@ pub steps::order_keys-loop-first-preserved : goal.steps::order_keys-loop-first-p
 steps::order_keys-loop-first-preserved g t c =
     let docs = g.S.Source.docs c.args.source.now in
     let ps = fields c.args.params.now in
-    let sc = scope c.args.frame.now in
+    let sc = scope_of c.args.frame.now in
     let l = c.loop-first in
     let is = c.in-Some.ensures.cases.0 in
     let k = c.in-Some.first.now in
-    let ks = keys_of (map key c.in-Some.later.now) in
-    let heavy : keys_weight (keys_of (map key l.behind.now)) ≡ 9 + (weight (expression k.key) + keys_weight ks) = ap (λ (xs : List CodeKey). keys_weight (keys_of (map key xs))) is ∙ keys_weight_more k ks in
+    let ks = keys_of (map order_key_of c.in-Some.later.now) in
+    let heavy : keys_weight (keys_of (map order_key_of l.behind.now)) ≡ 9 + (weight (expression k.key) + keys_weight ks) = ap (λ (xs : List CodeKey). keys_weight (keys_of (map order_key_of xs))) is ∙ keys_weight_more k ks in
     record {
       value = pushed_values l.out.items _ c.in_ok-made_if_small.field-0 (keys_values docs ps ks sc) c.in_ok-push.ensures
           ∙ (ap (λ (x : Tree). map item l.out.items ++ x ∷ keys_values docs ps ks sc) (c.in_ok-made_if_small.ensures ∙ c.in_ok-key.ensures.value) ∙ (ap (λ (xs : List Tree). map item l.out.items ++ xs) (sym (keys_values_more docs ps k ks sc))
-          ∙ (ap (λ (xs : List CodeKey). map item l.out.items ++ keys_values docs ps (keys_of (map key xs)) sc) (sym is) ∙ l.invariant.value)));
-      keys = one_after_another l.keys c.settled.new.keys (keys_looked docs ps (more_keys (key k) ks) sc) (looked docs ps (expression k.key) sc) (keys_looked docs ps ks sc) c.in_ok-key.ensures.keys
+          ∙ (ap (λ (xs : List CodeKey). map item l.out.items ++ keys_values docs ps (keys_of (map order_key_of xs)) sc) (sym is) ∙ l.invariant.value)));
+      keys = one_after_another l.keys c.settled.new.keys (keys_looked docs ps (more_keys (order_key_of k) ks) sc) (looked docs ps (expression k.key) sc) (keys_looked docs ps ks sc) c.in_ok-key.ensures.keys
           (keys_looked_more docs ps k ks sc)
-          ∙ (ap (λ (xs : List CodeKey). l.keys ++ keys_looked docs ps (keys_of (map key xs)) sc) (sym is) ∙ l.invariant.keys);
+          ∙ (ap (λ (xs : List CodeKey). l.keys ++ keys_looked docs ps (keys_of (map order_key_of xs)) sc) (sym is) ∙ l.invariant.keys);
       lighter = omega (arith, heavy, l.invariant.lighter);
     }
 
@@ -340,8 +340,8 @@ pub steps::ordered-returns-clause-value : goal.steps::ordered-returns-clause-val
 steps::ordered-returns-clause-value g t c =
     let docs = g.S.Source.docs c.args.source.now in
     let ps = fields c.args.params.now in
-    let sc = scope c.args.frame.now in
-    let ks = keys_of (map key c.args.order.now) in
+    let sc = scope_of c.args.frame.now in
+    let ks = keys_of (map order_key_of c.args.order.now) in
     let ts = map item c.in-Some.unsorted.items in
     let rs = map ranked_of c.in_ok-ranked.ranked.items in
     let items = map (λ x. x.item) (in_order c.deref-2.result.now c.args.limit rs) in
@@ -360,7 +360,7 @@ pub chains::start-returns-in-Some-clause-value : goal.chains::start-returns-in-S
 chains::start-returns-in-Some-clause-value g t c =
     let docs = g.S.Source.docs c.args.source.now in
     let ps = fields c.args.params.now in
-    let sc = scope c.args.frame.now in
+    let sc = scope_of c.args.frame.now in
     let e = expression c.in-Some.condition.now in
     let found = map (λ r. tree r.now) c.in_ok-found.found.items in
     let kept = map (λ r. tree r.now) c.in_ok-kept.kept.items in
@@ -378,7 +378,7 @@ pub chains::start-returns-in-Some-clause-keys : goal.chains::start-returns-in-So
 chains::start-returns-in-Some-clause-keys g t c =
     let docs = g.S.Source.docs c.args.source.now in
     let ps = fields c.args.params.now in
-    let sc = scope c.args.frame.now in
+    let sc = scope_of c.args.frame.now in
     let b = expression c.args.base.now in
     let e = expression c.in-Some.condition.now in
     let ss = steps_in c.in-Some.later in
@@ -400,7 +400,7 @@ chains::start-returns-in-Some-clause-keys g t c =
 pub chains::start-returns-clause-value : goal.chains::start-returns-clause-value
 chains::start-returns-clause-value g t c =
     base_enters (g.S.Source.docs c.args.source.now) (fields c.args.params.now)
-    (scope c.args.frame.now) (expression c.args.base.now) c.entering-2.result
+    (scope_of c.args.frame.now) (expression c.args.base.now) c.entering-2.result
     c.base_entrance-entrance.result c.first_kind-2.result c.in_ok-value.value c.args.rest
     c.entering-2.ensures c.base_entrance-entrance.ensures c.first_kind-2.ensures c.requires
     c.in_ok-value.ensures.value
@@ -408,7 +408,7 @@ chains::start-returns-clause-value g t c =
 pub chains::start-returns-clause-keys : goal.chains::start-returns-clause-keys
 chains::start-returns-clause-keys g t c =
     base_looks (g.S.Source.docs c.args.source.now) (fields c.args.params.now)
-    (scope c.args.frame.now) (expression c.args.base.now) c.entering-2.result
+    (scope_of c.args.frame.now) (expression c.args.base.now) c.entering-2.result
     c.base_entrance-entrance.result c.first_kind-2.result c.in_ok-value.value c.args.rest
     c.args.keys.now c.eval.new.keys c.entering-2.ensures c.base_entrance-entrance.ensures
     c.first_kind-2.ensures c.requires c.in_ok-value.ensures.value c.in_default.ensures.none
@@ -460,10 +460,10 @@ pub chains::pipes-loop-pipe-preserved : goal.chains::pipes-loop-pipe-preserved
 chains::pipes-loop-pipe-preserved g t c =
     let docs = g.S.Source.docs c.args.source.now in
     let ps = fields c.args.params.now in
-    let sc = scope c.args.frame.now in
+    let sc = scope_of c.args.frame.now in
     let l = c.loop-pipe in
     let pipe = c.in-Some.pipe in
-    let ks = keys_of (map key pipe.order.now) in
+    let ks = keys_of (map order_key_of pipe.order.now) in
     let asks = c.first_asked-limit.ensures.asked in
     let first = c.in_ok-list.ensures.value in
     let enters : got c.in_ok-here.here ≡ enter_value docs ps (steps_in pipe.later) sc
@@ -496,7 +496,7 @@ pub chains::pipes-returns-clause-value : goal.chains::pipes-returns-clause-value
 chains::pipes-returns-clause-value g t c =
     let l = c.loop-pipe in
     sym (no_pipe_value (g.S.Source.docs c.args.source.now) (fields c.args.params.now)
-    (steps_in l.left) (scope c.args.frame.now) (got l.here) c.in_default.ensures.none)
+    (steps_in l.left) (scope_of c.args.frame.now) (got l.here) c.in_default.ensures.none)
     ∙ l.invariant.value
 
 pub chains::pipes-returns-clause-keys : goal.chains::pipes-returns-clause-keys
@@ -504,17 +504,17 @@ chains::pipes-returns-clause-keys g t c =
     let l = c.loop-pipe in
     sym (append-nil l.keys) ∙ (ap (λ (ks : List Key). l.keys ++ ks)
     (sym (no_pipe_looks (g.S.Source.docs c.args.source.now) (fields c.args.params.now)
-    (steps_in l.left) (scope c.args.frame.now) (got l.here) c.in_default.ensures.none))
+    (steps_in l.left) (scope_of c.args.frame.now) (got l.here) c.in_default.ensures.none))
     ∙ l.invariant.keys)
 
 pub expressions::one_entry-returns-then-not-branch-clause-keys : goal.expressions::one_entry-returns-then-not-branch-clause-keys
 expressions::one_entry-returns-then-not-branch-clause-keys g t c =
     let docs = g.S.Source.docs c.args.source.now in
     let ps = fields c.args.params.now in
-    let sc = scope c.args.frame.now in
+    let sc = scope_of c.args.frame.now in
     let e = expression c.in-Some.condition.now in
     c.in_ok-is_met.ensures.keys ∙ ap (λ (ks : List Key). c.args.keys.now ++ ks)
-    (entry_left_looks docs ps (entry c.args.entry.now) sc e
+    (entry_left_looks docs ps (entry_of c.args.entry.now) sc e
     (sym c.condition_of.ensures ∙ ap (λ o. option_map (λ x. expression x.now) o) c.in-Some.is)
     (sym c.in_ok-is_met.ensures.value ∙ c.if-not-branch.true))
 
@@ -522,8 +522,8 @@ pub expressions::one_entry-returns-clause-keys : goal.expressions::one_entry-ret
 expressions::one_entry-returns-clause-keys g t c =
     let docs = g.S.Source.docs c.args.source.now in
     let ps = fields c.args.params.now in
-    let sc = scope c.args.frame.now in
-    let x = entry c.args.entry.now in
+    let sc = scope_of c.args.frame.now in
+    let x = entry_of c.args.entry.now in
     let e = expression c.entry_expr-expr.result.now in
     let looks = λ (y : Expression). looked docs ps y sc in
     on_ok c.put_entry.result
@@ -549,11 +549,11 @@ pub chains::step_on-loop-first-preserved : goal.chains::step_on-loop-first-prese
 chains::step_on-loop-first-preserved g t c =
     let docs = g.S.Source.docs c.args.source.now in
     let ps = fields c.args.params.now in
-    let sc = scope c.args.frame.now in
+    let sc = scope_of c.args.frame.now in
     let l = c.loop-first in
     let r : Remaining = record { steps = c.in-Some.steps; kinds = c.behind-kinds.result } in
     let is = c.in-Some.ensures.cases.0 in
-    let s = step c.in-Some.first.now in
+    let s = step_of c.in-Some.first.now in
     let k : c.first_kind-kind.result ≡ kind (steps_in r) = c.first_kind-kind.ensures
     ∙ kind_behind l.left.steps.now c.in-Some.first.now c.in-Some.steps.now l.left.kinds.now
     c.behind-kinds.result.now is l.invariant.kinds c.behind-kinds.ensures in
@@ -565,11 +565,11 @@ chains::step_on-loop-first-preserved g t c =
     let whole : Whole ≡ turn c.way_of-way.result (entrance c.first_kind-kind.result) =
     sym (whole_enters c.turn-entrance.result (sym c.is_whole.ensures ∙ c.if-not-is_whole.false)) ∙ on in
     let heavy : steps_weight (steps_in l.left) ≡ steps_weight (more_steps s (steps_in r)) =
-    ap (λ (xs : List CodeStep). steps_weight (steps_of (map step xs))) is in
+    ap (λ (xs : List CodeStep). steps_weight (steps_of (map step_of xs))) is in
     record {
       stop = step_stops docs ps sc s (steps_in r) c.first_kind-kind.result c.way_of-way.result
           Whole (got l.here) (got c.in_ok-here.here) k w goes whole c.in_ok-here.ensures.value
-          ∙ (ap (λ (xs : List CodeStep). stop docs ps (steps_of (map step xs)) sc (got l.here))
+          ∙ (ap (λ (xs : List CodeStep). stop docs ps (steps_of (map step_of xs)) sc (got l.here))
           (sym is) ∙ l.invariant.stop);
       keys = one_after_another l.keys c.once.new.keys
           (rest_looked docs ps (more_steps s (steps_in r)) sc (got l.here))
@@ -579,7 +579,7 @@ chains::step_on-loop-first-preserved g t c =
           (sym (step_looks_on docs ps sc s (steps_in r) c.first_kind-kind.result
           c.way_of-way.result Whole (got l.here) (got c.in_ok-here.here) k w goes whole
           c.in_ok-here.ensures.value))
-          ∙ (ap (λ (xs : List CodeStep). l.keys ++ rest_looked docs ps (steps_of (map step xs)) sc
+          ∙ (ap (λ (xs : List CodeStep). l.keys ++ rest_looked docs ps (steps_of (map step_of xs)) sc
           (got l.here)) (sym is) ∙ l.invariant.keys);
       kinds = kinds_behind l.left.steps.now c.in-Some.first.now c.in-Some.steps.now
           l.left.kinds.now c.behind-kinds.result.now is l.invariant.kinds c.behind-kinds.ensures;
@@ -590,11 +590,11 @@ pub chains::step_on-returns-then-not-is_whole-clause-stop : goal.chains::step_on
 chains::step_on-returns-then-not-is_whole-clause-stop g t c =
     let docs = g.S.Source.docs c.args.source.now in
     let ps = fields c.args.params.now in
-    let sc = scope c.args.frame.now in
+    let sc = scope_of c.args.frame.now in
     let l = c.loop-first in
     let r : Remaining = record { steps = c.in-Some.steps; kinds = c.behind-kinds.result } in
     let is = c.in-Some.ensures.cases.0 in
-    let s = step c.in-Some.first.now in
+    let s = step_of c.in-Some.first.now in
     let k : c.first_kind-kind.result ≡ kind (steps_in r) = c.first_kind-kind.ensures
     ∙ kind_behind l.left.steps.now c.in-Some.first.now c.in-Some.steps.now l.left.kinds.now
     c.behind-kinds.result.now is l.invariant.kinds c.behind-kinds.ensures in
@@ -606,18 +606,18 @@ chains::step_on-returns-then-not-is_whole-clause-stop g t c =
     each_stops docs ps sc s c.first_kind-kind.result c.way_of-way.result c.turn-entrance.result
     (got l.here) c.in_ok-here.here r c.entering.result k w goes on c.in_ok-here.ensures.value
     c.entering.ensures (sym c.is_whole.ensures ∙ c.if-not-is_whole.true)
-    ∙ (ap (λ (xs : List CodeStep). stop docs ps (steps_of (map step xs)) sc (got l.here)) (sym is)
+    ∙ (ap (λ (xs : List CodeStep). stop docs ps (steps_of (map step_of xs)) sc (got l.here)) (sym is)
     ∙ l.invariant.stop)
 
 pub chains::step_on-returns-then-not-is_whole-clause-keys : goal.chains::step_on-returns-then-not-is_whole-clause-keys
 chains::step_on-returns-then-not-is_whole-clause-keys g t c =
     let docs = g.S.Source.docs c.args.source.now in
     let ps = fields c.args.params.now in
-    let sc = scope c.args.frame.now in
+    let sc = scope_of c.args.frame.now in
     let l = c.loop-first in
     let r : Remaining = record { steps = c.in-Some.steps; kinds = c.behind-kinds.result } in
     let is = c.in-Some.ensures.cases.0 in
-    let s = step c.in-Some.first.now in
+    let s = step_of c.in-Some.first.now in
     let k : c.first_kind-kind.result ≡ kind (steps_in r) = c.first_kind-kind.ensures
     ∙ kind_behind l.left.steps.now c.in-Some.first.now c.in-Some.steps.now l.left.kinds.now
     c.behind-kinds.result.now is l.invariant.kinds c.behind-kinds.ensures in
@@ -629,7 +629,7 @@ chains::step_on-returns-then-not-is_whole-clause-keys g t c =
     step_looks docs ps sc s c.first_kind-kind.result c.way_of-way.result c.turn-entrance.result
     (got l.here) c.in_ok-here.here r c.entering.result l.keys c.once.new.keys k w goes on
     c.in_ok-here.ensures.value c.entering.ensures c.in_ok-here.ensures.keys
-    ∙ (ap (λ (xs : List CodeStep). l.keys ++ rest_looked docs ps (steps_of (map step xs)) sc
+    ∙ (ap (λ (xs : List CodeStep). l.keys ++ rest_looked docs ps (steps_of (map step_of xs)) sc
     (got l.here)) (sym is) ∙ l.invariant.keys)
 
 pub chains::step_on-returns-then-not-is_whole-clause-fits : goal.chains::step_on-returns-then-not-is_whole-clause-fits
@@ -638,8 +638,8 @@ chains::step_on-returns-then-not-is_whole-clause-fits g t c =
     let r : Remaining = record { steps = c.in-Some.steps; kinds = c.behind-kinds.result } in
     let is = c.in-Some.ensures.cases.0 in
     let heavy : steps_weight (steps_in l.left) ≡ steps_weight (more_steps
-    (step c.in-Some.first.now) (steps_in r))
-    = ap (λ (xs : List CodeStep). steps_weight (steps_of (map step xs))) is in
+    (step_of c.in-Some.first.now) (steps_in r))
+    = ap (λ (xs : List CodeStep). steps_weight (steps_of (map step_of xs))) is in
     starting_fits (steps_weight (steps_in c.args.rest)) c.entering.result c.turn-entrance.result
     c.in_ok-here.here r c.entering.ensures
     (kinds_behind l.left.steps.now c.in-Some.first.now c.in-Some.steps.now l.left.kinds.now

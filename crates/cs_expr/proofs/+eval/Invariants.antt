@@ -4,8 +4,8 @@ use Rattle.std.specs.Prelude.{filter, flat_map}
 use Rattle.std.specs.Vec.Iter.{into_iter_items}
 use Rattle.cs_value.specs.View.{tree, fields}
 use Rattle.cs_syntax.specs.Expression.{operands_of, steps_of, entries_of, elements_of, arguments_of, keys_of}
-use Rattle.cs_syntax.specs.View.{expression, operands, step, entry, elem, arg, key}
-use Rattle.cs_view.specs.Scopes.{scope}
+use Rattle.cs_syntax.specs.View.{expression, operands, step_of, entry_of, element_of, argument_of, order_key_of}
+use Rattle.cs_view.specs.Scopes.{scope_of}
 use Rattle.cs_meaning.specs.Operators.{is_true}
 use Rattle.cs_meaning.specs.Values.{value, run_value, arguments_values, coalesced, selected, elements_values, entries_pairs, pipes_value, step_value, keys_values}
 use Rattle.cs_meaning.specs.Looked.{looked, run_looked, arguments_looked, coalesced_looked, selected_looked, elements_looked, entries_looked, rest_looked, pipes_looked, step_looked, keys_looked}
@@ -38,16 +38,16 @@ abbrev pub decreases-expressions::settled : goal.decreases-expressions::settled
 decreases-expressions::settled g l = weight (expression l.expr.now) + 1
 
 abbrev pub decreases-expressions::array : goal.decreases-expressions::array
-decreases-expressions::array g l = elements_weight (elements_of (map elem l.list.now))
+decreases-expressions::array g l = elements_weight (elements_of (map element_of l.list.now))
 
 abbrev pub decreases-expressions::object : goal.decreases-expressions::object
-decreases-expressions::object g l = entries_weight (entries_of (map entry l.list.now))
+decreases-expressions::object g l = entries_weight (entries_of (map entry_of l.list.now))
 
 abbrev pub decreases-expressions::one_entry : goal.decreases-expressions::one_entry
-decreases-expressions::one_entry g l = entry_weight (entry l.entry.now)
+decreases-expressions::one_entry g l = entry_weight (entry_of l.entry.now)
 
 abbrev pub decreases-chains::chain : goal.decreases-chains::chain
-decreases-chains::chain g l = weight (expression l.base.now) + steps_weight (steps_of (map step l.steps.now)) + 5
+decreases-chains::chain g l = weight (expression l.base.now) + steps_weight (steps_of (map step_of l.steps.now)) + 5
 
 abbrev pub decreases-chains::start : goal.decreases-chains::start
 decreases-chains::start g l = weight (expression l.base.now) + steps_weight (steps_in l.rest) + 4
@@ -59,16 +59,16 @@ abbrev pub decreases-chains::climb : goal.decreases-chains::climb
 decreases-chains::climb g l = reached_weight l.first + 1
 
 abbrev pub decreases-chains::pipes : goal.decreases-chains::pipes
-decreases-chains::pipes g l = steps_weight (steps_of (map step l.steps.now))
+decreases-chains::pipes g l = steps_weight (steps_of (map step_of l.steps.now))
 
 abbrev pub decreases-chains::once : goal.decreases-chains::once
-decreases-chains::once g l = step_weight (step l.step.now) + 3
+decreases-chains::once g l = step_weight (step_of l.step.now) + 3
 
 abbrev pub decreases-chains::step_of_each : goal.decreases-chains::step_of_each
-decreases-chains::step_of_each g l = step_weight (step l.step.now) + 2
+decreases-chains::step_of_each g l = step_weight (step_of l.step.now) + 2
 
 abbrev pub decreases-steps::one_step : goal.decreases-steps::one_step
-decreases-steps::one_step g l = step_weight (step l.step.now)
+decreases-steps::one_step g l = step_weight (step_of l.step.now)
 
 abbrev pub decreases-steps::bracketed : goal.decreases-steps::bracketed
 decreases-steps::bracketed g l = weight (expression l.inner.now) + 5
@@ -83,12 +83,12 @@ abbrev pub decreases-steps::holds : goal.decreases-steps::holds
 decreases-steps::holds g l = weight (expression l.inner.now) + 2
 
 abbrev pub decreases-steps::project : goal.decreases-steps::project
-decreases-steps::project g l = entries_weight (entries_of (map entry l.list.now)) + 2
+decreases-steps::project g l = entries_weight (entries_of (map entry_of l.list.now)) + 2
 
 abbrev pub invariant-expressions::run-loop-first : goal.invariant-expressions::run-loop-first
 invariant-expressions::run-loop-first g l = record {
-  value : run_value (g.S.Source.docs l.source) (fields l.params) (operands_of (operands l.behind)) (scope l.frame) (got l.here) ≡ run_value (g.S.Source.docs l.source) (fields l.params) (operands_of (operands l.list)) (scope l.frame) (got l.fn.left);
-  keys : l.keys ++ run_looked (g.S.Source.docs l.source) (fields l.params) (operands_of (operands l.behind)) (scope l.frame) (got l.here) ≡ l.initial.keys ++ run_looked (g.S.Source.docs l.source) (fields l.params) (operands_of (operands l.list)) (scope l.frame) (got l.fn.left);
+  value : run_value (g.S.Source.docs l.source) (fields l.params) (operands_of (operands l.behind)) (scope_of l.frame) (got l.here) ≡ run_value (g.S.Source.docs l.source) (fields l.params) (operands_of (operands l.list)) (scope_of l.frame) (got l.fn.left);
+  keys : l.keys ++ run_looked (g.S.Source.docs l.source) (fields l.params) (operands_of (operands l.behind)) (scope_of l.frame) (got l.here) ≡ l.initial.keys ++ run_looked (g.S.Source.docs l.source) (fields l.params) (operands_of (operands l.list)) (scope_of l.frame) (got l.fn.left);
   lighter : operands_weight (operands_of (operands l.behind)) ≤ operands_weight (operands_of (operands l.list));
 }
 
@@ -97,9 +97,9 @@ decreases-expressions::run-loop-first g l = length l.behind
 
 abbrev pub invariant-expressions::array-loop-first : goal.invariant-expressions::array-loop-first
 invariant-expressions::array-loop-first g l = record {
-  value : map item l.items.items ++ elements_values (g.S.Source.docs l.source) (fields l.params) (elements_of (map elem l.behind)) (scope l.frame) ≡ elements_values (g.S.Source.docs l.source) (fields l.params) (elements_of (map elem l.list)) (scope l.frame);
-  keys : l.keys ++ elements_looked (g.S.Source.docs l.source) (fields l.params) (elements_of (map elem l.behind)) (scope l.frame) ≡ l.initial.keys ++ elements_looked (g.S.Source.docs l.source) (fields l.params) (elements_of (map elem l.list)) (scope l.frame);
-  lighter : elements_weight (elements_of (map elem l.behind)) ≤ elements_weight (elements_of (map elem l.list));
+  value : map item l.items.items ++ elements_values (g.S.Source.docs l.source) (fields l.params) (elements_of (map element_of l.behind)) (scope_of l.frame) ≡ elements_values (g.S.Source.docs l.source) (fields l.params) (elements_of (map element_of l.list)) (scope_of l.frame);
+  keys : l.keys ++ elements_looked (g.S.Source.docs l.source) (fields l.params) (elements_of (map element_of l.behind)) (scope_of l.frame) ≡ l.initial.keys ++ elements_looked (g.S.Source.docs l.source) (fields l.params) (elements_of (map element_of l.list)) (scope_of l.frame);
+  lighter : elements_weight (elements_of (map element_of l.behind)) ≤ elements_weight (elements_of (map element_of l.list));
 }
 
 abbrev pub decreases-expressions::array-loop-first : goal.decreases-expressions::array-loop-first
@@ -107,9 +107,9 @@ decreases-expressions::array-loop-first g l = length l.behind
 
 abbrev pub invariant-expressions::object-loop-first : goal.invariant-expressions::object-loop-first
 invariant-expressions::object-loop-first g l = record {
-  value : entries_pairs (g.S.Source.docs l.source) (fields l.params) (entries_of (map entry l.behind)) (scope l.frame) (fields l.pairs) ≡ entries_pairs (g.S.Source.docs l.source) (fields l.params) (entries_of (map entry l.list)) (scope l.frame) (fields l.initial.pairs);
-  keys : l.keys ++ entries_looked (g.S.Source.docs l.source) (fields l.params) (entries_of (map entry l.behind)) (scope l.frame) ≡ l.initial.keys ++ entries_looked (g.S.Source.docs l.source) (fields l.params) (entries_of (map entry l.list)) (scope l.frame);
-  lighter : entries_weight (entries_of (map entry l.behind)) ≤ entries_weight (entries_of (map entry l.list));
+  value : entries_pairs (g.S.Source.docs l.source) (fields l.params) (entries_of (map entry_of l.behind)) (scope_of l.frame) (fields l.pairs) ≡ entries_pairs (g.S.Source.docs l.source) (fields l.params) (entries_of (map entry_of l.list)) (scope_of l.frame) (fields l.initial.pairs);
+  keys : l.keys ++ entries_looked (g.S.Source.docs l.source) (fields l.params) (entries_of (map entry_of l.behind)) (scope_of l.frame) ≡ l.initial.keys ++ entries_looked (g.S.Source.docs l.source) (fields l.params) (entries_of (map entry_of l.list)) (scope_of l.frame);
+  lighter : entries_weight (entries_of (map entry_of l.behind)) ≤ entries_weight (entries_of (map entry_of l.list));
 }
 
 abbrev pub decreases-expressions::object-loop-first : goal.decreases-expressions::object-loop-first
@@ -117,13 +117,13 @@ decreases-expressions::object-loop-first g l = length l.behind
 
 abbrev pub invariant-chains::step_on-loop-first : goal.invariant-chains::step_on-loop-first
 invariant-chains::step_on-loop-first g l = record {
-  stop : stop (g.S.Source.docs l.source) (fields l.params) (steps_in l.left) (scope l.frame)
+  stop : stop (g.S.Source.docs l.source) (fields l.params) (steps_in l.left) (scope_of l.frame)
       (got l.here) ≡ stop (g.S.Source.docs l.source) (fields l.params) (steps_in l.fn.rest)
-      (scope l.frame) (got l.fn.value);
+      (scope_of l.frame) (got l.fn.value);
   keys : l.keys ++ rest_looked (g.S.Source.docs l.source) (fields l.params) (steps_in l.left)
-      (scope l.frame) (got l.here) ≡ l.initial.keys ++ rest_looked (g.S.Source.docs l.source)
-      (fields l.params) (steps_in l.fn.rest) (scope l.frame) (got l.fn.value);
-  kinds : l.left.kinds.now ≡ kinds_of (map step l.left.steps.now);
+      (scope_of l.frame) (got l.here) ≡ l.initial.keys ++ rest_looked (g.S.Source.docs l.source)
+      (fields l.params) (steps_in l.fn.rest) (scope_of l.frame) (got l.fn.value);
+  kinds : l.left.kinds.now ≡ kinds_of (map step_of l.left.steps.now);
   lighter : steps_weight (steps_in l.left) ≤ steps_weight (steps_in l.fn.rest);
 }
 
@@ -132,32 +132,32 @@ decreases-chains::step_on-loop-first g l = length l.left.steps.now
 
 abbrev pub invariant-chains::climb-loop-levels : goal.invariant-chains::climb-loop-levels
 invariant-chains::climb-loop-levels g l = record {
-  value : unwound (rest_of (g.S.Source.docs l.source) (fields l.params) (scope l.frame))
+  value : unwound (rest_of (g.S.Source.docs l.source) (fields l.params) (scope_of l.frame))
       l.levels.items (reached_value (rest_of (g.S.Source.docs l.source) (fields l.params)
-      (scope l.frame)) l.here)
-      ≡ stop_value (g.S.Source.docs l.source) (fields l.params) (scope l.frame) (stopped l.fn.first);
+      (scope_of l.frame)) l.here)
+      ≡ stop_value (g.S.Source.docs l.source) (fields l.params) (scope_of l.frame) (stopped l.fn.first);
   keys : l.keys ++ flat_map (looked_of (g.S.Source.docs l.source) (fields l.params)
-      (scope l.frame)) (reached_waiting l.here ++ levels_waiting l.levels.items)
+      (scope_of l.frame)) (reached_waiting l.here ++ levels_waiting l.levels.items)
       ≡ l.initial.keys ++ stop_looked (g.S.Source.docs l.source) (fields l.params)
-      (scope l.frame) (stopped l.fn.first);
+      (scope_of l.frame) (stopped l.fn.first);
   fit : AllFit (reached_weight l.fn.first)
       (reached_waiting l.here ++ levels_waiting l.levels.items);
 }
 
 abbrev pub decreases-chains::climb-loop-levels : goal.decreases-chains::climb-loop-levels
 decreases-chains::climb-loop-levels g l = length (flat_map (tally_of (g.S.Source.docs l.source)
-    (fields l.params) (scope l.frame)) (reached_waiting l.here ++ levels_waiting l.levels.items))
+    (fields l.params) (scope_of l.frame)) (reached_waiting l.here ++ levels_waiting l.levels.items))
 
 abbrev pub invariant-chains::pipes-loop-pipe : goal.invariant-chains::pipes-loop-pipe
 invariant-chains::pipes-loop-pipe g l = record {
-  value : pipes_value (g.S.Source.docs l.source) (fields l.params) (steps_in l.left) (scope l.frame)
+  value : pipes_value (g.S.Source.docs l.source) (fields l.params) (steps_in l.left) (scope_of l.frame)
       (got l.here) ≡ pipes_value (g.S.Source.docs l.source) (fields l.params)
-      (steps_of (map step l.steps)) (scope l.frame) (got l.fn.value);
+      (steps_of (map step_of l.steps)) (scope_of l.frame) (got l.fn.value);
   keys : l.keys ++ pipes_looked (g.S.Source.docs l.source) (fields l.params) (steps_in l.left)
-      (scope l.frame) (got l.here) ≡ l.initial.keys ++ pipes_looked (g.S.Source.docs l.source)
-      (fields l.params) (steps_of (map step l.steps)) (scope l.frame) (got l.fn.value);
-  kinds : l.left.kinds.now ≡ kinds_of (map step l.left.steps.now);
-  lighter : steps_weight (steps_in l.left) ≤ steps_weight (steps_of (map step l.steps));
+      (scope_of l.frame) (got l.here) ≡ l.initial.keys ++ pipes_looked (g.S.Source.docs l.source)
+      (fields l.params) (steps_of (map step_of l.steps)) (scope_of l.frame) (got l.fn.value);
+  kinds : l.left.kinds.now ≡ kinds_of (map step_of l.left.steps.now);
+  lighter : steps_weight (steps_in l.left) ≤ steps_weight (steps_of (map step_of l.steps));
 }
 
 abbrev pub decreases-chains::pipes-loop-pipe : goal.decreases-chains::pipes-loop-pipe
@@ -165,29 +165,29 @@ decreases-chains::pipes-loop-pipe g l = steps_weight (steps_in l.left)
 
 abbrev pub invariant-chains::step_of_each-loop-i : goal.invariant-chains::step_of_each-loop-i
 invariant-chains::step_of_each-loop-i g l = record {
-  value : map item l.out.items ++ map (step_value (g.S.Source.docs l.source) (fields l.params) (step l.step) (scope l.frame)) (map item (into_iter_items l.i-iterator)) ≡ map (step_value (g.S.Source.docs l.source) (fields l.params) (step l.step) (scope l.frame)) (map item (into_iter_items l.initial.i-iterator));
-  keys : l.keys ++ flat_map (step_looked (g.S.Source.docs l.source) (fields l.params) (step l.step) (scope l.frame)) (map item (into_iter_items l.i-iterator)) ≡ l.initial.keys ++ flat_map (step_looked (g.S.Source.docs l.source) (fields l.params) (step l.step) (scope l.frame)) (map item (into_iter_items l.initial.i-iterator));
+  value : map item l.out.items ++ map (step_value (g.S.Source.docs l.source) (fields l.params) (step_of l.step) (scope_of l.frame)) (map item (into_iter_items l.i-iterator)) ≡ map (step_value (g.S.Source.docs l.source) (fields l.params) (step_of l.step) (scope_of l.frame)) (map item (into_iter_items l.initial.i-iterator));
+  keys : l.keys ++ flat_map (step_looked (g.S.Source.docs l.source) (fields l.params) (step_of l.step) (scope_of l.frame)) (map item (into_iter_items l.i-iterator)) ≡ l.initial.keys ++ flat_map (step_looked (g.S.Source.docs l.source) (fields l.params) (step_of l.step) (scope_of l.frame)) (map item (into_iter_items l.initial.i-iterator));
 }
 
 abbrev pub invariant-steps::keep-loop-i : goal.invariant-steps::keep-loop-i
 invariant-steps::keep-loop-i g l = record {
-  value : map item l.out.items ++ filter (λ x. is_true (value (g.S.Source.docs l.source) (fields l.params) (expression l.inner) (x ∷ scope l.frame))) (map item (into_iter_items l.i-iterator)) ≡ filter (λ x. is_true (value (g.S.Source.docs l.source) (fields l.params) (expression l.inner) (x ∷ scope l.frame))) (map item (into_iter_items l.initial.i-iterator));
-  keys : l.keys ++ flat_map (λ x. looked (g.S.Source.docs l.source) (fields l.params) (expression l.inner) (x ∷ scope l.frame)) (map item (into_iter_items l.i-iterator)) ≡ l.initial.keys ++ flat_map (λ x. looked (g.S.Source.docs l.source) (fields l.params) (expression l.inner) (x ∷ scope l.frame)) (map item (into_iter_items l.initial.i-iterator));
+  value : map item l.out.items ++ filter (λ x. is_true (value (g.S.Source.docs l.source) (fields l.params) (expression l.inner) (x ∷ scope_of l.frame))) (map item (into_iter_items l.i-iterator)) ≡ filter (λ x. is_true (value (g.S.Source.docs l.source) (fields l.params) (expression l.inner) (x ∷ scope_of l.frame))) (map item (into_iter_items l.initial.i-iterator));
+  keys : l.keys ++ flat_map (λ x. looked (g.S.Source.docs l.source) (fields l.params) (expression l.inner) (x ∷ scope_of l.frame)) (map item (into_iter_items l.i-iterator)) ≡ l.initial.keys ++ flat_map (λ x. looked (g.S.Source.docs l.source) (fields l.params) (expression l.inner) (x ∷ scope_of l.frame)) (map item (into_iter_items l.initial.i-iterator));
 }
 
 abbrev pub invariant-steps::keep_lent-loop-part : goal.invariant-steps::keep_lent-loop-part
 invariant-steps::keep_lent-loop-part g l = record {
   value : map (λ r. tree r.now) l.out.items ++ filter (λ x. is_true (value
-      (g.S.Source.docs l.source) (fields l.params) (expression l.inner) (x ∷ scope l.frame)))
+      (g.S.Source.docs l.source) (fields l.params) (expression l.inner) (x ∷ scope_of l.frame)))
       (map (λ r. tree r.now) (into_iter_items l.part-iterator))
       ≡ filter (λ x. is_true (value (g.S.Source.docs l.source) (fields l.params)
-      (expression l.inner) (x ∷ scope l.frame)))
+      (expression l.inner) (x ∷ scope_of l.frame)))
       (map (λ r. tree r.now) (into_iter_items l.initial.part-iterator));
   keys : l.keys ++ flat_map (λ x. looked (g.S.Source.docs l.source) (fields l.params)
-      (expression l.inner) (x ∷ scope l.frame))
+      (expression l.inner) (x ∷ scope_of l.frame))
       (map (λ r. tree r.now) (into_iter_items l.part-iterator))
       ≡ l.initial.keys ++ flat_map (λ x. looked (g.S.Source.docs l.source) (fields l.params)
-      (expression l.inner) (x ∷ scope l.frame))
+      (expression l.inner) (x ∷ scope_of l.frame))
       (map (λ r. tree r.now) (into_iter_items l.initial.part-iterator));
 }
 
@@ -195,25 +195,25 @@ abbrev pub decreases-expressions::in_range : goal.decreases-expressions::in_rang
 decreases-expressions::in_range g l = weight (expression l.left.now) + (weight (expression l.from.now) + weight (expression l.to.now)) + 5
 
 abbrev pub decreases-steps::ordered : goal.decreases-steps::ordered
-decreases-steps::ordered g l = keys_weight (keys_of (map key l.order.now)) + 5
+decreases-steps::ordered g l = keys_weight (keys_of (map order_key_of l.order.now)) + 5
 
 abbrev pub decreases-steps::rank_each : goal.decreases-steps::rank_each
-decreases-steps::rank_each g l = keys_weight (keys_of (map key l.order.now)) + 3
+decreases-steps::rank_each g l = keys_weight (keys_of (map order_key_of l.order.now)) + 3
 
 abbrev pub decreases-steps::rank_one : goal.decreases-steps::rank_one
-decreases-steps::rank_one g l = keys_weight (keys_of (map key l.order.now)) + 2
+decreases-steps::rank_one g l = keys_weight (keys_of (map order_key_of l.order.now)) + 2
 
 abbrev pub decreases-steps::rank_keys : goal.decreases-steps::rank_keys
-decreases-steps::rank_keys g l = keys_weight (keys_of (map key l.order.now)) + 1
+decreases-steps::rank_keys g l = keys_weight (keys_of (map order_key_of l.order.now)) + 1
 
 abbrev pub decreases-steps::order_keys : goal.decreases-steps::order_keys
-decreases-steps::order_keys g l = keys_weight (keys_of (map key l.order.now))
+decreases-steps::order_keys g l = keys_weight (keys_of (map order_key_of l.order.now))
 
 abbrev pub invariant-steps::order_keys-loop-first : goal.invariant-steps::order_keys-loop-first
 invariant-steps::order_keys-loop-first g l = record {
-  value : map item l.out.items ++ keys_values (g.S.Source.docs l.source) (fields l.params) (keys_of (map key l.behind)) (scope l.frame) ≡ keys_values (g.S.Source.docs l.source) (fields l.params) (keys_of (map key l.order)) (scope l.frame);
-  keys : l.keys ++ keys_looked (g.S.Source.docs l.source) (fields l.params) (keys_of (map key l.behind)) (scope l.frame) ≡ l.initial.keys ++ keys_looked (g.S.Source.docs l.source) (fields l.params) (keys_of (map key l.order)) (scope l.frame);
-  lighter : keys_weight (keys_of (map key l.behind)) ≤ keys_weight (keys_of (map key l.order));
+  value : map item l.out.items ++ keys_values (g.S.Source.docs l.source) (fields l.params) (keys_of (map order_key_of l.behind)) (scope_of l.frame) ≡ keys_values (g.S.Source.docs l.source) (fields l.params) (keys_of (map order_key_of l.order)) (scope_of l.frame);
+  keys : l.keys ++ keys_looked (g.S.Source.docs l.source) (fields l.params) (keys_of (map order_key_of l.behind)) (scope_of l.frame) ≡ l.initial.keys ++ keys_looked (g.S.Source.docs l.source) (fields l.params) (keys_of (map order_key_of l.order)) (scope_of l.frame);
+  lighter : keys_weight (keys_of (map order_key_of l.behind)) ≤ keys_weight (keys_of (map order_key_of l.order));
 }
 
 abbrev pub decreases-steps::order_keys-loop-first : goal.decreases-steps::order_keys-loop-first
@@ -222,45 +222,45 @@ decreases-steps::order_keys-loop-first g l = length l.behind
 abbrev pub invariant-steps::rank_each-loop-i : goal.invariant-steps::rank_each-loop-i
 invariant-steps::rank_each-loop-i g l = record {
   value : all_kept l.directions l.limit (map ranked_of l.kept.items) (map (ranked (λ x. keys_values
-      (g.S.Source.docs l.source) (fields l.params) (keys_of (map key l.order))
-      (x ∷ scope l.frame))) (map item (into_iter_items l.i-iterator)))
+      (g.S.Source.docs l.source) (fields l.params) (keys_of (map order_key_of l.order))
+      (x ∷ scope_of l.frame))) (map item (into_iter_items l.i-iterator)))
       ≡ all_kept l.directions l.limit [] (map (ranked (λ x. keys_values
-      (g.S.Source.docs l.source) (fields l.params) (keys_of (map key l.order))
-      (x ∷ scope l.frame))) (map item (into_iter_items l.initial.i-iterator)));
+      (g.S.Source.docs l.source) (fields l.params) (keys_of (map order_key_of l.order))
+      (x ∷ scope_of l.frame))) (map item (into_iter_items l.initial.i-iterator)));
   can : CanKeep l.directions l.limit (map ranked_of l.kept.items);
   keys : l.keys ++ flat_map (λ x. keys_looked (g.S.Source.docs l.source) (fields l.params)
-      (keys_of (map key l.order)) (x ∷ scope l.frame)) (map item (into_iter_items l.i-iterator))
+      (keys_of (map order_key_of l.order)) (x ∷ scope_of l.frame)) (map item (into_iter_items l.i-iterator))
       ≡ l.initial.keys ++ flat_map (λ x. keys_looked (g.S.Source.docs l.source)
-      (fields l.params) (keys_of (map key l.order)) (x ∷ scope l.frame))
+      (fields l.params) (keys_of (map order_key_of l.order)) (x ∷ scope_of l.frame))
       (map item (into_iter_items l.initial.i-iterator));
 }
 
 abbrev pub decreases-calls::call : goal.decreases-calls::call
-decreases-calls::call g l = arguments_weight (arguments_of (map arg l.args.now)) + 5
+decreases-calls::call g l = arguments_weight (arguments_of (map argument_of l.args.now)) + 5
 
 abbrev pub decreases-calls::coalesce : goal.decreases-calls::coalesce
-decreases-calls::coalesce g l = arguments_weight (arguments_of (map arg l.args.now))
+decreases-calls::coalesce g l = arguments_weight (arguments_of (map argument_of l.args.now))
 
 abbrev pub decreases-calls::select : goal.decreases-calls::select
-decreases-calls::select g l = arguments_weight (arguments_of (map arg l.args.now))
+decreases-calls::select g l = arguments_weight (arguments_of (map argument_of l.args.now))
 
 abbrev pub decreases-calls::arguments : goal.decreases-calls::arguments
-decreases-calls::arguments g l = arguments_weight (arguments_of (map arg l.args.now))
+decreases-calls::arguments g l = arguments_weight (arguments_of (map argument_of l.args.now))
 
 abbrev pub decreases-calls::choice : goal.decreases-calls::choice
-decreases-calls::choice g l = argument_weight (arg l.arg.now)
+decreases-calls::choice g l = argument_weight (argument_of l.arg.now)
 
 abbrev pub decreases-calls::argument : goal.decreases-calls::argument
-decreases-calls::argument g l = argument_weight (arg l.arg.now)
+decreases-calls::argument g l = argument_weight (argument_of l.arg.now)
 
 abbrev pub decreases-expressions::within : goal.decreases-expressions::within
 decreases-expressions::within g l = weight (expression l.left.now) + weight (expression l.right.now) + 5
 
 abbrev pub invariant-calls::coalesce-loop-first : goal.invariant-calls::coalesce-loop-first
 invariant-calls::coalesce-loop-first g l = record {
-  value : coalesced (g.S.Source.docs l.source) (fields l.params) (arguments_of (map arg l.behind)) (scope l.frame) ≡ coalesced (g.S.Source.docs l.source) (fields l.params) (arguments_of (map arg l.args)) (scope l.frame);
-  keys : l.keys ++ coalesced_looked (g.S.Source.docs l.source) (fields l.params) (arguments_of (map arg l.behind)) (scope l.frame) ≡ l.initial.keys ++ coalesced_looked (g.S.Source.docs l.source) (fields l.params) (arguments_of (map arg l.args)) (scope l.frame);
-  lighter : arguments_weight (arguments_of (map arg l.behind)) ≤ arguments_weight (arguments_of (map arg l.args));
+  value : coalesced (g.S.Source.docs l.source) (fields l.params) (arguments_of (map argument_of l.behind)) (scope_of l.frame) ≡ coalesced (g.S.Source.docs l.source) (fields l.params) (arguments_of (map argument_of l.args)) (scope_of l.frame);
+  keys : l.keys ++ coalesced_looked (g.S.Source.docs l.source) (fields l.params) (arguments_of (map argument_of l.behind)) (scope_of l.frame) ≡ l.initial.keys ++ coalesced_looked (g.S.Source.docs l.source) (fields l.params) (arguments_of (map argument_of l.args)) (scope_of l.frame);
+  lighter : arguments_weight (arguments_of (map argument_of l.behind)) ≤ arguments_weight (arguments_of (map argument_of l.args));
 }
 
 abbrev pub decreases-calls::coalesce-loop-first : goal.decreases-calls::coalesce-loop-first
@@ -268,9 +268,9 @@ decreases-calls::coalesce-loop-first g l = length l.behind
 
 abbrev pub invariant-calls::select-loop-first : goal.invariant-calls::select-loop-first
 invariant-calls::select-loop-first g l = record {
-  value : selected (g.S.Source.docs l.source) (fields l.params) (arguments_of (map arg l.behind)) (scope l.frame) ≡ selected (g.S.Source.docs l.source) (fields l.params) (arguments_of (map arg l.args)) (scope l.frame);
-  keys : l.keys ++ selected_looked (g.S.Source.docs l.source) (fields l.params) (arguments_of (map arg l.behind)) (scope l.frame) ≡ l.initial.keys ++ selected_looked (g.S.Source.docs l.source) (fields l.params) (arguments_of (map arg l.args)) (scope l.frame);
-  lighter : arguments_weight (arguments_of (map arg l.behind)) ≤ arguments_weight (arguments_of (map arg l.args));
+  value : selected (g.S.Source.docs l.source) (fields l.params) (arguments_of (map argument_of l.behind)) (scope_of l.frame) ≡ selected (g.S.Source.docs l.source) (fields l.params) (arguments_of (map argument_of l.args)) (scope_of l.frame);
+  keys : l.keys ++ selected_looked (g.S.Source.docs l.source) (fields l.params) (arguments_of (map argument_of l.behind)) (scope_of l.frame) ≡ l.initial.keys ++ selected_looked (g.S.Source.docs l.source) (fields l.params) (arguments_of (map argument_of l.args)) (scope_of l.frame);
+  lighter : arguments_weight (arguments_of (map argument_of l.behind)) ≤ arguments_weight (arguments_of (map argument_of l.args));
 }
 
 abbrev pub decreases-calls::select-loop-first : goal.decreases-calls::select-loop-first
@@ -278,9 +278,9 @@ decreases-calls::select-loop-first g l = length l.behind
 
 abbrev pub invariant-calls::arguments-loop-first : goal.invariant-calls::arguments-loop-first
 invariant-calls::arguments-loop-first g l = record {
-  value : map got l.out.items ++ arguments_values (g.S.Source.docs l.source) (fields l.params) (arguments_of (map arg l.behind)) (scope l.frame) ≡ arguments_values (g.S.Source.docs l.source) (fields l.params) (arguments_of (map arg l.args)) (scope l.frame);
-  keys : l.keys ++ arguments_looked (g.S.Source.docs l.source) (fields l.params) (arguments_of (map arg l.behind)) (scope l.frame) ≡ l.initial.keys ++ arguments_looked (g.S.Source.docs l.source) (fields l.params) (arguments_of (map arg l.args)) (scope l.frame);
-  lighter : arguments_weight (arguments_of (map arg l.behind)) ≤ arguments_weight (arguments_of (map arg l.args));
+  value : map got l.out.items ++ arguments_values (g.S.Source.docs l.source) (fields l.params) (arguments_of (map argument_of l.behind)) (scope_of l.frame) ≡ arguments_values (g.S.Source.docs l.source) (fields l.params) (arguments_of (map argument_of l.args)) (scope_of l.frame);
+  keys : l.keys ++ arguments_looked (g.S.Source.docs l.source) (fields l.params) (arguments_of (map argument_of l.behind)) (scope_of l.frame) ≡ l.initial.keys ++ arguments_looked (g.S.Source.docs l.source) (fields l.params) (arguments_of (map argument_of l.args)) (scope_of l.frame);
+  lighter : arguments_weight (arguments_of (map argument_of l.behind)) ≤ arguments_weight (arguments_of (map argument_of l.args));
 }
 
 abbrev pub decreases-calls::arguments-loop-first : goal.decreases-calls::arguments-loop-first

@@ -1,9 +1,9 @@
-// The documents of a data file so far, in the order of their ids.
+//! The documents of a data file so far, in the order of their ids.
 ghost use Rattle.std.specs.Prelude.{◌≡◌, ◌<◌, ◌≤◌, [], true, length, map, IfOk, IsTrue, OnErr, OnOk};
 ghost use Rattle.cs_docs.specs.Limits.{most_documents};
 ghost use Rattle.cs_view.specs.Dataset.{ascending, stands, with_doc};
 ghost use Rattle.cs_view.specs.Document.{id_of};
-ghost use Rattle.cs_view.specs.View.{doc};
+ghost use Rattle.cs_view.specs.View.{document_of};
 ghost use Rattle.cs_load.specs.Gathered.{gathered, AreById, IsGapFor};
 
 use cs_value::{NoMemory, Txt};
@@ -24,8 +24,9 @@ pub(super) enum Collected {
 
 // Whether the id is above those of the documents, of which the last has the greatest.
 fn is_above(id: &str, documents: &[Doc]) -> bool
-    requires { ascending (map doc documents.now) ≡ true }
-    ensures { IsTrue result → IsGapFor id.now (map doc documents.now) (length documents.now) }
+    requires { ascending (map document_of documents.now) ≡ true }
+    ensures { IsTrue result → IsGapFor id.now (map document_of documents.now)
+        (length documents.now) }
 {
     match documents.last() {
         Some(last) => matches!(id.cmp(last.id().as_str()), Ordering::Greater),
@@ -42,7 +43,7 @@ fn put_by_id(
     requires by_id { AreById documents.old.entries }
     ensures by_id { AreById documents.new.entries }
     ensures put { OnOk result (gathered documents.new.entries
-        ≡ with_doc (doc document) (gathered documents.old.entries)) }
+        ≡ with_doc (document_of document) (gathered documents.old.entries)) }
     ensures kept { OnErr result (documents.new.entries ≡ documents.old.entries) }
 {
     let id = document.id().copy(alloc)?;
@@ -52,9 +53,9 @@ fn put_by_id(
 
 // The same documents, each at its id.
 fn by_id(alloc: Global, documents: Vec<Doc>) -> Result<BTreeMap<Txt, Doc>, NoMemory>
-    requires { ascending (map doc documents.items) ≡ true }
+    requires { ascending (map document_of documents.items) ≡ true }
     ensures by_id { IfOk result (λ m. AreById m.entries) }
-    ensures same { IfOk result (λ m. gathered m.entries ≡ map doc documents.items) }
+    ensures same { IfOk result (λ m. gathered m.entries ≡ map document_of documents.items) }
 {
     let mut sorted = BTreeMap::new(alloc);
     for document in documents {
@@ -65,7 +66,7 @@ fn by_id(alloc: Global, documents: Vec<Doc>) -> Result<BTreeMap<Txt, Doc>, NoMem
 
 // The documents of a map, in its order.
 fn in_order(alloc: Global, documents: BTreeMap<Txt, Doc>) -> Result<Vec<Doc>, NoMemory>
-    ensures { IfOk result (λ v. map doc v.items ≡ gathered documents.entries) }
+    ensures { IfOk result (λ v. map document_of v.items ≡ gathered documents.entries) }
 {
     let mut docs = Vec::with_capacity(alloc, documents.len())?;
     for document in documents.into_values() {
@@ -129,10 +130,11 @@ impl Collected {
     /// Puts a document in the place of its id, for which way was made.
     pub(super) fn put(&mut self, alloc: Global, document: Doc) -> Result<(), NoMemory>
         requires kept { IsKept self.old }
-        requires way { HasWay (id_of (doc document)) self.old }
+        requires way { HasWay (id_of (document_of document)) self.old }
         requires room { length (held self.old) < most_documents }
         ensures kept { IsKept self.new }
-        ensures put { OnOk result (held self.new ≡ with_doc (doc document) (held self.old)) }
+        ensures put { OnOk result (held self.new
+            ≡ with_doc (document_of document) (held self.old)) }
     {
         match self {
             Collected::InOrder(documents) => Ok(documents.push(document)?),
@@ -143,11 +145,11 @@ impl Collected {
     /// The documents, moved and not copied.
     pub(super) fn into_docs(self, alloc: Global) -> Result<Vec<Doc>, NoMemory>
         requires { IsKept self }
-        ensures these { IfOk result (λ documents. map doc documents.items ≡ held self) }
+        ensures these { IfOk result (λ documents. map document_of documents.items ≡ held self) }
         ensures ascends { IfOk result
-            (λ documents. ascending (map doc documents.items) ≡ true) }
+            (λ documents. ascending (map document_of documents.items) ≡ true) }
         ensures within { IfOk result
-            (λ documents. length (map doc documents.items) ≤ most_documents) }
+            (λ documents. length (map document_of documents.items) ≤ most_documents) }
     {
         match self {
             Collected::InOrder(documents) => Ok(documents),

@@ -1,4 +1,4 @@
-// How a full vector of pairs becomes a tree.
+//! How a full vector of pairs becomes a tree.
 ghost use Rattle.std.specs.Prelude.{◌≡◌, ◌+◌, ◌≤◌, ◌<◌, [], ◌∷◌, ◌++◌, length, reverse, OnOk};
 ghost use Rattle.std.specs.Vec.{vec_capacity};
 ghost use Rattle.std.specs.Map.{keys_of};

@@ -1,4 +1,4 @@
-// The iterators of an ordered map. Contracts see each as the list of the pairs that are left.
+//! The iterators of an ordered map. Contracts see each as the list of the pairs that are left.
 ghost use Rattle.std.specs.Prelude.{◌≡◌, ◌<◌, ◌^◌, [], ◌∷◌, length, IfOk, MatchOption};
 ghost use Rattle.std.specs.Iterator.{at_most};
 ghost use Rattle.std_collections.specs.Map.Iter.{TakesFirst, deref_pair};

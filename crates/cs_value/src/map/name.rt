@@ -1,4 +1,4 @@
-// The name of a pair in a vector.
+//! The name of a pair in a vector.
 ghost use Rattle.std.specs.Prelude.{◌≡◌, IfOk};
 
 use crate::memory::NoMemory;

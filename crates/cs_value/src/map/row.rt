@@ -1,4 +1,4 @@
-// The pairs of a small map in a vector, in ascending order of their names.
+//! The pairs of a small map in a vector, in ascending order of their names.
 ghost use Rattle.std.specs.Prelude.{◌≡◌, ◌≤◌, length, IfOk, OnOk, OnErr};
 ghost use Rattle.std.specs.List.{insert};
 ghost use Rattle.std.specs.List.Sorted.{IsSearchInRange};

@@ -1,4 +1,4 @@
-// The two forms of an ordered map: a vector while it is small, and a tree.
+//! The two forms of an ordered map: a vector while it is small, and a tree.
 ghost use Rattle.std.specs.Prelude.{◌≡◌, ◌^◌, ◌<◌, [], length, IfOk, OnOk, OnErr};
 ghost use Rattle.std.specs.Map.{lookup, remove_entry};
 ghost use Rattle.std.specs.BTreeMap.{insert_entry, is_at};

@@ -1,4 +1,4 @@
-// Texts that are short enough to lie in what holds them.
+//! Texts that are short enough to lie in what holds them.
 ghost use Rattle.std.specs.Prelude.{◌≡◌, ◌≤◌, ◌<◌, length, MatchOption};
 
 use std::marker::Model;

@@ -2,10 +2,10 @@ use Rattle.std.proofs.Common.{◌++◌, ◌&&◌, List, [], ◌∷◌, drop, ◌
 use Rattle.std.specs.List.{filter}
 use Rattle.cs_value.specs.Tree.{Tree}
 use Rattle.cs_view.specs.Changes.{Edit}
-use Rattle.cs_view.specs.View.{doc, edit, edits}
-use Rattle.cs_view.proofs.Changed.{ascending-After}
+use Rattle.cs_view.specs.View.{document_of, edit, edits}
+use Rattle.cs_view.proofs.Changed.{ascending-after_changes}
 use Rattle.cs_shelf.proofs.Standing.{ascending-documents}
-use Rattle.cs_shelf.specs.Referring.{first_of}
+use Rattle.cs_value.specs.Words.{first_of}
 use Rattle.cs_docs.specs.Suspects.{dangles, is_suspect, lesser}
 use Rattle.cs_docs.specs.Store.{docs, after}
 use Rattle.cs_docs.proofs.Walks.{suspects_none, change_here, found_here, one_more, all_done, all_suspects}
@@ -29,8 +29,8 @@ loop-change-preserved g c =
     let cs : List Edit = edits c.args.changes.now in (
       l.invariant.0 ++ edit x ∷ [],
       change_here c.args.changes.now l.change-index x l.invariant.0 c.loop-change-test.true c.change-item.is l.invariant.1 ∙ sym (append_assoc l.invariant.0 (edit x ∷ []) (edits (drop (l.change-index + 1) c.args.changes.now))),
-      c.lesser-first.ensures ∙ ap (λ o. lesser o (option_map (λ d. doc d.now) c.suspect.result)) l.invariant.2 ∙ ap (lesser (first_of (filter (λ d. dangles docs_after d && is_suspect cs l.invariant.0 d) docs_after))) c.suspect.ensures
-          ∙ one_more (dangles docs_after) cs l.invariant.0 (edit x) docs_after (ascending-After (docs c.args.store.now) cs (ascending-documents c.args.store.now.shelf)),
+      c.lesser-first.ensures ∙ ap (λ o. lesser o (option_map (λ d. document_of d.now) c.suspect.result)) l.invariant.2 ∙ ap (lesser (first_of (filter (λ d. dangles docs_after d && is_suspect cs l.invariant.0 d) docs_after))) c.suspect.ensures
+          ∙ one_more (dangles docs_after) cs l.invariant.0 (edit x) docs_after (ascending-after_changes (docs c.args.store.now) cs (ascending-documents c.args.store.now.shelf)),
     )
 
 pub returns : goal.returns

@@ -1,5 +1,5 @@
 use Rattle.std.proofs.Common.{◌∙◌, [], ap, sym, subst}
-use Rattle.cs_view.specs.Changes.{are_changes, LeadFrom, After}
+use Rattle.cs_view.specs.Changes.{are_changes, LeadFrom, after_changes}
 use Rattle.cs_docs.proofs.Gathering.{are_entering, lead_entering, after_entering}
 use Rattle.cs_docs.proofs.gather.entering_all.Goals as goal
 
@@ -10,4 +10,4 @@ pub returns-clause-leads : goal.returns-clause-leads
 returns-clause-leads c = subst (LeadFrom []) (sym c.in_ok-changes.ensures) (lead_entering c.args.documents.items)
 
 pub returns-clause-after : goal.returns-clause-after
-returns-clause-after c = ap (After []) c.in_ok-changes.ensures ∙ after_entering c.args.documents.items c.requires
+returns-clause-after c = ap (after_changes []) c.in_ok-changes.ensures ∙ after_entering c.args.documents.items c.requires

@@ -4,7 +4,7 @@ use Rattle.cs_view.specs.View.{edits}
 use Rattle.cs_shelf.proofs.Standing.{ascending-documents}
 use Rattle.cs_docs.specs.Limits.{most_documents}
 use Rattle.cs_docs.specs.Store.{docs, after}
-use Rattle.cs_docs.proofs.Counts.{standing, stood, counted, grown, not_grown}
+use Rattle.cs_docs.proofs.Counts.{arriving, stood, counted, grown, not_grown}
 use Rattle.cs_docs.proofs.make.full_after.Goals as goal
 
 pub returns-then-stand-stood : goal.returns-then-stand-stood
@@ -12,7 +12,7 @@ returns-then-stand-stood c =
     let l = c.loop-change in
     let no_more = drop_all l.change-index c.args.changes.now c.loop-change-test.false in
     let s : l.stood ≡ stood (edits c.args.changes.now) = omega (arith, l.invariant.stood, ap (λ cs. stood (edits cs)) no_more) in
-    let t : l.stand ≡ standing (edits c.args.changes.now) = omega (arith, l.invariant.stand, ap (λ cs. standing (edits cs)) no_more) in
+    let t : l.stand ≡ arriving (edits c.args.changes.now) = omega (arith, l.invariant.stand, ap (λ cs. arriving (edits cs)) no_more) in
     let n : length (docs c.args.store.now) ≤ most_documents = c.args.store.now.within in
     let is = counted (docs c.args.store.now) (edits c.args.changes.now) (ascending-documents c.args.store.now.shelf) c.requires.changes c.requires.leads in
     ap (λ x. nat_lt (most_documents - x) (l.stand - l.stood)) c.len.ensures
@@ -23,7 +23,7 @@ returns-else-stand-stood c =
     let l = c.loop-change in
     let no_more = drop_all l.change-index c.args.changes.now c.loop-change-test.false in
     let s : l.stood ≡ stood (edits c.args.changes.now) = omega (arith, l.invariant.stood, ap (λ cs. stood (edits cs)) no_more) in
-    let t : l.stand ≡ standing (edits c.args.changes.now) = omega (arith, l.invariant.stand, ap (λ cs. standing (edits cs)) no_more) in
+    let t : l.stand ≡ arriving (edits c.args.changes.now) = omega (arith, l.invariant.stand, ap (λ cs. arriving (edits cs)) no_more) in
     let n : length (docs c.args.store.now) ≤ most_documents = c.args.store.now.within in
     let is = counted (docs c.args.store.now) (edits c.args.changes.now) (ascending-documents c.args.store.now.shelf) c.requires.changes c.requires.leads in
     not_grown most_documents (length (docs c.args.store.now)) (length (after c.args.store.now c.args.changes.now)) l.stood l.stand (omega (arith, is, s, t)) n c.if-stand-stood.false

@@ -4,8 +4,8 @@ use Rattle.cs_value.specs.Tree.{Tree, Pairs}
 use Rattle.cs_value.specs.View.{tree, fields}
 use Rattle.cs_value.specs.Words.{list_of}
 use Rattle.cs_syntax.specs.Expression.{Expression}
-use Rattle.cs_syntax.specs.Queries.{query}
-use Rattle.cs_view.specs.View.{doc}
+use Rattle.cs_syntax.specs.Queries.{expression_of}
+use Rattle.cs_view.specs.View.{document_of}
 use Rattle.cs_view.specs.declared.key.Key.{Key}
 use Rattle.cs_meaning.specs.Hits.{tail_looked, tail_over}
 use Rattle.cs_window.specs.Laws.{MappedIsShares}
@@ -24,19 +24,19 @@ module _ (all : MappedIsShares) (docs : List Tree) (e : Expression) (params : Pa
 
 pub unreachable-requires : goal.unreachable-requires
 unreachable-requires g c =
-    let t : Tree = share (g.V.View.docs c.args.view.now) (query c.args.query.now) (fields c.args.params.now) (doc c.args.doc.now) in
+    let t : Tree = share (g.V.View.docs c.args.view.now) (expression_of c.args.query.now) (fields c.args.params.now) (document_of c.args.doc.now) in
     let none : None ≡ Some t
-    = c.in_default.ensures t (the-list c.mapped_is_shares.ensures (g.V.View.docs c.args.view.now) (query c.args.query.now) (fields c.args.params.now) (doc c.in_ok-copy.field-0) (doc c.args.doc.now) c.in_ok-copy.ensures c.requires (tree c.in_ok-list.list) c.in_ok-list.ensures.value) in
+    = c.in_default.ensures t (the-list c.mapped_is_shares.ensures (g.V.View.docs c.args.view.now) (expression_of c.args.query.now) (fields c.args.params.now) (document_of c.in_ok-copy.field-0) (document_of c.args.doc.now) c.in_ok-copy.ensures c.requires (tree c.in_ok-list.list) c.in_ok-list.ensures.value) in
     absurd (cc)
 
 pub returns-clause-value : goal.returns-clause-value
 returns-clause-value g c =
-    let t : Tree = share (g.V.View.docs c.args.view.now) (query c.args.query.now) (fields c.args.params.now) (doc c.args.doc.now) in
+    let t : Tree = share (g.V.View.docs c.args.view.now) (expression_of c.args.query.now) (fields c.args.params.now) (document_of c.args.doc.now) in
     let some : Some (tree c.in-Some.value) ≡ Some t
-    = c.in-Some.ensures t (the-list c.mapped_is_shares.ensures (g.V.View.docs c.args.view.now) (query c.args.query.now) (fields c.args.params.now) (doc c.in_ok-copy.field-0) (doc c.args.doc.now) c.in_ok-copy.ensures c.requires (tree c.in_ok-list.list) c.in_ok-list.ensures.value) in
+    = c.in-Some.ensures t (the-list c.mapped_is_shares.ensures (g.V.View.docs c.args.view.now) (expression_of c.args.query.now) (fields c.args.params.now) (document_of c.in_ok-copy.field-0) (document_of c.args.doc.now) c.in_ok-copy.ensures c.requires (tree c.in_ok-list.list) c.in_ok-list.ensures.value) in
     cc
 
 pub returns-clause-keys : goal.returns-clause-keys
 returns-clause-keys g c =
-    the-keys c.mapped_is_shares.ensures (g.V.View.docs c.args.view.now) (query c.args.query.now) (fields c.args.params.now) (doc c.in_ok-copy.field-0) (doc c.args.doc.now) c.in_ok-copy.ensures c.requires
+    the-keys c.mapped_is_shares.ensures (g.V.View.docs c.args.view.now) (expression_of c.args.query.now) (fields c.args.params.now) (document_of c.in_ok-copy.field-0) (document_of c.args.doc.now) c.in_ok-copy.ensures c.requires
     c.tail_over.new.keys c.args.keys.now c.in_ok-list.ensures.keys

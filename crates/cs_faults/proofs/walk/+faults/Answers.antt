@@ -1,7 +1,7 @@
 use Rattle.std.proofs.Common.{◌≡◌, ℕ, ◌++◌, ◌∷◌, List, map, refl, ap, ◌∙◌, arith}
 use Rattle.cs_syntax.specs.Expression.{arguments_of, elements_of, entries_of, keys_of, operands_of, steps_of, OrderKey, more_keys}
 use Rattle.cs_syntax.specs.Faults.{faults, at_right, behind_first, operator_faults, pipe_faults, in_operands, in_step, in_steps, in_keys, in_entry, in_entries, in_element, in_elements, in_argument, in_arguments}
-use Rattle.cs_syntax.specs.View.{expression, arg, elem, entry, key, operands, step}
+use Rattle.cs_syntax.specs.View.{expression, argument_of, element_of, entry_of, order_key_of, operands, step_of}
 use Rattle.cs_syntax.specs.declared.tree.Arg.{Arg}
 use Rattle.cs_syntax.specs.declared.tree.BinSign.{BinSign}
 use Rattle.cs_syntax.specs.declared.tree.Elem.{Elem}
@@ -39,34 +39,34 @@ check_operands-returns-in_err-check_operand t c =
     c.in_err-check_operand.ensures)
 
 check_steps-cons : (x : CodeStep) (xs : List CodeStep) →
-    in_steps (steps_of (map step (x ∷ xs))) ≡ (λ (x : CodeStep). in_step (step x)) x
-    ++ in_steps (steps_of (map step xs))
+    in_steps (steps_of (map step_of (x ∷ xs))) ≡ (λ (x : CodeStep). in_step (step_of x)) x
+    ++ in_steps (steps_of (map step_of xs))
 check_steps-cons x xs = refl
 
 pub check_steps-loop-step-preserved : goal.check_steps-loop-step-preserved
 check_steps-loop-step-preserved t c =
-    loop_goes_on (λ (xs : List CodeStep). in_steps (steps_of (map step xs)))
-    (λ (x : CodeStep). in_step (step x)) check_steps-cons c.args.steps.now c.loop-step.step-index
+    loop_goes_on (λ (xs : List CodeStep). in_steps (steps_of (map step_of xs)))
+    (λ (x : CodeStep). in_step (step_of x)) check_steps-cons c.args.steps.now c.loop-step.step-index
     c.step-item.result (omega arith) c.step-item.is c.loop-step.invariant
     c.in_ok-check_step.ensures
 
 pub check_steps-returns-in_err-check_step : goal.check_steps-returns-in_err-check_step
 check_steps-returns-in_err-check_step t c =
     handed _ c.in_err-check_step.field-0.0 c.from_residual.ensures.1
-    (loop_stops (λ (xs : List CodeStep). in_steps (steps_of (map step xs)))
-    (λ (x : CodeStep). in_step (step x)) check_steps-cons c.args.steps.now c.loop-step.step-index
+    (loop_stops (λ (xs : List CodeStep). in_steps (steps_of (map step_of xs)))
+    (λ (x : CodeStep). in_step (step_of x)) check_steps-cons c.args.steps.now c.loop-step.step-index
     c.step-item.result (omega arith) c.step-item.is c.loop-step.invariant
     c.in_err-check_step.ensures)
 
 check_keys-cons : (x : CodeKey) (xs : List CodeKey) →
-    in_keys (keys_of (map key (x ∷ xs))) ≡ (λ (x : CodeKey). faults (expression x.key)) x
-    ++ in_keys (keys_of (map key xs))
+    in_keys (keys_of (map order_key_of (x ∷ xs))) ≡ (λ (x : CodeKey). faults (expression x.key)) x
+    ++ in_keys (keys_of (map order_key_of xs))
 check_keys-cons x xs =
-    ap (λ (k : OrderKey). in_keys (more_keys k (keys_of (map key xs)))) (key_seen x)
+    ap (λ (k : OrderKey). in_keys (more_keys k (keys_of (map order_key_of xs)))) (key_seen x)
 
 pub check_keys-loop-key-preserved : goal.check_keys-loop-key-preserved
 check_keys-loop-key-preserved t c =
-    loop_goes_on (λ (xs : List CodeKey). in_keys (keys_of (map key xs)))
+    loop_goes_on (λ (xs : List CodeKey). in_keys (keys_of (map order_key_of xs)))
     (λ (x : CodeKey). faults (expression x.key)) check_keys-cons c.args.keys.now
     c.loop-key.key-index c.key-item.result (omega arith) c.key-item.is c.loop-key.invariant
     c.in_ok-check.ensures
@@ -74,78 +74,78 @@ check_keys-loop-key-preserved t c =
 pub check_keys-returns-in_err-check : goal.check_keys-returns-in_err-check
 check_keys-returns-in_err-check t c =
     handed _ c.in_err-check.field-0.0 c.from_residual.ensures.1
-    (loop_stops (λ (xs : List CodeKey). in_keys (keys_of (map key xs)))
+    (loop_stops (λ (xs : List CodeKey). in_keys (keys_of (map order_key_of xs)))
     (λ (x : CodeKey). faults (expression x.key)) check_keys-cons c.args.keys.now
     c.loop-key.key-index c.key-item.result (omega arith) c.key-item.is c.loop-key.invariant
     c.in_err-check.ensures)
 
 check_entries-cons : (x : CodeEntry) (xs : List CodeEntry) →
-    in_entries (entries_of (map entry (x ∷ xs))) ≡ (λ (x : CodeEntry). in_entry (entry x)) x
-    ++ in_entries (entries_of (map entry xs))
+    in_entries (entries_of (map entry_of (x ∷ xs))) ≡ (λ (x : CodeEntry). in_entry (entry_of x)) x
+    ++ in_entries (entries_of (map entry_of xs))
 check_entries-cons x xs = refl
 
 pub check_entries-loop-entry-preserved : goal.check_entries-loop-entry-preserved
 check_entries-loop-entry-preserved t c =
-    loop_goes_on (λ (xs : List CodeEntry). in_entries (entries_of (map entry xs)))
-    (λ (x : CodeEntry). in_entry (entry x)) check_entries-cons c.args.entries.now
+    loop_goes_on (λ (xs : List CodeEntry). in_entries (entries_of (map entry_of xs)))
+    (λ (x : CodeEntry). in_entry (entry_of x)) check_entries-cons c.args.entries.now
     c.loop-entry.entry-index c.entry-item.result (omega arith) c.entry-item.is
     c.loop-entry.invariant c.in_ok-check_entry.ensures
 
 pub check_entries-returns-in_err-check_entry : goal.check_entries-returns-in_err-check_entry
 check_entries-returns-in_err-check_entry t c =
     handed _ c.in_err-check_entry.field-0.0 c.from_residual.ensures.1
-    (loop_stops (λ (xs : List CodeEntry). in_entries (entries_of (map entry xs)))
-    (λ (x : CodeEntry). in_entry (entry x)) check_entries-cons c.args.entries.now
+    (loop_stops (λ (xs : List CodeEntry). in_entries (entries_of (map entry_of xs)))
+    (λ (x : CodeEntry). in_entry (entry_of x)) check_entries-cons c.args.entries.now
     c.loop-entry.entry-index c.entry-item.result (omega arith) c.entry-item.is
     c.loop-entry.invariant c.in_err-check_entry.ensures)
 
-check_elements-cons : (x : Elem) (xs : List Elem) → in_elements (elements_of (map elem (x ∷ xs)))
-    ≡ (λ (x : Elem). in_element (elem x)) x ++ in_elements (elements_of (map elem xs))
+check_elements-cons : (x : Elem) (xs : List Elem) → in_elements (elements_of (map element_of (x ∷ xs)))
+    ≡ (λ (x : Elem). in_element (element_of x)) x ++ in_elements (elements_of (map element_of xs))
 check_elements-cons x xs = refl
 
 pub check_elements-loop-element-preserved : goal.check_elements-loop-element-preserved
 check_elements-loop-element-preserved t c =
-    loop_goes_on (λ (xs : List Elem). in_elements (elements_of (map elem xs)))
-    (λ (x : Elem). in_element (elem x)) check_elements-cons c.args.elements.now
+    loop_goes_on (λ (xs : List Elem). in_elements (elements_of (map element_of xs)))
+    (λ (x : Elem). in_element (element_of x)) check_elements-cons c.args.elements.now
     c.loop-element.element-index c.element-item.result (omega arith) c.element-item.is
     c.loop-element.invariant c.in_ok-check_element.ensures
 
 pub check_elements-returns-in_err-check_element : goal.check_elements-returns-in_err-check_element
 check_elements-returns-in_err-check_element t c =
     handed _ c.in_err-check_element.field-0.0 c.from_residual.ensures.1
-    (loop_stops (λ (xs : List Elem). in_elements (elements_of (map elem xs)))
-    (λ (x : Elem). in_element (elem x)) check_elements-cons c.args.elements.now
+    (loop_stops (λ (xs : List Elem). in_elements (elements_of (map element_of xs)))
+    (λ (x : Elem). in_element (element_of x)) check_elements-cons c.args.elements.now
     c.loop-element.element-index c.element-item.result (omega arith) c.element-item.is
     c.loop-element.invariant c.in_err-check_element.ensures)
 
-check_arguments-cons : (x : Arg) (xs : List Arg) → in_arguments (arguments_of (map arg (x ∷ xs)))
-    ≡ (λ (x : Arg). in_argument (arg x)) x ++ in_arguments (arguments_of (map arg xs))
+check_arguments-cons : (x : Arg) (xs : List Arg) → in_arguments (arguments_of (map argument_of (x ∷ xs)))
+    ≡ (λ (x : Arg). in_argument (argument_of x)) x ++ in_arguments (arguments_of (map argument_of xs))
 check_arguments-cons x xs = refl
 
 pub check_arguments-loop-arg-preserved : goal.check_arguments-loop-arg-preserved
 check_arguments-loop-arg-preserved t c =
-    loop_goes_on (λ (xs : List Arg). in_arguments (arguments_of (map arg xs)))
-    (λ (x : Arg). in_argument (arg x)) check_arguments-cons c.args.args.now c.loop-arg.arg-index
+    loop_goes_on (λ (xs : List Arg). in_arguments (arguments_of (map argument_of xs)))
+    (λ (x : Arg). in_argument (argument_of x)) check_arguments-cons c.args.args.now c.loop-arg.arg-index
     c.arg-item.result (omega arith) c.arg-item.is c.loop-arg.invariant
     c.in_ok-check_argument.ensures
 
 pub check_arguments-returns-in_err-check_argument : goal.check_arguments-returns-in_err-check_argument
 check_arguments-returns-in_err-check_argument t c =
     handed _ c.in_err-check_argument.field-0.0 c.from_residual.ensures.1
-    (loop_stops (λ (xs : List Arg). in_arguments (arguments_of (map arg xs)))
-    (λ (x : Arg). in_argument (arg x)) check_arguments-cons c.args.args.now c.loop-arg.arg-index
+    (loop_stops (λ (xs : List Arg). in_arguments (arguments_of (map argument_of xs)))
+    (λ (x : Arg). in_argument (argument_of x)) check_arguments-cons c.args.args.now c.loop-arg.arg-index
     c.arg-item.result (omega arith) c.arg-item.is c.loop-arg.invariant
     c.in_err-check_argument.ensures)
 
 pub check_argument-returns-in_err-check-in-When : goal.check_argument-returns-in_err-check-in-When
 check_argument-returns-in_err-check-in-When t c =
     handed _ c.in_err-check-in-When.field-0.0 c.from_residual.ensures.1
-    (seen (ap in_argument (ap arg c.in-When.is
+    (seen (ap in_argument (ap argument_of c.in-When.is
     ∙ arg_when _ _)) (stops _ _ c.in_err-check-in-When.ensures))
 
 pub check_argument-returns-in_ok-check-in-When : goal.check_argument-returns-in_ok-check-in-When
 check_argument-returns-in_ok-check-in-When t c =
-    seen (ap in_argument (ap arg c.in-When.is
+    seen (ap in_argument (ap argument_of c.in-When.is
     ∙ arg_when _ _)) (goes_on _ _ c.in_ok-check-in-When.ensures c.check-in-When-2.ensures)
 
 pub check_behind-returns-in_err-check_behind-in-Chain : goal.check_behind-returns-in_err-check_behind-in-Chain
@@ -162,7 +162,7 @@ check_behind-returns-in_ok-check_behind-in-Chain t c =
     ∙ expression_chain _ _))
     (goes_on _ _ (moved (λ (e : Expr). behind_first (expression e)) c.deref-in-Chain.ensures
     c.in_ok-check_behind-in-Chain.ensures)
-    (moved (λ (ss : List CodeStep). in_steps (steps_of (map step ss)))
+    (moved (λ (ss : List CodeStep). in_steps (steps_of (map step_of ss)))
     c.deref-in-Chain-2.ensures.value c.check_steps.ensures))
 
 pub check_behind-returns-in_err-check_behind-in-Run : goal.check_behind-returns-in_err-check_behind-in-Run
@@ -247,13 +247,13 @@ check_behind-returns-in_ok-check-in-Between t c =
 pub check_entry-returns-in_err-check_first-in-Bare : goal.check_entry-returns-in_err-check_first-in-Bare
 check_entry-returns-in_err-check_first-in-Bare t c =
     handed _ c.in_err-check_first-in-Bare.field-0.0 c.from_residual.ensures.1
-    (seen (ap in_entry (ap entry c.in-Bare.is
+    (seen (ap in_entry (ap entry_of c.in-Bare.is
     ∙ entry_bare _)) (stops _ _ (stops _ _ c.in_err-check_first-in-Bare.ensures)))
 
 pub check_entry-returns-in_err-check_key-in-Bare : goal.check_entry-returns-in_err-check_key-in-Bare
 check_entry-returns-in_err-check_key-in-Bare t c =
     handed _ c.in_err-check_key-in-Bare.field-0.0
-    c.from_residual-in_err-check_key-in-Bare.ensures.1 (seen (ap in_entry (ap entry c.in-Bare.is
+    c.from_residual-in_err-check_key-in-Bare.ensures.1 (seen (ap in_entry (ap entry_of c.in-Bare.is
     ∙ entry_bare _))
     (stops _ _ (goes_on _ _ c.in_ok-check_first-in-Bare.ensures
     c.in_err-check_key-in-Bare.ensures)))
@@ -261,30 +261,30 @@ check_entry-returns-in_err-check_key-in-Bare t c =
 pub check_entry-returns-in_err-check-in-When : goal.check_entry-returns-in_err-check-in-When
 check_entry-returns-in_err-check-in-When t c =
     handed _ c.in_err-check-in-When.field-0.0 c.from_residual-in_err-check-in-When.ensures.1
-    (seen (ap in_entry (ap entry c.in-When.is
+    (seen (ap in_entry (ap entry_of c.in-When.is
     ∙ entry_when _ _)) (stops _ _ c.in_err-check-in-When.ensures))
 
 pub check_entry-returns-in_ok-check-in-When : goal.check_entry-returns-in_ok-check-in-When
 check_entry-returns-in_ok-check-in-When t c =
-    seen (ap in_entry (ap entry c.in-When.is
+    seen (ap in_entry (ap entry_of c.in-When.is
     ∙ entry_when _ _)) (goes_on _ _ c.in_ok-check-in-When.ensures c.check-in-When-2.ensures)
 
 pub check_step-returns-in_err-check_slice-in-Slice : goal.check_step-returns-in_err-check_slice-in-Slice
 check_step-returns-in_err-check_slice-in-Slice t c =
     handed _ c.in_err-check_slice-in-Slice.field-0.0 c.from_residual.ensures.1
-    (seen (ap in_step (ap step c.in-Slice.is
+    (seen (ap in_step (ap step_of c.in-Slice.is
     ∙ step_slice _ _ _)) (stops _ _ c.in_err-check_slice-in-Slice.ensures))
 
 pub check_step-returns-in_err-check-in-Slice : goal.check_step-returns-in_err-check-in-Slice
 check_step-returns-in_err-check-in-Slice t c =
     handed _ c.in_err-check-in-Slice.field-0.0 c.from_residual-in_err-check-in-Slice.ensures.1
-    (seen (ap in_step (ap step c.in-Slice.is
+    (seen (ap in_step (ap step_of c.in-Slice.is
     ∙ step_slice _ _ _))
     (goes_on _ _ c.in_ok-check_slice-in-Slice.ensures (stops _ _ c.in_err-check-in-Slice.ensures)))
 
 pub check_step-returns-in_ok-check-in-Slice : goal.check_step-returns-in_ok-check-in-Slice
 check_step-returns-in_ok-check-in-Slice t c =
-    seen (ap in_step (ap step c.in-Slice.is
+    seen (ap in_step (ap step_of c.in-Slice.is
     ∙ step_slice _ _ _))
     (goes_on _ _ c.in_ok-check_slice-in-Slice.ensures
     (goes_on _ _ c.in_ok-check-in-Slice.ensures c.check-in-Slice.ensures))
@@ -293,40 +293,40 @@ pub check_step-returns-in_err-check_bracket-in-Bracket : goal.check_step-returns
 check_step-returns-in_err-check_bracket-in-Bracket t c =
     handed _ c.in_err-check_bracket-in-Bracket.field-0.0
     c.from_residual-in_err-check_bracket-in-Bracket.ensures.1
-    (seen (ap in_step (ap step c.in-Bracket.is
+    (seen (ap in_step (ap step_of c.in-Bracket.is
     ∙ step_bracket _)) (stops _ _ c.in_err-check_bracket-in-Bracket.ensures))
 
 pub check_step-returns-in_ok-check_bracket-in-Bracket : goal.check_step-returns-in_ok-check_bracket-in-Bracket
 check_step-returns-in_ok-check_bracket-in-Bracket t c =
-    seen (ap in_step (ap step c.in-Bracket.is
+    seen (ap in_step (ap step_of c.in-Bracket.is
     ∙ step_bracket _))
     (goes_on _ _ c.in_ok-check_bracket-in-Bracket.ensures c.check-in-Bracket.ensures)
 
 pub check_step-returns-in-Project : goal.check_step-returns-in-Project
 check_step-returns-in-Project t c =
-    seen (ap in_step (ap step c.in-Project.is
-    ∙ step_project _)) (moved (λ (xs : List CodeEntry). in_entries (entries_of (map entry xs)))
+    seen (ap in_step (ap step_of c.in-Project.is
+    ∙ step_project _)) (moved (λ (xs : List CodeEntry). in_entries (entries_of (map entry_of xs)))
     c.deref.ensures.value c.check_entries.ensures)
 
 pub check_step-returns-in_err-check_pipe-in-Pipe : goal.check_step-returns-in_err-check_pipe-in-Pipe
 check_step-returns-in_err-check_pipe-in-Pipe t c =
     handed _ c.in_err-check_pipe-in-Pipe.field-0.0
-    c.from_residual-in_err-check_pipe-in-Pipe.ensures.1 (seen (ap in_step (ap step c.in-Pipe.is
+    c.from_residual-in_err-check_pipe-in-Pipe.ensures.1 (seen (ap in_step (ap step_of c.in-Pipe.is
     ∙ step_pipe _ _))
-    (stops _ _ (moved (λ (s : List ℕ). pipe_faults s (keys_of (map key c.in-Pipe.keys.items)))
+    (stops _ _ (moved (λ (s : List ℕ). pipe_faults s (keys_of (map order_key_of c.in-Pipe.keys.items)))
     c.as_str.ensures
-    (moved (λ (ks : List CodeKey). pipe_faults c.as_str.result.now (keys_of (map key ks)))
+    (moved (λ (ks : List CodeKey). pipe_faults c.as_str.result.now (keys_of (map order_key_of ks)))
     c.deref-keys.ensures.value c.in_err-check_pipe-in-Pipe.ensures))))
 
 pub check_step-returns-in_ok-check_pipe-in-Pipe : goal.check_step-returns-in_ok-check_pipe-in-Pipe
 check_step-returns-in_ok-check_pipe-in-Pipe t c =
-    seen (ap in_step (ap step c.in-Pipe.is
+    seen (ap in_step (ap step_of c.in-Pipe.is
     ∙ step_pipe _ _))
-    (goes_on _ _ (moved (λ (s : List ℕ). pipe_faults s (keys_of (map key c.in-Pipe.keys.items)))
+    (goes_on _ _ (moved (λ (s : List ℕ). pipe_faults s (keys_of (map order_key_of c.in-Pipe.keys.items)))
     c.as_str.ensures
-    (moved (λ (ks : List CodeKey). pipe_faults c.as_str.result.now (keys_of (map key ks)))
+    (moved (λ (ks : List CodeKey). pipe_faults c.as_str.result.now (keys_of (map order_key_of ks)))
     c.deref-keys.ensures.value c.in_ok-check_pipe-in-Pipe.ensures))
-    (moved (λ (ks : List CodeKey). in_keys (keys_of (map key ks))) c.deref-keys.ensures.value
+    (moved (λ (ks : List CodeKey). in_keys (keys_of (map order_key_of ks))) c.deref-keys.ensures.value
     c.check_keys.ensures))
 
 pub check_step-check_keys-requires : goal.check_step-check_keys-requires

@@ -1,7 +1,8 @@
 use Rattle.std.proofs.Common.{ℕ, List, map, ap, sym, ◌∙◌}
 use Rattle.cs_syntax.specs.Expression.{arguments_of}
-use Rattle.cs_syntax.specs.Faults.{first_of, at_right, right_call_faults}
-use Rattle.cs_syntax.specs.View.{expression, arg}
+use Rattle.cs_syntax.specs.Faults.{at_right, right_call_faults}
+use Rattle.cs_value.specs.Words.{first_of}
+use Rattle.cs_syntax.specs.View.{expression, argument_of}
 use Rattle.cs_syntax.specs.declared.tree.Arg.{Arg}
 use Rattle.cs_syntax.proofs.Views.{expression_call}
 use Rattle.cs_faults.proofs.walk.check_right.Goals as goal
@@ -9,8 +10,8 @@ use Rattle.cs_faults.proofs.walk.check_right.Goals as goal
 pub returns-in-Call : goal.returns-in-Call
 returns-in-Call c = c.check_right_call.ensures
     ∙ ap (λ (s : List ℕ). first_of
-    (right_call_faults s (arguments_of (map arg c.deref.result.now)))) c.as_str.ensures
+    (right_call_faults s (arguments_of (map argument_of c.deref.result.now)))) c.as_str.ensures
     ∙ ap (λ (xs : List Arg). first_of
-    (right_call_faults c.in-Call.name (arguments_of (map arg xs)))) c.deref.ensures.value
+    (right_call_faults c.in-Call.name (arguments_of (map argument_of xs)))) c.deref.ensures.value
     ∙ sym (ap (λ e. first_of (at_right e)) (ap expression c.in-Call.is
     ∙ expression_call c.in-Call.name c.in-Call.args))

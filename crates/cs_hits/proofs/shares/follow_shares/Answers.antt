@@ -1,8 +1,8 @@
 use Rattle.std.proofs.Common.{◌≡◌, ◌∙◌, ◌+◌, ◌-◌, ℕ, List, length, ap, refl, sym, subst, drop, arith}
 use Rattle.std.proofs.lemmas.List.{drop_all}
 use Rattle.cs_value.specs.View.{fields}
-use Rattle.cs_syntax.specs.Queries.{query}
-use Rattle.cs_view.specs.Changes.{After, changes_where}
+use Rattle.cs_syntax.specs.Queries.{expression_of}
+use Rattle.cs_view.specs.Changes.{after_changes, changes_where}
 use Rattle.cs_view.specs.Dataset.{ascending}
 use Rattle.cs_view.specs.View.{edits}
 use Rattle.cs_view.specs.declared.change.Change.{Change}
@@ -15,11 +15,11 @@ use Rattle.cs_hits.proofs.shares.follow_shares.Goals as goal
 
 pub loop-left-init : goal.loop-left-init
 loop-left-init g c =
-    let p = is_hit (query c.args.query.now) (fields c.args.params.now) in
+    let p = is_hit (expression_of c.args.query.now) (fields c.args.params.now) in
     let changes = c.args.changes.now in
     record {
       within = omega arith;
-      placed = ap (λ (l : List Change). After (share_docs c.args.shares.now.items) (changes_where p (edits l))) (sym (drop_all (length changes) changes (omega arith)));
+      placed = ap (λ (l : List Change). after_changes (share_docs c.args.shares.now.items) (changes_where p (edits l))) (sym (drop_all (length changes) changes (omega arith)));
       sorted = c.requires.ascending;
       shares = c.requires.shares;
       same = λ _. refl;
@@ -27,7 +27,7 @@ loop-left-init g c =
 
 pub loop-left-preserved : goal.loop-left-preserved
 loop-left-preserved g c =
-    let p = is_hit (query c.args.query.now) (fields c.args.params.now) in
+    let p = is_hit (expression_of c.args.query.now) (fields c.args.params.now) in
     let old = share_docs c.args.shares.now.items in let cur = share_docs c.loop-left.shares.items in
     let changes = c.args.changes.now in let i = c.loop-left.left - 1 in
     let inv = c.loop-left.invariant in
@@ -36,7 +36,7 @@ loop-left-preserved g c =
     record {
       within = omega arith;
       placed = docs-more p old cur (share_docs c.place.new.shares.items) changes i c.index-changes-left.result (omega arith) c.index-changes-left.is
-          (subst (λ (k : ℕ). cur ≡ After old (changes_where p (edits (drop k changes)))) next inv.placed) moved.placed;
+          (subst (λ (k : ℕ). cur ≡ after_changes old (changes_where p (edits (drop k changes)))) next inv.placed) moved.placed;
       sorted = ap ascending moved.placed ∙ ascending-placed _ _ cur inv.sorted;
       shares = moved.shares;
       same = λ h. moved.same (or-right _ _ h) ∙ inv.same (or-left _ _ h);
@@ -44,9 +44,9 @@ loop-left-preserved g c =
 
 pub returns-clause-follow : goal.returns-clause-follow
 returns-clause-follow g c =
-    let p = is_hit (query c.args.query.now) (fields c.args.params.now) in
+    let p = is_hit (expression_of c.args.query.now) (fields c.args.params.now) in
     let none : c.loop-left.left ≡ 0 = omega arith in
     record {
-      hits = c.loop-left.invariant.placed ∙ ap (λ (k : ℕ). After (share_docs c.args.shares.now.items) (changes_where p (edits (drop k c.args.changes.now)))) none;
+      hits = c.loop-left.invariant.placed ∙ ap (λ (k : ℕ). after_changes (share_docs c.args.shares.now.items) (changes_where p (edits (drop k c.args.changes.now)))) none;
       shares = c.loop-left.invariant.shares;
     }

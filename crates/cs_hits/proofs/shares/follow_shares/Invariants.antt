@@ -1,7 +1,7 @@
 use Rattle.std.proofs.Common.{◌≡◌, ◌≤◌, drop, length, false, true}
 use Rattle.cs_value.specs.View.{fields}
-use Rattle.cs_syntax.specs.Queries.{query}
-use Rattle.cs_view.specs.Changes.{After, changes_where}
+use Rattle.cs_syntax.specs.Queries.{expression_of}
+use Rattle.cs_view.specs.Changes.{after_changes, changes_where}
 use Rattle.cs_view.specs.Dataset.{ascending}
 use Rattle.cs_view.specs.View.{edits}
 use Rattle.cs_meaning.specs.Hits.{is_hit}
@@ -11,9 +11,9 @@ use Rattle.cs_hits.proofs.shares.follow_shares.Given as goal
 abbrev pub invariant-loop-left : goal.invariant-loop-left
 invariant-loop-left g l = record {
   within : l.left ≤ length l.changes;
-  placed : share_docs l.shares.items ≡ After (share_docs l.fn.shares.items) (changes_where (is_hit (query l.query) (fields l.params)) (edits (drop l.left l.changes)));
+  placed : share_docs l.shares.items ≡ after_changes (share_docs l.fn.shares.items) (changes_where (is_hit (expression_of l.query) (fields l.params)) (edits (drop l.left l.changes)));
   sorted : ascending (share_docs l.shares.items) ≡ true;
-  shares : AreShares (g.V.View.docs l.view) (query l.query) (fields l.params) l.shares.items;
+  shares : AreShares (g.V.View.docs l.view) (expression_of l.query) (fields l.params) l.shares.items;
   same : l.touched ≡ false → l.shares.items ≡ l.fn.shares.items;
 }
 

@@ -3,10 +3,10 @@ use Rattle.std.proofs.lemmas.Grind.{common_steps}
 use Rattle.std.specs.Vec.Iter.{into_iter_items}
 use Rattle.cs_value.specs.Tree.{Tree}
 use Rattle.cs_view.specs.Document.{id_of}
-use Rattle.cs_view.specs.View.{doc}
+use Rattle.cs_view.specs.View.{document_of}
 use Rattle.cs_docs.specs.Store.{doc_at}
 use Rattle.cs_index.specs.Entries.{is_in, or_some, puts}
-use Rattle.cs_index.specs.Picking.{entering}
+use Rattle.cs_docs.specs.Gathered.{entering}
 use Rattle.cs_index.proofs.Applied.{put_at_place}
 use Rattle.cs_index.proofs.Split.{split, no_rest, or_null}
 use Rattle.cs_index.proofs.build.list_all.Goals as goal
@@ -22,7 +22,7 @@ loop-place-preserved c =
     let d = c.args.docs.now in
     let all = sym (ap (λ ps. map (doc_at d) ps) c.in-Some.ensures.steps.0) ∙ c.loop-place.invariant.1 in
     let s = split (doc_at d) c.in-Some.place _ c.loop-place.invariant.0 all in
-    let this : Tree = doc c.at-doc.result.now in
+    let this : Tree = document_of c.at-doc.result.now in
     let one : Some this ≡ Some s.first = sym c.at-doc.ensures ∙ s.there in (
       s.more,
       s.others,

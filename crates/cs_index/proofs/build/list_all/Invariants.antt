@@ -3,7 +3,7 @@ use Rattle.std.specs.Vec.Iter.{into_iter_items}
 use Rattle.cs_value.specs.Tree.{Tree}
 use Rattle.cs_docs.specs.Store.{docs, doc_at}
 use Rattle.cs_index.specs.Entries.{is_in, or_some, puts}
-use Rattle.cs_index.specs.Picking.{entering}
+use Rattle.cs_docs.specs.Gathered.{entering}
 use Rattle.cs_index.specs.declared.entry.Entry.{Entry}
 use Rattle.cs_index.proofs.build.list_all.Given as goal
 

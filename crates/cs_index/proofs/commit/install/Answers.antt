@@ -1,5 +1,5 @@
 use Rattle.std.proofs.Common.{◌≡◌, ◌∙◌, List, sym, ap, subst, true}
-use Rattle.cs_view.specs.Changes.{Edit, LeadFrom, After, are_changes}
+use Rattle.cs_view.specs.Changes.{Edit, LeadFrom, after_changes, are_changes}
 use Rattle.cs_docs.specs.Store.{docs}
 use Rattle.cs_index.specs.Index.{IsDelta}
 use Rattle.cs_index.proofs.Applied.{refitted}
@@ -16,7 +16,7 @@ returns-in-Ok-apply-clause-fits c =
     c.in-Ok-apply.ensures.follows was (record {
       changes = subst (λ (cs : List Edit). are_changes cs ≡ true) (sym c.changes-2.ensures) c.args.prepared.now.ordered;
       leads = subst (λ (cs : List Edit). LeadFrom (docs was) cs) (sym c.changes-2.ensures) c.requires.taken.leads;
-      after = c.in-Ok-install.ensures.installed ∙ ap (After (docs was)) (sym c.changes-2.ensures);
+      after = c.in-Ok-install.ensures.installed ∙ ap (after_changes (docs was)) (sym c.changes-2.ensures);
       steady = c.install.ensures.steady;
     })
     (subst (λ (cs : List Edit). IsDelta c.args.index.now was cs c.in-Ok.delta) (c.changes.ensures ∙ sym c.changes-2.ensures) c.in-Ok.ensures)

@@ -2,7 +2,7 @@ use Rattle.std.proofs.Common.{◌≡◌, ◌∙◌, ap, sym, Some, true, false, 
 use Rattle.std.proofs.lemmas.List.Elements.{All-push, All-same}
 use Rattle.cs_view.specs.Document.{id_of}
 use Rattle.cs_view.specs.Keys.{has_all}
-use Rattle.cs_view.specs.View.{doc}
+use Rattle.cs_view.specs.View.{document_of}
 use Rattle.cs_docs.specs.Store.{doc_at}
 use Rattle.cs_index.specs.Picking.{wanted, is_hit, is_found}
 use Rattle.cs_index.proofs.Picked.{one_found, none_found, met_at, unmet_at, found_at}
@@ -10,7 +10,7 @@ use Rattle.cs_index.proofs.pick.choose.Goals as goal
 
 pub returns-in_ok-push-clause-wanted : goal.returns-in_ok-push-clause-wanted
 returns-in_ok-push-clause-wanted c =
-    let d = c.args.docs.now in let k = c.args.keys.now in let t = doc c.in-Some.found.now in
+    let d = c.args.docs.now in let k = c.args.keys.now in let t = document_of c.in-Some.found.now in
     let stands : doc_at d c.args.place ≡ Some t = sym c.in-Some.ensures in
     let met : has_all k t ≡ true = sym c.has_all.ensures ∙ c.if-has_all.true in
     let one : wanted d k c.id.result.now ≡ Some c.args.place = ap (wanted d k) c.id.ensures ∙ met_at d k c.args.place t stands met in
@@ -19,7 +19,7 @@ returns-in_ok-push-clause-wanted c =
 
 pub returns-in_ok-push-clause-finds : goal.returns-in_ok-push-clause-finds
 returns-in_ok-push-clause-finds c y =
-    let d = c.args.docs.now in let k = c.args.keys.now in let t = doc c.in-Some.found.now in
+    let d = c.args.docs.now in let k = c.args.keys.now in let t = document_of c.in-Some.found.now in
     let stands : doc_at d c.args.place ≡ Some t = sym c.in-Some.ensures in
     let met : has_all k t ≡ true = sym c.has_all.ensures ∙ c.if-has_all.true in
     let one : wanted d k c.id.result.now ≡ Some c.args.place = ap (wanted d k) c.id.ensures ∙ met_at d k c.args.place t stands met in
@@ -28,7 +28,7 @@ returns-in_ok-push-clause-finds c y =
 
 pub returns-else-has_all-clause-finds : goal.returns-else-has_all-clause-finds
 returns-else-has_all-clause-finds c y =
-    let d = c.args.docs.now in let k = c.args.keys.now in let t = doc c.in-Some.found.now in
+    let d = c.args.docs.now in let k = c.args.keys.now in let t = document_of c.in-Some.found.now in
     let stands : doc_at d c.args.place ≡ Some t = sym c.in-Some.ensures in
     let unmet : has_all k t ≡ false = sym c.has_all.ensures ∙ c.if-has_all.false in
     none_found d k y (id_of t) (is_hit y c.args.hits.now.items) (unmet_at d k c.args.place t stands unmet)

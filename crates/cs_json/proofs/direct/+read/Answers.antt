@@ -12,7 +12,7 @@ use Rattle.cs_value.specs.View.{tree, fields, list_tree}
 use Rattle.cs_value.specs.declared.val.Val.{Null, Bool, Num, Text, the_lemmas}
 use Rattle.cs_value.specs.declared.val.Val as val
 use Rattle.cs_value.proofs.Views.{tree-List, tree-Obj}
-use Rattle.cs_json.specs.Direct.{made, made_items, named, put_all, Fits, AllFit, NamedFit}
+use Rattle.cs_json.specs.Direct.{made, made_items, named, put_all, Fits, AllFit}
 use Rattle.cs_json.proofs.Tokens.{before, ok_pushed, ok_holds, same_items, item_read, items_over, member_read, members_over, no_member_before, put_all-push, made-array, made-object, AllFit-push, NamedFit-push, list_fits, object_fits}
 use Rattle.cs_json.proofs.direct.+read.Goals as goal
 

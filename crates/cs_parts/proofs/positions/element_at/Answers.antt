@@ -1,5 +1,4 @@
-use Rattle.std.proofs.Common.{◌≡◌, ◌∙◌, length, map, sym, ap, to_z-of_z, Some}
-use Rattle.cs_value.specs.Words.{list_of}
+use Rattle.std.proofs.Common.{◌∙◌, length, map, sym, ap, to_z-of_z, Some}
 use Rattle.cs_value.specs.View.{tree}
 use Rattle.cs_meaning.specs.Positions.{counted, element, place_in}
 use Rattle.cs_parts.specs.Parts.{got}

@@ -2,7 +2,7 @@ use Rattle.std.proofs.Common.{◌≡◌, ◌∙◌, nat_eq, ap, cond, Some, List
 use Rattle.std.specs.BTreeMap.{get}
 use Rattle.cs_view.specs.Dataset.{id_cmp, same_id}
 use Rattle.cs_view.specs.Document.{id_of}
-use Rattle.cs_view.specs.View.{doc}
+use Rattle.cs_view.specs.View.{document_of}
 use Rattle.cs_shelf.specs.Places.{tree_at, trees_at}
 use Rattle.cs_shelf.proofs.Writing.{as_placed, sound_written, vacant_apart, own_id, on_err, low_written, low_same, stay_written, entered_written, entered_same, no_place_yet}
 use Rattle.cs_shelf.proofs.write.put_new.Goals as goal
@@ -19,7 +19,7 @@ returns-in_err-reserve-clause-kept c =
 
 pub returns-clause-sound : goal.returns-clause-sound
 returns-clause-sound c =
-    let d = doc c.args.doc in
+    let d = document_of c.args.doc in
     let p = c.in-Some.place in
     sound_written c.args.store.now c.fill.new.store c.args.order.now c.insert.new.self (id_of d) p (Some d)
     (λ q. c.fill.ensures q ∙ ap (λ s. cond (nat_eq q p) (Some d) (tree_at s q)) c.in_ok-reserve.ensures.rest_kept)
@@ -28,7 +28,7 @@ returns-clause-sound c =
 
 pub returns-clause-put : goal.returns-clause-put
 returns-clause-put c =
-    let d = doc c.args.doc in
+    let d = document_of c.args.doc in
     let p = c.in-Some.place in
     as_placed c.args.store.now c.fill.new.store c.args.order.now c.insert.new.self (id_of d) p (Some d)
     (λ q. c.fill.ensures q ∙ ap (λ s. cond (nat_eq q p) (Some d) (tree_at s q)) c.in_ok-reserve.ensures.rest_kept)
@@ -37,7 +37,7 @@ returns-clause-put c =
 
 pub returns-clause-low : goal.returns-clause-low
 returns-clause-low c =
-    let d = doc c.args.doc in
+    let d = document_of c.args.doc in
     let p = c.in-Some.place in
     low_written c.args.order.now c.insert.new.self (id_of d) p (Some d)
     (subst (λ (i : List ℕ). (x : List ℕ) → get id_cmp c.insert.new.self x ≡ cond (same_id i x) (Some p) (get id_cmp c.args.order.now x)) (c.in_ok-id.ensures ∙ c.id.ensures) c.in_ok-insert.ensures.updates.0)
@@ -48,14 +48,14 @@ returns-in_err-insert-clause-low c = low_same c.args.order.now c.insert.new.self
 
 pub returns-clause-stay : goal.returns-clause-stay
 returns-clause-stay c =
-    let d = doc c.args.doc in
+    let d = document_of c.args.doc in
     let p = c.in-Some.place in
     stay_written c.args.order.now c.insert.new.self (id_of d) p c.requires.fresh
     (subst (λ (i : List ℕ). (x : List ℕ) → get id_cmp c.insert.new.self x ≡ cond (same_id i x) (Some p) (get id_cmp c.args.order.now x)) (c.in_ok-id.ensures ∙ c.id.ensures) c.in_ok-insert.ensures.updates.0)
 
 pub returns-clause-entered : goal.returns-clause-entered
 returns-clause-entered c =
-    let d = doc c.args.doc in
+    let d = document_of c.args.doc in
     let p = c.in-Some.place in
     entered_written c.args.store.now c.fill.new.store c.args.order.now c.insert.new.self (id_of d) p (Some d)
     (λ q. c.fill.ensures q ∙ ap (λ s. cond (nat_eq q p) (Some d) (tree_at s q)) c.in_ok-reserve.ensures.rest_kept)

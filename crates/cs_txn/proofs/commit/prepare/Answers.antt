@@ -1,6 +1,6 @@
 use Rattle.std.proofs.Common.{◌≡◌, ◌∙◌, List, ap, subst, sym}
 use Rattle.cs_value.specs.Tree.{Tree}
-use Rattle.cs_view.specs.Changes.{After, LeadFrom}
+use Rattle.cs_view.specs.Changes.{after_changes, LeadFrom}
 use Rattle.cs_view.specs.View.{edits}
 use Rattle.cs_docs.specs.Faults.{IsFault}
 use Rattle.cs_docs.specs.Store.{docs, prepared}
@@ -34,10 +34,10 @@ returns-in-Ok-make-clause-accepted g c =
     (c.in_ok-fold.ensures.store ∙ c.of-working.ensures.store) c.in-Ok.ensures in
     let taken = subst (λ (d : Docs). AreTaken (docs d) (prepared c.in-Ok-make.prepared))
     c.docs.ensures c.in-Ok-make.ensures.1 in
-    judged_fits _ (working w) (After (docs store) (prepared c.in-Ok-make.prepared))
+    judged_fits _ (working w) (after_changes (docs store) (prepared c.in-Ok-make.prepared))
     (subst (λ (d : List Tree). folded t.id c.args.moment.now 0 t.actions d ≡ accepted (working w))
     c.of-working.ensures.working c.in_ok-fold.ensures.folded)
-    (ap (After (docs store)) c.in-Ok-make.ensures.0 ∙ facts.2) taken.holds
+    (ap (after_changes (docs store)) c.in-Ok-make.ensures.0 ∙ facts.2) taken.holds
 
 pub returns-in-Ok-make-clause-changes : goal.returns-in-Ok-make-clause-changes
 returns-in-Ok-make-clause-changes g c =
@@ -53,10 +53,10 @@ returns-clause-refused g c =
     let cs = edits c.in-Ok.changes.items in
     let facts = led store w cs (c.in_ok-fold.ensures.store ∙ c.of-working.ensures.store)
     c.in-Ok.ensures in
-    judged_refused c.refusal_of.result _ (working w) (After (docs store) cs)
+    judged_refused c.refusal_of.result _ (working w) (after_changes (docs store) cs)
     (subst (λ (d : List Tree). folded t.id c.args.moment.now 0 t.actions d ≡ accepted (working w))
     c.of-working.ensures.working c.in_ok-fold.ensures.folded)
     facts.2
-    (c.refusal_of.ensures (After (docs store) cs) (verdict (After (docs store) cs))
-    (subst (λ (d : Docs). IsFault c.in-Err-make.fault (verdict (After (docs d) cs)))
+    (c.refusal_of.ensures (after_changes (docs store) cs) (verdict (after_changes (docs store) cs))
+    (subst (λ (d : Docs). IsFault c.in-Err-make.fault (verdict (after_changes (docs d) cs)))
     c.docs.ensures c.in-Err-make.ensures))

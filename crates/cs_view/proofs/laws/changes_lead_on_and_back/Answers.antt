@@ -1,5 +1,5 @@
-use Rattle.cs_view.proofs.Changed.{own_ids, Before-now, After-leads, Before-After}
+use Rattle.cs_view.proofs.Changed.{own_ids, before_changes-now, after_changes-leads, before_changes-after_changes}
 use Rattle.cs_view.proofs.laws.changes_lead_on_and_back.Goals as goal
 
 pub returns : goal.returns
-returns c = λ docs cs h changes leads. (Before-now docs cs h (own_ids cs changes) leads, After-leads docs cs changes, Before-After docs cs h (own_ids cs changes) leads)
+returns c = λ docs cs h changes leads. (before_changes-now docs cs h (own_ids cs changes) leads, after_changes-leads docs cs changes, before_changes-after_changes docs cs h (own_ids cs changes) leads)

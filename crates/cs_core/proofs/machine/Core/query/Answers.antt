@@ -2,7 +2,7 @@ use Rattle.std.proofs.Common.{refl}
 use Rattle.cs_meaning.specs.Values.{query_value}
 use Rattle.cs_reply.specs.Reply.{found}
 use Rattle.cs_syntax.specs.Expression.{Expression}
-use Rattle.cs_syntax.specs.Queries.{query as expression_of}
+use Rattle.cs_syntax.specs.Queries.{expression_of}
 use Rattle.cs_value.specs.View.{fields}
 use Rattle.cs_core.specs.Core.{state}
 use Rattle.cs_machine.specs.State.{answered}

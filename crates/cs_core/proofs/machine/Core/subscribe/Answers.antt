@@ -1,7 +1,7 @@
 use Rattle.std.proofs.Common.{length, ◌∙◌, rules}
 use Rattle.std.proofs.lemmas.Result.{IfOk-weaker}
 use Rattle.cs_value.specs.View.{fields}
-use Rattle.cs_syntax.specs.Queries.{query as expression_of}
+use Rattle.cs_syntax.specs.Queries.{expression_of}
 use Rattle.cs_live.specs.Lives.{made}
 use Rattle.cs_machine.specs.Rows.{lively}
 use Rattle.cs_core.specs.Core.{state}

@@ -3,9 +3,9 @@ use Rattle.std.proofs.lemmas.Grind.{common_steps}
 use Rattle.std.specs.Option.{option_to_list}
 use Rattle.std.specs.Vec.Iter.{into_iter_items}
 use Rattle.cs_value.specs.Tree.{Tree}
-use Rattle.cs_view.specs.Changes.{Edit, After}
+use Rattle.cs_view.specs.Changes.{Edit, after_changes}
 use Rattle.cs_view.specs.Dataset.{ascending}
-use Rattle.cs_view.specs.View.{doc, edits}
+use Rattle.cs_view.specs.View.{document_of, edits}
 use Rattle.cs_view.specs.declared.change.Change.{Change}
 use Rattle.cs_view.proofs.Booleans.{and-left}
 use Rattle.cs_view.proofs.Changed.{own_ids}
@@ -29,7 +29,7 @@ loop-change-init c =
 
 pub add-requires : goal.add-requires
 add-requires c =
-    let o : Option Tree = option_map doc c.in-Some.change.after in
+    let o : Option Tree = option_map document_of c.in-Some.change.after in
     let left : List Tree = picked put (edits (into_iter_items c.next.new.self)) in
     let split : picked put (edits (into_iter_items c.loop-change.change-iterator)) ≡ option_to_list o ++ left = ap (λ (xs : List Change). picked put (edits xs)) c.in-Some.ensures.steps.0 in
     free_here (documents c.loop-change.shelf) o left (subst (AreFree (documents c.loop-change.shelf)) split c.loop-change.invariant.free)
@@ -37,7 +37,7 @@ add-requires c =
 pub loop-change-preserved : goal.loop-change-preserved
 loop-change-preserved c =
     let cur : List Tree = documents c.loop-change.shelf in
-    let o : Option Tree = option_map doc c.in-Some.change.after in
+    let o : Option Tree = option_map document_of c.in-Some.change.after in
     let left : List Tree = picked put (edits (into_iter_items c.next.new.self)) in
     let split : picked put (edits (into_iter_items c.loop-change.change-iterator)) ≡ option_to_list o ++ left = ap (λ (xs : List Change). picked put (edits xs)) c.in-Some.ensures.steps.0 in
     let i = c.loop-change.invariant in
@@ -53,11 +53,11 @@ pub invariant_of-result : goal.invariant_of-result
 invariant_of-result c =
     let cs : List Edit = prepared c.args.prepared in
     let none : into_iter_items c.loop-change.change-iterator ≡ [] = grind (arith, common_steps, c.in-None.ensures.steps.0) in
-    let is : documents c.loop-change.shelf ≡ After [] cs =
+    let is : documents c.loop-change.shelf ≡ after_changes [] cs =
     sym (ap (λ (xs : List Change). with_all (picked put (edits xs)) (documents c.loop-change.shelf)) none) ∙ c.loop-change.invariant.to_come ∙ one_step cs c.args.prepared.ordered in
     record {
-      clean = ap clean is ∙ fits-clean (After [] cs) c.requires.holds;
-      within = subst (λ (ds : List Tree). length ds ≤ most_documents) (sym is) (fits-within (After [] cs) c.requires.holds);
+      clean = ap clean is ∙ fits-clean (after_changes [] cs) c.requires.holds;
+      within = subst (λ (ds : List Tree). length ds ≤ most_documents) (sym is) (fits-within (after_changes [] cs) c.requires.holds);
     }
 
 pub returns : goal.returns

@@ -1,7 +1,7 @@
 use Rattle.std.proofs.Common.{◌≡◌, ◌∙◌, ap, sym, map, Option, Some}
 use Rattle.std.specs.Prelude.{filter}
 use Rattle.cs_view.specs.Dataset.{ascending}
-use Rattle.cs_view.specs.View.{doc}
+use Rattle.cs_view.specs.View.{document_of}
 use Rattle.cs_window.specs.Window.{is_near}
 use Rattle.cs_hits.specs.Hits.{docs_of, settling_of}
 use Rattle.cs_hits.specs.Near.{bound_of, near_docs}
@@ -20,5 +20,5 @@ returns-in-Some-clause-near c = λ e ps h.
     let n = c.in-Some.near in let m = c.remove.new.self in
     let near : near_docs n ≡ filter (is_near e ps (bound_of n)) old
     = some_is c.args.self.now.near n (λ (x : Near). near_docs x ≡ filter (is_near e ps (bound_of x)) old) (cc c.in-Some.is) h in
-    near_left e ps (bound_of n) (near_docs n) (near_docs m) old (map doc c.remove-gone.new.all.items) c.args.id.now c.requires.ascending near c.remove-gone.ensures.left c.remove.ensures.left
-    ∙ ap (λ b. filter (is_near e ps (map_bound b)) (map doc c.remove-gone.new.all.items)) (sym c.remove.ensures.bound)
+    near_left e ps (bound_of n) (near_docs n) (near_docs m) old (map document_of c.remove-gone.new.all.items) c.args.id.now c.requires.ascending near c.remove-gone.ensures.left c.remove.ensures.left
+    ∙ ap (λ b. filter (is_near e ps (map_bound b)) (map document_of c.remove-gone.new.all.items)) (sym c.remove.ensures.bound)

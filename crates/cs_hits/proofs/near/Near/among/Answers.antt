@@ -2,15 +2,15 @@ use Rattle.std.proofs.Common.{◌≡◌, ◌∙◌, ◌+◌, ◌/◌, ℕ, List,
 use Rattle.std.specs.Prelude.{filter}
 use Rattle.cs_value.specs.View.{tree, fields}
 use Rattle.cs_value.specs.declared.val.Val.{Val}
-use Rattle.cs_syntax.specs.Queries.{query}
-use Rattle.cs_view.specs.View.{doc}
+use Rattle.cs_syntax.specs.Queries.{expression_of}
+use Rattle.cs_view.specs.View.{document_of}
 use Rattle.cs_window.specs.Window.{is_near, keys_at}
 use Rattle.cs_hits.proofs.Nearing.{bounds_at, map_bound}
 use Rattle.cs_hits.proofs.near.Near.among.Goals as goal
 
 pub returns : goal.returns
 returns c =
-    let e = query c.args.query.now in let ps = fields c.args.params.now in let ds = map doc c.args.docs.now in
+    let e = expression_of c.args.query.now in let ps = fields c.args.params.now in let ds = map document_of c.args.docs.now in
     let many = c.in-Some.many in
     let place : ℕ = many + many / 2 + 4 in
     let some : c.in_ok-bound.field-0 ≡ Some c.in-Some-2.bound = cc c.in-Some-2.is in

@@ -1,7 +1,7 @@
 use Rattle.std.proofs.Common.{◌≡◌, ◌∙◌, ◌∷◌, ap, map, refl, List}
 use Rattle.cs_value.specs.View.{tree, fields}
 use Rattle.cs_value.specs.Words.{list_of}
-use Rattle.cs_syntax.specs.Queries.{query}
+use Rattle.cs_syntax.specs.Queries.{expression_of}
 use Rattle.cs_interest.specs.Interest.{interest_code}
 use Rattle.cs_hits.specs.Shares.{share_values, shares_looked}
 use Rattle.cs_hits.specs.declared.share.Share.{Share}
@@ -16,7 +16,7 @@ returns-clause-coded g c =
 
 pub returns-clause-answers : goal.returns-clause-answers
 returns-clause-answers g c =
-    let docs = g.V.View.docs c.args.view.now in let e = query c.args.query in let params = fields c.args.params in
+    let docs = g.V.View.docs c.args.view.now in let e = expression_of c.args.query in let params = fields c.args.params in
     let shares = c.in_ok-shares.shares in
     let last : tree c.in_ok-last.last ≡ list_of (share_values shares.items)
     = c.in_ok-last.ensures ∙ ap (λ (ss : List Share). list_of (share_values ss)) c.deref.ensures.value in

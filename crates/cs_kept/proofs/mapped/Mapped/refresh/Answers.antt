@@ -2,7 +2,7 @@ use Rattle.std.proofs.Common.{◌≡◌, ◌∙◌, ap, ℕ, List, Vec, Global, 
 use Rattle.cs_value.specs.Same.{same_tree}
 use Rattle.cs_value.specs.View.{tree, fields}
 use Rattle.cs_value.specs.Words.{list_of}
-use Rattle.cs_syntax.specs.Queries.{query}
+use Rattle.cs_syntax.specs.Queries.{expression_of}
 use Rattle.cs_view.specs.Dataset.{ascending}
 use Rattle.cs_view.specs.Touched.{touched}
 use Rattle.cs_view.specs.View.{edits}
@@ -39,7 +39,7 @@ follow-requires-clause-ascending g c =
     let docs = g.V.View.docs c.args.view.now in let cs = edits c.args.changes.now in
     let sorted : ascending docs ≡ true = and-left (ascending docs) _ (g.met.V.View.dataset c.args.view.now) in
     let old = c.args.self.now in
-    hits-ascend docs cs sorted (query old.query) (fields old.params) (share_docs old.shares.items) c.requires.fits.hits
+    hits-ascend docs cs sorted (expression_of old.query) (fields old.params) (share_docs old.shares.items) c.requires.fits.hits
 
 pub returns-then-not-branch-clause-stale : goal.returns-then-not-branch-clause-stale
 returns-then-not-branch-clause-stale g c = not_another (tree c.args.self.now.last) (tree c.follow.new.self.last) (ap tree (sym c.follow.ensures.kept.last))
@@ -52,7 +52,7 @@ returns-then-not-branch-clause-refreshed g c =
     let hot : touched (mapped_keys old) cs ≡ true = cc (c.touched.ensures, c.if-not-touched.false) in
     let same : new.shares.items ≡ old.shares.items = c.in_ok-follow.ensures.same c.if-not-branch.true in
     mapped-refreshed c.mapped_is_shares_of_hits.ensures c.changes_lead_back_and_on.ensures c.filter_follows_changes.ensures docs cs sorted c.requires.changes c.requires.led old new c.requires.fits
-    (ap query kept.query) (ap fields kept.params) kept.own c.in_ok-follow.ensures.follow
+    (ap expression_of kept.query) (ap fields kept.params) kept.own c.in_ok-follow.ensures.follow
     (ap tree kept.last ∙ c.requires.fits.last ∙ ap (λ (ss : List Share). list_of (share_values ss)) (sym same))
     (λ quiet. absurd (true≢false (sym hot ∙ quiet)))
 
@@ -65,8 +65,8 @@ returns-clause-refreshed g c =
     let hot : touched (mapped_keys old) cs ≡ true = cc (c.touched.ensures, c.if-not-touched.false) in
     let shares : new.shares ≡ c.follow.new.self.shares = r.shares ∙ s.shares in
     mapped-refreshed c.mapped_is_shares_of_hits.ensures c.changes_lead_back_and_on.ensures c.filter_follows_changes.ensures docs cs sorted c.requires.changes c.requires.led old new c.requires.fits
-    (ap query (r.query ∙ s.query ∙ f.query)) (ap fields (r.params ∙ s.params ∙ f.params)) (r.own ∙ s.own ∙ f.own)
-    (subst (λ (v : Vec Share Global). SharesFollow docs cs (query old.query) (fields old.params) old.shares.items v.items) (sym shares) c.in_ok-follow.ensures.follow)
+    (ap expression_of (r.query ∙ s.query ∙ f.query)) (ap fields (r.params ∙ s.params ∙ f.params)) (r.own ∙ s.own ∙ f.own)
+    (subst (λ (v : Vec Share Global). SharesFollow docs cs (expression_of old.query) (fields old.params) old.shares.items v.items) (sym shares) c.in_ok-follow.ensures.follow)
     (ap tree r.last ∙ c.in_ok-stale.ensures.settled ∙ ap (λ (v : Vec Share Global). list_of (share_values v.items)) (sym r.shares))
     (λ quiet. absurd (true≢false (sym hot ∙ quiet)))
 

@@ -1,6 +1,6 @@
 use Rattle.std.proofs.Common.{◌≡◌, ◌∙◌, ap, ℕ, List, false, true, sym, subst}
 use Rattle.cs_value.specs.View.{tree, fields}
-use Rattle.cs_syntax.specs.Queries.{query}
+use Rattle.cs_syntax.specs.Queries.{expression_of}
 use Rattle.cs_view.specs.Dataset.{ascending}
 use Rattle.cs_view.specs.Touched.{touched}
 use Rattle.cs_view.specs.View.{edits}
@@ -8,7 +8,7 @@ use Rattle.cs_view.proofs.Booleans.{and-left}
 use Rattle.cs_codes.specs.Codes.{Seed}
 use Rattle.cs_interest.specs.Interest.{Entered, Left}
 use Rattle.cs_kept.specs.Found.{IsCoded}
-use Rattle.cs_kept.specs.Keys.{keys_of, rest_of}
+use Rattle.cs_kept.specs.Keys.{all_keys, rest_of}
 use Rattle.cs_kept.specs.declared.keys.Keys.{Keys}
 use Rattle.cs_kept.specs.declared.kept.Kept.TheVariants.{ByRecord}
 use Rattle.cs_kept.specs.declared.recorded.Recorded.{Recorded}
@@ -21,7 +21,7 @@ pub returns-then-not-touched-clause-refreshed : goal.returns-then-not-touched-cl
 returns-then-not-touched-clause-refreshed g c =
     let docs = g.V.View.docs c.args.view.now in let cs = edits c.args.changes.now in
     let sorted : ascending docs ≡ true = and-left (ascending docs) _ (g.met.V.View.dataset c.args.view.now) in
-    let quiet : touched (keys_of c.args.self.now.keys) cs ≡ false = cc (c.touched.ensures, c.if-not-touched.true) in
+    let quiet : touched (all_keys c.args.self.now.keys) cs ≡ false = cc (c.touched.ensures, c.if-not-touched.true) in
     untouched-refreshed docs cs sorted c.requires.changes c.requires.led c.untouched_selects_the_same.ensures c.changes_lead_back_and_on.ensures c.hits_have_key.ensures c.windowed_is_tail_of_hits.ensures c.looked_settles_tail.ensures c.looked_settles_value.ensures c.args.self.now quiet c.requires.fits
 
 pub returns-then-not-touched-clause-stale : goal.returns-then-not-touched-clause-stale
@@ -86,6 +86,6 @@ returns-clause-refreshed g c =
     let old = c.args.self.now in let mid = c.follow.new.self in let end = c.evaluate.new.self in let found = c.in_ok-found.found in
     let new : Recorded = record { query = end.query; params = end.params; last = found.answer; keys = found.keys; behind = end.behind } in
     let m = c.follow.ensures.asks in
-    let hot : touched (keys_of old.keys) cs ≡ true = cc (c.touched.ensures, c.if-not-touched.false) in
-    found-anew docs cs old mid new found c.seed.result.now (ap query (c.evaluate.ensures.asks.query ∙ m.query)) (ap fields (c.evaluate.ensures.asks.params ∙ m.params)) (ap query m.query) (ap fields m.params)
+    let hot : touched (all_keys old.keys) cs ≡ true = cc (c.touched.ensures, c.if-not-touched.false) in
+    found-anew docs cs old mid new found c.seed.result.now (ap expression_of (c.evaluate.ensures.asks.query ∙ m.query)) (ap fields (c.evaluate.ensures.asks.params ∙ m.params)) (ap expression_of m.query) (ap fields m.params)
     (λ i. found.answer) (λ i. found.keys) c.requires.fits.compound c.in_ok-found.ensures.evaluated c.in_ok-found.ensures.fits hot

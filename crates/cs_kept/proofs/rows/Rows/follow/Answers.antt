@@ -1,6 +1,6 @@
 use Rattle.std.proofs.Common.{◌∙◌, sym, refl}
 use Rattle.cs_value.specs.View.{tree, fields}
-use Rattle.cs_syntax.specs.Queries.{query}
+use Rattle.cs_syntax.specs.Queries.{expression_of}
 use Rattle.cs_meaning.specs.Hits.{tail}
 use Rattle.cs_hits.specs.Hits.{docs_of}
 use Rattle.cs_hits.proofs.Nearing.{stays_by, stays_enough}
@@ -9,7 +9,7 @@ use Rattle.cs_kept.proofs.rows.Rows.follow.Goals as goal
 
 pub returns-then-not-branch-clause-settled : goal.returns-then-not-branch-clause-settled
 returns-then-not-branch-clause-settled c =
-    let e = query c.args.self.now.query in let ps = fields c.args.self.now.params in
+    let e = expression_of c.args.self.now.query in let ps = fields c.args.self.now.params in
     let old = c.args.self.now.hits in let new = c.follow.new.self in
     let f = c.in_ok-follow.ensures in
     let s = c.requires.settled in

@@ -1,5 +1,5 @@
 use Rattle.std.proofs.Common.{◌≡◌, ◌∙◌, ℕ, List, refl, ap, sym, subst, true, map, arith}
-use Rattle.cs_view.specs.Changes.{Before}
+use Rattle.cs_view.specs.Changes.{before_changes}
 use Rattle.cs_view.specs.Dataset.{ascending}
 use Rattle.cs_view.specs.View.{edits}
 use Rattle.cs_view.proofs.Booleans.{and-left}
@@ -32,7 +32,7 @@ bring-requires-clause-fits g c =
     let unasked : StillUnasked docs cs old ns = c.unasked_stays.ensures docs cs live ns sorted c.requires.changes c.requires.led c.requires.fits asked in
     let rise = c.requires.fits.found.ascend in
     let l = c.loop-number in
-    loop-next docs cs old ns asked.ascend rise unasked (FitsOne (Before docs cs)) l.self.entries.items (map said l.lines.items)
+    loop-next docs cs old ns asked.ascend rise unasked (FitsOne (before_changes docs cs)) l.self.entries.items (map said l.lines.items)
     l.number-index _ 0 (omega arith) refl l.invariant.loop c.requires.fits.answers
 
 pub bring-requires-clause-found : goal.bring-requires-clause-found

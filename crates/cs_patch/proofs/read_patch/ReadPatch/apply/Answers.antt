@@ -1,5 +1,5 @@
 use Rattle.cs_value.specs.View.{tree}
-use Rattle.cs_view.specs.View.{doc}
+use Rattle.cs_view.specs.View.{document_of}
 use Rattle.cs_patch.specs.Read.{read_patch}
 use Rattle.cs_patch.proofs.Applied.{done}
 use Rattle.cs_patch.proofs.read_patch.ReadPatch.apply.Goals as goal
@@ -7,7 +7,7 @@ use Rattle.cs_patch.proofs.read_patch.ReadPatch.apply.Goals as goal
 pub of-requires : goal.of-requires
 of-requires c =
     let p = read_patch c.args.self.now in
-    let d = doc c.args.doc.now in
+    let d = document_of c.args.doc.now in
     let tx = c.args.tx.now in
     let moment = c.args.moment.now in
     let e = tree c.in_ok-stamped.stamped in

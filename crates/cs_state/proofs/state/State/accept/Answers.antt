@@ -1,6 +1,6 @@
 use Rattle.std.proofs.Common.{◌≡◌, ◌∙◌, sym, ap, subst, List, ◌++◌, length}
 use Rattle.cs_value.specs.Tree.{Tree}
-use Rattle.cs_view.specs.Changes.{Edit, After, Before, LeadTo}
+use Rattle.cs_view.specs.Changes.{Edit, after_changes, before_changes, LeadTo}
 use Rattle.cs_view.specs.View.{edits}
 use Rattle.cs_view.proofs.Booleans.{and-left}
 use Rattle.cs_docs.specs.Kept.{is_dataset_of}
@@ -27,9 +27,9 @@ tell_live-requires-clause-led g c =
     c.requires.taken.leads in
     let told : edits c.changes.result.now ≡ cs = c.changes.ensures in
     let now = ap docs c.note.ensures.docs ∙ c.in_ok-install.ensures.docs
-    ∙ ap (λ (s : State). After s.docs cs) c.in_ok-id.ensures.same in
+    ∙ ap (λ (s : State). after_changes s.docs cs) c.in_ok-id.ensures.same in
     subst (λ (ds : List Tree). LeadTo ds (edits c.changes.result.now)) (sym now)
-    (subst (λ (es : List Edit). LeadTo (After before cs) es) (sym told) law.1)
+    (subst (λ (es : List Edit). LeadTo (after_changes before cs) es) (sym told) law.1)
 
 pub tell_live-requires-clause-fits : goal.tell_live-requires-clause-fits
 tell_live-requires-clause-fits g c =
@@ -42,14 +42,14 @@ tell_live-requires-clause-fits g c =
     let es = edits c.changes.result.now in
     let told : es ≡ cs = c.changes.ensures in
     let now = ap docs c.note.ensures.docs ∙ c.in_ok-install.ensures.docs
-    ∙ ap (λ (s : State). After s.docs cs) c.in_ok-id.ensures.same in
-    let back : Before (docs c.note.new.self.docs) es ≡ docs roomy.docs =
-    ap (λ (ds : List Tree). Before ds es) now
-    ∙ ap (λ (xs : List Edit). Before (After before cs) xs) told
+    ∙ ap (λ (s : State). after_changes s.docs cs) c.in_ok-id.ensures.same in
+    let back : before_changes (docs c.note.new.self.docs) es ≡ docs roomy.docs =
+    ap (λ (ds : List Tree). before_changes ds es) now
+    ∙ ap (λ (xs : List Edit). before_changes (after_changes before cs) xs) told
     ∙ law.2
     ∙ sym (ap (λ (s : State). s.docs) c.in_ok-id.ensures.same) in
     let fitting = c.in_ok-id.ensures.usable c.requires.usable in
-    subst (λ (l : Live). Fits l (Before (docs c.note.new.self.docs) es))
+    subst (λ (l : Live). Fits l (before_changes (docs c.note.new.self.docs) es))
     (sym (c.note.ensures.live ∙ c.in_ok-install.ensures.others.live))
     (subst (λ (ds : List Tree). Fits roomy.live ds) (sym back) fitting.fitting.lives)
 
@@ -64,7 +64,7 @@ returns-in-Ok-clause-does g c =
     let tx = c.args.tx.now in
     let n = c.args.line in
     let cs = prepared c.args.prepared.now in
-    let after = After s.docs cs in
+    let after = after_changes s.docs cs in
     let tally = c.in-Ok.tally in
     let told = c.write_events.new.out.items in
     let heard = events tx s.moment cs s.listeners in
@@ -76,7 +76,7 @@ returns-in-Ok-clause-does g c =
     ∙ ap (λ (x : State). with_used tx x)
     (but_store c.room_for.new.self stored c.in_ok-install.ensures.others)
     ∙ ap (λ (ds : List Tree). with_used tx (with_docs ds roomy)) c.in_ok-install.ensures.docs
-    ∙ ap (λ (x : State). with_used tx (with_docs (After x.docs cs) x)) c.in_ok-id.ensures.same in
+    ∙ ap (λ (x : State). with_used tx (with_docs (after_changes x.docs cs) x)) c.in_ok-id.ensures.same in
     says_installed c.args.out.now.items c.write_committed.new.out.items told
     c.tell_live.new.out.items tally c.tell_live.new.self s n tx after cs
     (c.in-Ok.ensures.state
@@ -108,5 +108,5 @@ returns-in_err-install-clause-leaves g c =
     let cs = prepared c.args.prepared.now in
     kept_on _
     (leaves_from c.args.self.now c.room_for.new.self c.install.new.self
-    (λ (s : State). installed s tx (After s.docs cs) cs) c.in_ok-id.ensures.same
+    (λ (s : State). installed s tx (after_changes s.docs cs) cs) c.in_ok-id.ensures.same
     c.in_err-install.ensures.leaves)

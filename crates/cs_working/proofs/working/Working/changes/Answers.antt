@@ -3,8 +3,8 @@ use Rattle.std.proofs.lemmas.List.{append-nil}
 use Rattle.std.specs.Option.{option_to_list}
 use Rattle.cs_value.specs.Tree.{Tree}
 use Rattle.cs_view.specs.Changes.{Edit}
-use Rattle.cs_view.specs.Dataset.{At}
-use Rattle.cs_view.specs.View.{doc, edit, edits}
+use Rattle.cs_view.specs.Dataset.{standing}
+use Rattle.cs_view.specs.View.{document_of, edit, edits}
 use Rattle.cs_shelf.specs.View.{documents}
 use Rattle.cs_working.specs.Changed.{IsOneChange}
 use Rattle.cs_working.specs.Working.{base}
@@ -18,8 +18,8 @@ loop-id-preserved c = λ more kept.
     let put : List Tree = documents self.put in
     let x : List ℕ = c.in-Some.id.now in
     let o : Option Edit = option_map edit c.in_ok-found.found in
-    let one : IsOneChange x (At x ds) (At x put) o =
-    subst (λ (a : Option Tree). IsOneChange x (At x ds) a o) c.get.ensures (subst (λ (b : Option Tree). IsOneChange x b (option_map (λ d. doc d.now) c.get.result) o) c.stored.ensures c.in_ok-found.ensures) in
+    let one : IsOneChange x (standing x ds) (standing x put) o =
+    subst (λ (a : Option Tree). IsOneChange x (standing x ds) a o) c.get.ensures (subst (λ (b : Option Tree). IsOneChange x b (option_map (λ d. document_of d.now) c.get.result) o) c.stored.ensures c.in_ok-found.ensures) in
     subst (Kept ds put self.touched.keys) (sym (append_assoc (edits c.loop-id.changes.items) (option_to_list o) more) ∙ ap (λ (es : List Edit). es ++ more) (sym c.in_ok-keep.ensures))
     (c.loop-id.invariant (option_to_list o ++ more) (subst (λ (ids : List (List ℕ)). Kept ds put ids (option_to_list o ++ more)) (sym c.in-Some.ensures.steps) (o, more, one, refl, kept)))
 

@@ -1,18 +1,18 @@
 use Rattle.std.proofs.Common.{◌∙◌, cond, sym, ap}
-use Rattle.cs_view.specs.Dataset.{At}
+use Rattle.cs_view.specs.Dataset.{standing}
 use Rattle.cs_shelf.specs.View.{documents}
 use Rattle.cs_working.specs.Working.{base}
-use Rattle.cs_working.proofs.Workings.{At-working}
+use Rattle.cs_working.proofs.Workings.{standing-working}
 use Rattle.cs_working.proofs.working.Working.get.Goals as goal
 
 pub returns-then-contains : goal.returns-then-contains
 returns-then-contains c =
     let self = c.args.self.now in
     let id = c.args.id.now in
-    c.get.ensures ∙ sym (At-working self id ∙ ap (λ b. cond b (At id (documents self.put)) (At id (base self))) (sym c.contains.ensures ∙ c.if-contains.true))
+    c.get.ensures ∙ sym (standing-working self id ∙ ap (λ b. cond b (standing id (documents self.put)) (standing id (base self))) (sym c.contains.ensures ∙ c.if-contains.true))
 
 pub returns-else-contains : goal.returns-else-contains
 returns-else-contains c =
     let self = c.args.self.now in
     let id = c.args.id.now in
-    c.stored.ensures ∙ sym (At-working self id ∙ ap (λ b. cond b (At id (documents self.put)) (At id (base self))) (sym c.contains.ensures ∙ c.if-contains.false))
+    c.stored.ensures ∙ sym (standing-working self id ∙ ap (λ b. cond b (standing id (documents self.put)) (standing id (base self))) (sym c.contains.ensures ∙ c.if-contains.false))

@@ -1,6 +1,6 @@
 use Rattle.std.proofs.Common.{◌∙◌, ap, sym, subst, map, length, is_some}
 use Rattle.cs_view.specs.Dataset.{stands}
-use Rattle.cs_view.specs.View.{doc}
+use Rattle.cs_view.specs.View.{document_of}
 use Rattle.cs_load.specs.Gathered.{held, IsKept, HasWay}
 use Rattle.cs_load.proofs.Placing.{gap_absent}
 use Rattle.cs_load.proofs.Gathering.{found_id}
@@ -10,7 +10,7 @@ pub returns-in-InOrder : goal.returns-in-InOrder
 returns-in-InOrder c =
     let ds = c.in-InOrder.field-0.items in
     let way = subst (HasWay c.args.id.now) c.in-InOrder.is c.requires.way in
-    sym (ap (λ s. stands c.args.id.now (held s)) c.in-InOrder.is ∙ ap is_some (gap_absent c.args.id.now (map doc ds) (length ds) way))
+    sym (ap (λ s. stands c.args.id.now (held s)) c.in-InOrder.is ∙ ap is_some (gap_absent c.args.id.now (map document_of ds) (length ds) way))
 
 pub returns-in-ById : goal.returns-in-ById
 returns-in-ById c =
