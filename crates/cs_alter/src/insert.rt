@@ -64,7 +64,8 @@ fn marked(alloc: Global, count: usize, positions: &[usize]) -> Result<Vec<bool>,
     Ok(marks)
 }
 
-fn copy_all(alloc: Global, items: &[Val]) -> Result<Vec<Val>, NoMemory>
+/// Copies of the values, in their order. `NoMemory` where the allocator has no room for them.
+pub fn copy_all(alloc: Global, items: &[Val]) -> Result<Vec<Val>, NoMemory>
     ensures { IfOk result (λ copies. list_tree copies.items ≡ list_tree items.now) }
 {
     let mut copies = Vec::new(alloc);

@@ -9,5 +9,6 @@ mod perform;
 mod write;
 
 pub use alteration::{Alteration, Change, Gift, Insertion, Side};
+pub use insert::copy_all;
 pub use lookup::look;
 pub use write::{alter, remove};

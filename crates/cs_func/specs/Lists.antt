@@ -1,17 +1,9 @@
 -- The functions of lists: GROQ-1.revision1, "count()", and its "Array" namespace.
-use Rattle.std.specs.Prelude.{List, [], ◌∷◌, ◌++◌, length, pos, Bool, true, false, not, if◌then◌else◌, filter}
+use Rattle.std.specs.Prelude.{List, [], ◌∷◌, ◌++◌, length, pos, not, if◌then◌else◌, filter}
 use Rattle.std.specs.List.{list_any}
-use Rattle.cs_value.specs.Words.{of_list}
-use Rattle.cs_value.specs.Tree.{Tree, null, boolean, integer, text, list, object, trees}
+use Rattle.cs_value.specs.Words.{of_list, is_null}
+use Rattle.cs_value.specs.Tree.{Tree, boolean, integer, list, trees}
 use Rattle.cs_ops.specs.Equal.{equal}
-
-abbrev pub is_null : Tree → Bool
-is_null null = true
-is_null (boolean b) = false
-is_null (integer n) = false
-is_null (text s) = false
-is_null (list ts) = false
-is_null (object ps) = false
 
 abbrev pub count : Tree → Tree
 count x = of_list (λ ts. integer (pos (length ts))) x

@@ -1,4 +1,4 @@
--- The value that an operand of the code is.
+-- The value that an operand of the code is: GROQ-1.revision1, "Data model".
 use Rattle.cs_value.specs.Tree.{Tree, null, boolean, integer, text, list, object, trees}
 use Rattle.cs_value.specs.View.{list_tree, fields}
 use Rattle.cs_operand.specs.declared.operand.Operand.{Operand}

@@ -20,7 +20,7 @@ use crate::outer::outermost;
 use crate::refusal::{Ask, Cause, first_cause};
 use crate::stop::{Stop, told};
 use crate::targets::targets;
-use cs_alter::{Alteration, Insertion};
+use cs_alter::{Alteration, Insertion, copy_all};
 use cs_jsonmatch::{Item, Items, JsonPath, Place, Step};
 use cs_value::{NoMemory, Val};
 use cs_view::DEEPEST_DOCUMENT;
@@ -65,16 +65,6 @@ fn is_misplaced(step: &Step) -> bool
     step.deep || names_some(&step.items)
 }
 
-fn copy_items(alloc: Global, items: &Vec<Val>) -> Result<Vec<Val>, NoMemory>
-    ensures { IfOk result (λ copies. list_tree copies.items ≡ list_tree items.now.items) }
-{
-    let mut copies = Vec::new(alloc);
-    for item in items {
-        copies.push(item.copy(alloc)?)?;
-    }
-    Ok(copies)
-}
-
 fn only_step(alloc: Global, step: Step) -> Result<JsonPath, NoMemory>
     ensures { IfOk result (λ p. path_of p ≡ step_of step ∷ []) }
 {
@@ -88,7 +78,7 @@ fn insertion(alloc: Global, entry: &InsertAt<'_>, step: Step) -> Result<Alterati
         (step_of step) (list_tree entry.now.items.now.items) t) }
 {
     let last = only_step(alloc, step)?;
-    let items = copy_items(alloc, entry.items)?;
+    let items = copy_all(alloc, entry.items)?;
     Ok(Alteration::Insert(Insertion {
         side: entry.side,
         last,

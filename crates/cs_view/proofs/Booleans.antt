@@ -1,7 +1,6 @@
 -- Facts of booleans, and of tests of the elements of a list.
 use Rattle.std.proofs.Common.{◌≡◌, ℕ, zero, suc, ◌<◌, length, slice_index_or, List, [], ◌∷◌, Bool, true, false, ◌&&◌, ◌||◌, T, refl, sym, ap, subst, ◌∙◌, arith}
 use Rattle.std.specs.List.{list_any, Contains}
-use Rattle.std.proofs.lemmas.Bool.{and_from}
 
 pub and-left : (a b : Bool) → (a && b) ≡ true → a ≡ true
 and-left true b h = refl
