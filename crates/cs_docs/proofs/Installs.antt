@@ -1,11 +1,12 @@
 -- The three steps in which changes are put into a store, and how the first is undone.
 use Rattle.std.specs.Prelude.{Result, Ok, Err, OnOk, OnErr}
-use Rattle.std.proofs.Common.{◌≡◌, ℕ, ◌≤◌, List, [], ◌∷◌, ◌++◌, length, Bool, true, false, not, cond, is_some, Option, Some, None, option_and_then, refl, sym, ap, subst, ◌∙◌}
+use Rattle.std.proofs.Common.{◌≡◌, ℕ, ◌≤◌, List, [], ◌∷◌, ◌++◌, length, Bool, true, false, not, cond, is_some, Option, Some, None, option_and_then, refl, sym, ap, subst, ◌∙◌, append_assoc}
 use Rattle.std.specs.List.{AllByRecursion}
 use Rattle.std.specs.Option.{option_to_list}
 use Rattle.std.specs.Ordering.{is_lt}
 use Rattle.std.specs.FinMap.Entries.{find, below_all}
 use Rattle.std.proofs.lemmas.Bool.{and_from}
+use Rattle.std.proofs.lemmas.List.{append-nil}
 use Rattle.cs_value.specs.Tree.{Tree}
 use Rattle.cs_view.specs.Document.{id_of, passes}
 use Rattle.cs_view.specs.Dataset.{id_cmp, same_id, keyed, standing, stands, ascending, with_doc, without}
@@ -13,6 +14,7 @@ use Rattle.cs_view.specs.Changes.{Edit, ids_ascend, is_of_id, are_changes, LeadF
 use Rattle.cs_view.proofs.Booleans.{and-left, and-right}
 use Rattle.cs_view.proofs.Datasets.{same_id-same, same_id-sym, lower-differs, find-above, standing-with_doc, standing-without, ascending-placed, same_docs}
 use Rattle.cs_view.proofs.Changed.{OwnIds, own_ids, standing-after_changes, ascending-after_changes, each_found, AreFoundIn}
+use Rattle.cs_shelf.proofs.Gathering.{goes_last}
 use Rattle.cs_docs.specs.Limits.{most_documents}
 use Rattle.cs_docs.specs.References.{clean}
 use Rattle.cs_docs.specs.Installing.{Sides, entered, replaced, put, is_new, is_gone, picked, with_all, without_all}
@@ -120,7 +122,7 @@ put_at (Some (b, None)) = refl
 put_at (Some (b, Some a)) = refl
 
 -- what is put into the empty dataset is the dataset after the changes
-pub one_step : (cs : List Edit) → are_changes cs ≡ true → with_all (picked put cs) [] ≡ after_changes [] cs
+one_step : (cs : List Edit) → are_changes cs ≡ true → with_all (picked put cs) [] ≡ after_changes [] cs
 one_step cs changes =
     let own = own_ids cs changes in
     same_docs (with_all (picked put cs) []) (after_changes [] cs) (ascending-with_all (picked put cs) [] refl) (ascending-after_changes [] cs refl)
@@ -142,6 +144,18 @@ ascending-picked pick (c ∷ cs) h own = by_side (ascending-picked pick cs (and-
   by_side rest (Some d) w =
       and_from _ _ (subst (λ (k : List ℕ). below_all id_cmp k (keyed (picked pick cs)) ≡ true) (same_id-same c.0 (id_of d) w) (below-picked pick c.0 cs own.1 (and-left _ _ h))) rest
 
+-- what changes of the empty dataset put is the dataset after them
+with_later : (done ds : List Tree) → ascending (done ++ ds) ≡ true → with_all ds done ≡ done ++ ds
+with_later done [] h = sym (append-nil done)
+with_later done (d ∷ ds) h =
+    ap (with_all ds) (goes_last done d ds h) ∙ with_later (done ++ d ∷ []) ds (ap ascending (append_assoc done (d ∷ []) ds) ∙ h) ∙ append_assoc done (d ∷ []) ds
+
+pub ascending-put : (cs : List Edit) → are_changes cs ≡ true → ascending (picked put cs) ≡ true
+ascending-put cs changes = ascending-picked put cs (and-left _ _ changes) (own_put cs (own_ids cs changes))
+
+pub all_put : (cs : List Edit) → are_changes cs ≡ true → picked put cs ≡ after_changes [] cs
+all_put cs changes = sym (with_later [] (picked put cs) (ascending-put cs changes)) ∙ one_step cs changes
+
 -- none of the documents has the id of one that stands
 abbrev pub AreFree : List Tree → List Tree → Type 0
 AreFree docs es = AllByRecursion (λ e. stands (id_of e) docs ≡ false) es
@@ -158,10 +172,6 @@ free_step docs d (e ∷ es) h f = (
   stands-with_doc (id_of e) d docs ∙ ap (λ b. cond b true (stands (id_of e) docs)) (same_id-sym (id_of e) (id_of d) ∙ lower-differs (id_of d) (id_of e) (and-left _ _ h)) ∙ f.0,
   free_step docs d es (and-right (is_lt (id_cmp (id_of d) (id_of e))) _ h) f.1,
 )
-
-pub free-empty : (es : List Tree) → AreFree [] es
-free-empty [] = tt
-free-empty (e ∷ es) = (refl, free-empty es)
 
 entered_none : (s : Sides) (d : Tree) → entered s ≡ Some d → s.0 ≡ None
 entered_none (None, a) d h = refl
@@ -268,20 +278,3 @@ pub on_holding : {A E : Type 0} (r : Result A E) (old now : List Tree) (cs : Lis
 on_holding (Ok a) old now cs is same taken c w =
     (ap clean is ∙ fits-clean (after_changes old cs) taken.holds, subst (λ (ds : List Tree). length ds ≤ most_documents) (sym is) (fits-within (after_changes old cs) taken.holds))
 on_holding (Err e) old now cs is same taken c w = (ap clean same ∙ c, subst (λ (ds : List Tree). length ds ≤ most_documents) (sym same) w)
-
--- ---- what one change puts, and what the others put
-pub free_here : (docs : List Tree) (o : Option Tree) (es : List Tree) → AreFree docs (option_to_list o ++ es) → AreFree docs (option_to_list o)
-free_here docs None es h = tt
-free_here docs (Some d) es h = (h.0, tt)
-
-pub free_on : (docs : List Tree) (o : Option Tree) (es : List Tree) → ascending (option_to_list o ++ es) ≡ true → AreFree docs (option_to_list o ++ es) → AreFree (with_all (option_to_list o) docs) es
-free_on docs None es r h = h
-free_on docs (Some d) es r h = free_step docs d es (and-left _ _ r) h.1
-
-pub rise_on : (o : Option Tree) (es : List Tree) → ascending (option_to_list o ++ es) ≡ true → ascending es ≡ true
-rise_on None es h = h
-rise_on (Some d) es h = and-right (below_all id_cmp (id_of d) (keyed es)) _ h
-
-pub with_on : (docs : List Tree) (o : Option Tree) (es : List Tree) → with_all es (with_all (option_to_list o) docs) ≡ with_all (option_to_list o ++ es) docs
-with_on docs None es = refl
-with_on docs (Some d) es = refl

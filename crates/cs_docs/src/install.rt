@@ -1,6 +1,6 @@
 //! Prepared changes put into the store. What is copied comes first, then what stands under new ids,
 //! which is undone where memory is refused, and then what takes no memory.
-ghost use Rattle.std.specs.Prelude.{◌≡◌, ◌++◌, [], true, false, OnOk, OnErr, IfOk, map};
+ghost use Rattle.std.specs.Prelude.{◌≡◌, ◌++◌, [], true, OnOk, OnErr, IfOk, map};
 ghost use Rattle.std.specs.List.{AllByRecursion};
 ghost use Rattle.std.specs.Option.{option_to_list};
 ghost use Rattle.cs_view.specs.Changes.{after_changes, LeadFrom};
@@ -125,18 +125,18 @@ fn remove(shelf: &mut Shelf, changes: &[Change])
     }
 }
 
-// Puts what the change puts, if anything, where none of its id stands. It is moved.
-fn add(shelf: &mut Shelf, change: Change) -> Result<(), NoMemory>
-    requires { AllByRecursion (λ d. stands (id_of d) (documents shelf.old) ≡ false)
-        (option_to_list (put (edit change).1)) }
-    ensures { OnOk result (documents shelf.new
-        ≡ with_all (option_to_list (put (edit change).1)) (documents shelf.old)) }
+// The documents that changes put, moved out of them.
+fn put_documents(alloc: Global, changes: Vec<Change>) -> Result<Vec<Doc>, NoMemory>
+    ensures { IfOk result (λ ds. map document_of ds.items ≡ picked put (edits changes.items)) }
 {
-    let Change { after, .. } = change;
-    match after {
-        Some(document) => shelf.add(document),
-        None => Ok(()),
+    let mut documents = Vec::with_capacity(alloc, changes.len())?;
+    for change in changes {
+        let Change { after, .. } = change;
+        if let Some(document) = after {
+            documents.push(document)?;
+        }
     }
+    Ok(documents)
 }
 
 // Puts what changes put and takes out what they take away. Without memory nothing changes.
@@ -177,11 +177,9 @@ impl Docs {
         requires { AreTaken [] (changes_of prepared) }
         ensures { IfOk result (λ d. docs d ≡ after_changes [] (changes_of prepared)) }
     {
-        let mut shelf = Shelf::new(alloc);
         let Prepared { changes, .. } = prepared;
-        for change in changes {
-            add(&mut shelf, change)?;
-        }
+        let documents = put_documents(alloc, changes)?;
+        let shelf = Shelf::of(alloc, documents)?;
         Ok(Docs { shelf })
     }
 }

@@ -33,7 +33,7 @@ fn clear_at(store: &mut Slab<Doc>, place: u32)
 }
 
 // The place that is next.
-fn next_place(store: &Slab<Doc>) -> Option<u32>
+pub(crate) fn next_place(store: &Slab<Doc>) -> Option<u32>
     ensures next { IfSome result (λ p. store.now.vacant_key ≡ p) }
     ensures vacant { IfSome result (λ p. tree_at store.now p ≡ None) }
     ensures low { IfSome result (λ p. p < most_places) }
@@ -51,7 +51,7 @@ fn next_place(store: &Slab<Doc>) -> Option<u32>
 }
 
 // Puts a document at the place that is next.
-fn fill(store: &mut Slab<Doc>, place: u32, doc: Doc)
+pub(crate) fn fill(store: &mut Slab<Doc>, place: u32, doc: Doc)
     requires { (store.old.vacant_key ≡ place) × HasRoomFor store.old 1 }
     ensures { (p : ℕ)
         → tree_at store.new p ≡ cond (p == place) (Some (document_of doc)) (tree_at store.old p) }
