@@ -1,15 +1,16 @@
 //! The documents of a data file, line by line.
-ghost use Rattle.std.specs.Prelude.{◌≡◌, ◌<◌, ◌≤◌, List, [], true, length, map, cond, Some, None, option_map, OnOk, IfOk, IfErr};
+ghost use Rattle.std.specs.Prelude.{◌≡◌, ◌<◌, ◌≤◌, List, [], true, false, length, map, cond, if◌then◌else◌, Some, None, option_map, OnOk, IfOk, IfErr};
 ghost use Rattle.cs_value.specs.Tree.{Tree};
 ghost use Rattle.cs_value.specs.View.{tree};
 ghost use Rattle.cs_json.specs.Reading.{outcome, value};
-ghost use Rattle.cs_view.specs.Dataset.{ascending};
+ghost use Rattle.cs_view.specs.Dataset.{ascending, stands};
 ghost use Rattle.cs_view.specs.Document.{is_body, is_shallow, id_of, deepest_document};
 ghost use Rattle.cs_view.specs.View.{document_of};
-ghost use Rattle.cs_machine.specs.DataFile.{a_document, imported, of_body, of_outcome, said};
+ghost use Rattle.cs_machine.specs.DataFile.{a_document, imported, of_body, of_outcome, refused, said};
 ghost use Rattle.cs_load.specs.Gathered.{held, HasWay, IsKept};
 ghost use Rattle.cs_load.specs.Refusals.{IsRefused};
 ghost use Rattle.cs_docs.specs.Limits.{most_documents};
+ghost use Rattle.cs_reply.specs.Stated.{full, repeated};
 
 mod collected;
 
@@ -54,14 +55,32 @@ fn read(reader: &mut ValueReader, line: &[u8]) -> Result<Val, LineRefusal>
     }
 }
 
-// Whether the body makes one document more, for which way is made then.
-fn admit(alloc: Global, documents: &mut Collected, body: &Val) -> Result<(), LineRefusal>
+// Why no document of the id is taken any more.
+fn none_taken(alloc: Global, documents: &Collected, id: &Txt) -> LineRefusal
+    requires kept { IsKept documents.now }
+    requires way { HasWay id.now documents.now }
+    ensures { IsRefused result (if stands id.now (held documents.now) then refused (repeated id.now)
+        else refused full) }
+{
+    if !documents.has(id) {
+        return LineRefusal::Cause(DataCause::FullDocuments);
+    }
+    match id.copy(alloc) {
+        Ok(id) => LineRefusal::Cause(DataCause::Repeated { id }),
+        Err(NoMemory) => LineRefusal::NoMemory,
+    }
+}
+
+// The id of the body, if it makes one document more where none of its id stands. Way is made for it
+// then.
+fn admit(alloc: Global, documents: &mut Collected, body: &Val) -> Result<Txt, LineRefusal>
     requires { IsKept documents.old }
     ensures kept { IsKept documents.new }
     ensures same { OnOk result (held documents.new ≡ held documents.old) }
+    ensures id { IfOk result (λ id. id ≡ id_of (tree body.now)) }
     ensures way { OnOk result (HasWay (id_of (tree body.now)) documents.new) }
-    ensures admitted { OnOk result (of_body (held documents.old) (tree body.now) ≡ a_document
-        (imported (tree body.now))) }
+    ensures admitted { OnOk result (stands (id_of (tree body.now)) (held documents.old) ≡ false
+        → of_body (held documents.old) (tree body.now) ≡ a_document (imported (tree body.now))) }
     ensures body { OnOk result (is_body (tree body.now) ≡ true) }
     ensures room { OnOk result (length (held documents.old) < most_documents) }
     ensures refused { IfErr result (λ r. IsRefused r
@@ -71,14 +90,10 @@ fn admit(alloc: Global, documents: &mut Collected, body: &Val) -> Result<(), Lin
         return Err(LineRefusal::Cause(DataCause::BadDocument));
     };
     documents.make_way(alloc, id)?;
-    if documents.has(id) {
-        let id = id.copy(alloc)?;
-        return Err(LineRefusal::Cause(DataCause::Repeated { id }));
-    }
     if documents.len() == MOST_DOCUMENTS {
-        return Err(LineRefusal::Cause(DataCause::FullDocuments));
+        return Err(none_taken(alloc, documents, id));
     }
-    Ok(())
+    Ok(id.copy(alloc)?)
 }
 
 /// The documents of a data file so far, by their ids.
@@ -112,9 +127,11 @@ impl Loading {
             (of_outcome (so_far self.old) (outcome deepest_document line.now))) }
     {
         let body = read(&mut self.reader, line)?;
-        admit(self.alloc, &mut self.documents, &body)?;
+        let id = admit(self.alloc, &mut self.documents, &body)?;
         let document = imported(self.alloc, body)?;
-        self.documents.put(self.alloc, document)?;
+        if self.documents.put(self.alloc, document)? {
+            return Err(LineRefusal::Cause(DataCause::Repeated { id }));
+        }
         Ok(())
     }
 

@@ -34,21 +34,23 @@ fn is_above(id: &str, documents: &[Doc]) -> bool
     }
 }
 
-// Puts the document in the place of its id.
+// Puts the document in the place of its id: whether one stood there.
 fn put_by_id(
     alloc: Global,
     documents: &mut BTreeMap<Txt, Doc>,
     document: Doc,
-) -> Result<(), NoMemory>
+) -> Result<bool, NoMemory>
     requires by_id { AreById documents.old.entries }
     ensures by_id { AreById documents.new.entries }
+    ensures stood { IfOk result (λ b. b ≡ stands (id_of (document_of document))
+        (gathered documents.old.entries)) }
     ensures put { OnOk result (gathered documents.new.entries
         ≡ with_doc (document_of document) (gathered documents.old.entries)) }
     ensures kept { OnErr result (documents.new.entries ≡ documents.old.entries) }
 {
     let id = document.id().copy(alloc)?;
-    drop(documents.insert(id, document)?);
-    Ok(())
+    let before = documents.insert(id, document)?;
+    Ok(before.is_some())
 }
 
 // The same documents, each at its id.
@@ -59,7 +61,7 @@ fn by_id(alloc: Global, documents: Vec<Doc>) -> Result<BTreeMap<Txt, Doc>, NoMem
 {
     let mut sorted = BTreeMap::new(alloc);
     for document in documents {
-        put_by_id(alloc, &mut sorted, document)?;
+        let _stood = put_by_id(alloc, &mut sorted, document)?;
     }
     Ok(sorted)
 }
@@ -127,17 +129,23 @@ impl Collected {
         }
     }
 
-    /// Puts a document in the place of its id, for which way was made.
-    pub(super) fn put(&mut self, alloc: Global, document: Doc) -> Result<(), NoMemory>
+    /// Puts a document in the place of its id, for which way was made: whether one stood there. To
+    /// ask and to put takes one search so.
+    pub(super) fn put(&mut self, alloc: Global, document: Doc) -> Result<bool, NoMemory>
         requires kept { IsKept self.old }
         requires way { HasWay (id_of (document_of document)) self.old }
         requires room { length (held self.old) < most_documents }
         ensures kept { IsKept self.new }
+        ensures stood { IfOk result (λ b. b ≡ stands (id_of (document_of document))
+            (held self.old)) }
         ensures put { OnOk result (held self.new
             ≡ with_doc (document_of document) (held self.old)) }
     {
         match self {
-            Collected::InOrder(documents) => Ok(documents.push(document)?),
+            Collected::InOrder(documents) => {
+                documents.push(document)?;
+                Ok(false)
+            }
             Collected::ById(documents) => put_by_id(alloc, documents, document),
         }
     }

@@ -16,5 +16,5 @@ loop-document-preserved c =
       done ++ d ∷ [],
       all ∙ sym (append_assoc done (d ∷ []) left),
       c.put_by_id.ensures.by_id,
-      c.in_ok-put_by_id.ensures.put ∙ ap (with_doc (document_of d)) l.invariant.3 ∙ last,
+      c.in_ok-_stood.ensures.put ∙ ap (with_doc (document_of d)) l.invariant.3 ∙ last,
     )
