@@ -21,7 +21,8 @@ use Rattle.cs_view.specs.declared.key.Scalar.TheVariants.{Bool as Boolean, Num, 
 use Rattle.cs_view.specs.declared.key.Key.{Key}
 use Rattle.cs_view.specs.declared.key.Key.TheVariants.{All, Id, Path, Elem, Ref}
 use Rattle.cs_view.specs.Limits.{most_names}
-use Rattle.cs_codes.specs.Codes.{Seed, Hash, start, with_text, with_names, with_value, with_element, boolean_code, scalar_code, ref_code, key_code, scalar_codes, elements_codes, here, inside, pairs_inside, own_refs, refs, trees_refs, pairs_refs, key_codes, is_among}
+use Rattle.cs_codes.specs.Codes.{Hash, start, with_text, with_names, with_value, with_element, boolean_code, scalar_code, ref_code, key_code, scalar_codes, elements_codes, here, inside, pairs_inside, own_refs, refs, trees_refs, pairs_refs, key_codes, is_among}
+use Rattle.cs_codes.specs.declared.seed.Seed.{Seed}
 use Rattle.cs_codes.specs.Kept.{IsKept}
 
 first : (c : ℕ) → is_among c (c ∷ []) ≡ true

@@ -5,10 +5,11 @@ use Rattle.std.specs.Prelude.{ℕ, ℤ, ◌-◌, ◌==◌, Bool, cond, List, [],
 use Rattle.std.specs.List.{list_any, fold}
 use Rattle.std.specs.Bool.{nat_eq}
 use Rattle.std.specs.Option.{option_to_list}
-use Rattle.std.specs.Hash.{str, u8, bool, i64}
-use Rattle.std.specs.Hash.DefaultHasher.{write, finish}
+use Rattle.std.specs.Hash.{str, u8, u64, bool, i64}
+use Rattle.std.specs.Hash.DefaultHasher.{finish as sip_finish}
+use Rattle.std.specs.Hash.FoldHasher.{initial, write, finish}
 use Rattle.std.specs.RandomState.{initial_hasher}
-use Rattle.std.specs.declared.hash.DefaultHasher.{DefaultHasher}
+use Rattle.std.specs.declared.hash.FoldHasher.{FoldHasher}
 use Rattle.std.specs.declared.hash.RandomState.{RandomState}
 use Rattle.cs_value.specs.Tree.{Tree, null, boolean, integer, text, list, object, Trees, no_trees, more_trees, Pairs, no_pairs, more_pairs}
 use Rattle.cs_value.specs.Words.{ref_of}
@@ -17,17 +18,19 @@ use Rattle.cs_view.specs.declared.key.Scalar.{Scalar}
 use Rattle.cs_view.specs.declared.key.Scalar.TheVariants.{Bool as Boolean, Num, Text}
 use Rattle.cs_view.specs.declared.key.Key.{Key}
 use Rattle.cs_view.specs.declared.key.Key.TheVariants.{All, Id, Path, Elem, Ref}
-
--- what the codes of an index depend on
-abbrev pub Seed : Type 0
-Seed = RandomState
+use Rattle.cs_codes.specs.declared.seed.Seed.{Seed}
 
 -- a hash that has read a part of a key
 abbrev pub Hash : Type 0
-Hash = DefaultHasher
+Hash = FoldHasher
+
+-- the hash that has read a secret alone: what SipHash gives under the keys of a run before it has
+-- read anything
+abbrev pub seed_of : RandomState → Seed
+seed_of keys = record { begun = fold write initial (u64 (sip_finish (initial_hasher keys))) }
 
 abbrev pub start : Seed → Hash
-start seed = initial_hasher seed
+start seed = seed.begun
 
 abbrev pub with_text : Hash → List ℕ → Hash
 with_text h t = fold write h (str t)

@@ -3,7 +3,8 @@ use Rattle.std.specs.Prelude.{◌≡◌, true}
 use Rattle.cs_value.specs.Tree.{Tree}
 use Rattle.cs_view.specs.Keys.{has}
 use Rattle.cs_view.specs.declared.key.Key.{Key}
-use Rattle.cs_codes.specs.Codes.{Seed, key_code, key_codes, is_among}
+use Rattle.cs_codes.specs.Codes.{key_code, key_codes, is_among}
+use Rattle.cs_codes.specs.declared.seed.Seed.{Seed}
 use Rattle.cs_codes.specs.Kept.{IsKept}
 
 -- a document that has a key which an index keeps has the key's code among its codes

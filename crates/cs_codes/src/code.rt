@@ -2,9 +2,10 @@
 ghost use Rattle.std.specs.Prelude.{◌≡◌};
 ghost use Rattle.cs_codes.specs.Codes.{start, with_text, with_mark, with_names, with_value, with_element, code_of, boolean_code, number_code, text_code, scalar_code, ref_code, id_code, key_code};
 
+use crate::seed::Seed;
 use cs_value::Txt;
 use cs_view::{Key, Scalar};
-use std::hash::{BuildHasher, DefaultHasher, Hash, Hasher, RandomState};
+use std::hash::{FoldHasher, Hash, Hasher};
 
 // These numbers tell what comes next in a hash. No text has one of them as a byte.
 const VALUE: u8 = 254;
@@ -22,14 +23,14 @@ const TEXT: u8 = 249;
 const ID: u8 = 248;
 
 // The hash that has read nothing yet.
-pub(crate) fn start(seed: &RandomState) -> DefaultHasher
+pub(crate) fn start(seed: &Seed) -> FoldHasher
     ensures { result ≡ start seed.now }
 {
-    seed.build_hasher()
+    seed.begun
 }
 
 // The hash that has read the text too.
-pub(crate) fn with_text(hash: DefaultHasher, text: &str) -> DefaultHasher
+pub(crate) fn with_text(hash: FoldHasher, text: &str) -> FoldHasher
     ensures { result ≡ with_text hash text.now }
 {
     let mut longer = hash;
@@ -37,7 +38,7 @@ pub(crate) fn with_text(hash: DefaultHasher, text: &str) -> DefaultHasher
     longer
 }
 
-fn with_mark(hash: DefaultHasher, mark: u8) -> DefaultHasher
+fn with_mark(hash: FoldHasher, mark: u8) -> FoldHasher
     ensures { result ≡ with_mark hash mark }
 {
     let mut longer = hash;
@@ -45,13 +46,13 @@ fn with_mark(hash: DefaultHasher, mark: u8) -> DefaultHasher
     longer
 }
 
-fn code_of(hash: &DefaultHasher) -> u64
+fn code_of(hash: &FoldHasher) -> u64
     ensures { result ≡ code_of hash.now }
 {
     hash.finish()
 }
 
-fn with_names(hash: DefaultHasher, names: &[Txt]) -> DefaultHasher
+fn with_names(hash: FoldHasher, names: &[Txt]) -> FoldHasher
     ensures { result ≡ with_names hash names.now }
 {
     let mut longer = hash;
@@ -62,20 +63,20 @@ fn with_names(hash: DefaultHasher, names: &[Txt]) -> DefaultHasher
 }
 
 // The hash of a value at the end of the names that were read.
-pub(crate) fn with_value(hash: DefaultHasher) -> DefaultHasher
+pub(crate) fn with_value(hash: FoldHasher) -> FoldHasher
     ensures { result ≡ with_value hash }
 {
     with_mark(hash, VALUE)
 }
 
 // The hash of an element of a list at the end of the names that were read.
-pub(crate) fn with_element(hash: DefaultHasher) -> DefaultHasher
+pub(crate) fn with_element(hash: FoldHasher) -> FoldHasher
     ensures { result ≡ with_element hash }
 {
     with_mark(hash, ELEMENT)
 }
 
-pub(crate) fn boolean_code(hash: DefaultHasher, value: bool) -> u64
+pub(crate) fn boolean_code(hash: FoldHasher, value: bool) -> u64
     ensures { result ≡ boolean_code hash value }
 {
     let mut longer = with_mark(hash, BOOLEAN);
@@ -83,7 +84,7 @@ pub(crate) fn boolean_code(hash: DefaultHasher, value: bool) -> u64
     code_of(&longer)
 }
 
-pub(crate) fn number_code(hash: DefaultHasher, number: i64) -> u64
+pub(crate) fn number_code(hash: FoldHasher, number: i64) -> u64
     ensures { result ≡ number_code hash number }
 {
     let mut longer = with_mark(hash, NUMBER);
@@ -91,13 +92,13 @@ pub(crate) fn number_code(hash: DefaultHasher, number: i64) -> u64
     code_of(&longer)
 }
 
-pub(crate) fn text_code(hash: DefaultHasher, text: &Txt) -> u64
+pub(crate) fn text_code(hash: FoldHasher, text: &Txt) -> u64
     ensures { result ≡ text_code hash text.now }
 {
     code_of(&with_text(with_mark(hash, TEXT), text.as_str()))
 }
 
-fn scalar_code(hash: DefaultHasher, scalar: &Scalar) -> u64
+fn scalar_code(hash: FoldHasher, scalar: &Scalar) -> u64
     ensures { result ≡ scalar_code hash scalar.now }
 {
     match scalar {
@@ -108,21 +109,21 @@ fn scalar_code(hash: DefaultHasher, scalar: &Scalar) -> u64
 }
 
 /// The code of the key of references to the target.
-pub fn ref_code(seed: &RandomState, target: &Txt) -> u64
+pub fn ref_code(seed: &Seed, target: &Txt) -> u64
     ensures { result ≡ ref_code seed.now target.now }
 {
     code_of(&with_text(with_mark(start(seed), REFERENCE), target.as_str()))
 }
 
 /// The code of the key of the document with the id.
-pub fn id_code(seed: &RandomState, id: &Txt) -> u64
+pub fn id_code(seed: &Seed, id: &Txt) -> u64
     ensures { result ≡ id_code seed.now id.now }
 {
     code_of(&with_text(with_mark(start(seed), ID), id.as_str()))
 }
 
 /// The code of a key. That of every document has the code 0.
-pub fn key_code(seed: &RandomState, key: &Key) -> u64
+pub fn key_code(seed: &Seed, key: &Key) -> u64
     ensures { result ≡ key_code seed.now key.now }
 {
     match key {

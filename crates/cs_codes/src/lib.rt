@@ -5,8 +5,10 @@
 mod code;
 pub mod laws;
 mod order;
+mod seed;
 mod walk;
 
 pub use code::{id_code, key_code, ref_code};
 pub use order::{has_code, sort_codes};
+pub use seed::Seed;
 pub use walk::{codes_of, put_codes};

@@ -8,10 +8,11 @@ ghost use Rattle.cs_codes.specs.Codes.{scalar_codes, elements_codes, here, insid
 use crate::code::{
     boolean_code, number_code, ref_code, start, text_code, with_element, with_text, with_value,
 };
+use crate::seed::Seed;
 use cs_value::{Fields, NoMemory, Val};
 use cs_view::Doc;
 use std::alloc::Global;
-use std::hash::{DefaultHasher, RandomState};
+use std::hash::FoldHasher;
 
 // The most names of a path that an index keeps.
 const MOST_NAMES: u32 = 4;
@@ -20,7 +21,7 @@ const MOST_NAMES: u32 = 4;
 const USUAL_CODES: usize = 32;
 
 // The code of a scalar.
-fn put_scalar(hash: DefaultHasher, val: &Val, out: &mut Vec<u64>) -> Result<(), NoMemory>
+fn put_scalar(hash: FoldHasher, val: &Val, out: &mut Vec<u64>) -> Result<(), NoMemory>
     ensures { OnOk result (out.new.items ≡ out.old.items ++ scalar_codes hash (tree val.now)) }
 {
     match val {
@@ -33,7 +34,7 @@ fn put_scalar(hash: DefaultHasher, val: &Val, out: &mut Vec<u64>) -> Result<(), 
 }
 
 // The codes of the scalars among the elements of a list.
-fn put_elements(hash: DefaultHasher, items: &Vec<Val>, out: &mut Vec<u64>) -> Result<(), NoMemory>
+fn put_elements(hash: FoldHasher, items: &Vec<Val>, out: &mut Vec<u64>) -> Result<(), NoMemory>
     ensures { OnOk result (out.new.items
         ≡ out.old.items ++ elements_codes hash (trees (list_tree items.now.items))) }
 {
@@ -44,7 +45,7 @@ fn put_elements(hash: DefaultHasher, items: &Vec<Val>, out: &mut Vec<u64>) -> Re
 }
 
 // The codes of a value at the end of the names that were read.
-fn put_here(hash: DefaultHasher, val: &Val, out: &mut Vec<u64>) -> Result<(), NoMemory>
+fn put_here(hash: FoldHasher, val: &Val, out: &mut Vec<u64>) -> Result<(), NoMemory>
     ensures { OnOk result (out.new.items ≡ out.old.items ++ here hash (tree val.now)) }
 {
     match val {
@@ -56,7 +57,7 @@ fn put_here(hash: DefaultHasher, val: &Val, out: &mut Vec<u64>) -> Result<(), No
 
 // The codes at the attributes of a value, by at most so many names more.
 #[cycle(inside)]
-fn put_inside(room: u32, hash: DefaultHasher, val: &Val, out: &mut Vec<u64>) -> Result<(), NoMemory>
+fn put_inside(room: u32, hash: FoldHasher, val: &Val, out: &mut Vec<u64>) -> Result<(), NoMemory>
     ensures { OnOk result (out.new.items ≡ out.old.items ++ inside room hash (tree val.now)) }
 {
     if room == 0 {
@@ -72,7 +73,7 @@ fn put_inside(room: u32, hash: DefaultHasher, val: &Val, out: &mut Vec<u64>) -> 
 #[cycle(inside)]
 fn put_fields_inside(
     room: u32,
-    hash: DefaultHasher,
+    hash: FoldHasher,
     object: &Fields,
     out: &mut Vec<u64>,
 ) -> Result<(), NoMemory>
@@ -90,7 +91,7 @@ fn put_fields_inside(
 
 // The codes of the references in a value.
 #[cycle(refs)]
-fn put_refs(seed: &RandomState, val: &Val, out: &mut Vec<u64>) -> Result<(), NoMemory>
+fn put_refs(seed: &Seed, val: &Val, out: &mut Vec<u64>) -> Result<(), NoMemory>
     ensures { OnOk result (out.new.items ≡ out.old.items ++ refs seed.now (tree val.now)) }
 {
     match val {
@@ -104,7 +105,7 @@ fn put_refs(seed: &RandomState, val: &Val, out: &mut Vec<u64>) -> Result<(), NoM
 }
 
 #[cycle(refs)]
-fn put_item_refs(seed: &RandomState, items: &Vec<Val>, out: &mut Vec<u64>) -> Result<(), NoMemory>
+fn put_item_refs(seed: &Seed, items: &Vec<Val>, out: &mut Vec<u64>) -> Result<(), NoMemory>
     ensures { OnOk result (out.new.items
         ≡ out.old.items ++ trees_refs seed.now (trees (list_tree items.now.items))) }
 {
@@ -115,7 +116,7 @@ fn put_item_refs(seed: &RandomState, items: &Vec<Val>, out: &mut Vec<u64>) -> Re
 }
 
 #[cycle(refs)]
-fn put_field_refs(seed: &RandomState, object: &Fields, out: &mut Vec<u64>) -> Result<(), NoMemory>
+fn put_field_refs(seed: &Seed, object: &Fields, out: &mut Vec<u64>) -> Result<(), NoMemory>
     ensures { OnOk result (out.new.items
         ≡ out.old.items ++ pairs_refs seed.now (fields object.now)) }
 {
@@ -126,7 +127,7 @@ fn put_field_refs(seed: &RandomState, object: &Fields, out: &mut Vec<u64>) -> Re
 }
 
 // The code of the text that an object has as `_ref`.
-fn put_own_ref(seed: &RandomState, object: &Fields, out: &mut Vec<u64>) -> Result<(), NoMemory>
+fn put_own_ref(seed: &Seed, object: &Fields, out: &mut Vec<u64>) -> Result<(), NoMemory>
     ensures { OnOk result (out.new.items
         ≡ out.old.items ++ own_refs seed.now (fields object.now)) }
 {
@@ -139,7 +140,7 @@ fn put_own_ref(seed: &RandomState, object: &Fields, out: &mut Vec<u64>) -> Resul
 /// Adds to a list the codes of the keys of a document that an index keeps: those of its references,
 /// and those of the scalars at its attribute paths of at most four names and in the lists there.
 /// `NoMemory` where the allocator has no room for them.
-pub fn put_codes(seed: &RandomState, doc: &Doc, out: &mut Vec<u64>) -> Result<(), NoMemory>
+pub fn put_codes(seed: &Seed, doc: &Doc, out: &mut Vec<u64>) -> Result<(), NoMemory>
     ensures { OnOk result (out.new.items ≡ out.old.items
         ++ key_codes seed.now (document_of doc.now)) }
 {
@@ -149,7 +150,7 @@ pub fn put_codes(seed: &RandomState, doc: &Doc, out: &mut Vec<u64>) -> Result<()
 
 /// The codes of the keys of a document that an index keeps, as [`put_codes`] adds them. `NoMemory`
 /// where the allocator has no room for them.
-pub fn codes_of(alloc: Global, seed: &RandomState, doc: &Doc) -> Result<Vec<u64>, NoMemory>
+pub fn codes_of(alloc: Global, seed: &Seed, doc: &Doc) -> Result<Vec<u64>, NoMemory>
     ensures { IfOk result (λ cs. cs.items ≡ key_codes seed.now (document_of doc.now)) }
 {
     let mut out = Vec::with_capacity(alloc, USUAL_CODES)?;

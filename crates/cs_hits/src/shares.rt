@@ -14,6 +14,7 @@ ghost use Rattle.cs_hits.specs.Shares.{AreShares, SharesFollow, share_docs, shar
 
 use crate::held::{put, remove};
 use crate::share::Share;
+use cs_codes::Seed;
 use cs_eval::{hit, hits};
 use cs_interest::interest_code;
 use cs_syntax::Query;
@@ -21,7 +22,6 @@ use cs_value::{Fields, NoMemory, Steps, Val};
 use cs_view::{Change, Doc, Key, View};
 use cs_window::mapped_is_filtered;
 use std::alloc::Global;
-use std::hash::RandomState;
 use std::sync::ledger::Ledger;
 
 // The shares of documents.
@@ -78,7 +78,7 @@ pub fn answer_of(alloc: Global, shares: &[Share]) -> Result<Val, NoMemory>
 }
 
 // Adds the codes under which interest in the keys is held.
-fn add_codes(seed: &RandomState, keys: &[Key], codes: &mut Vec<u64>) -> Result<(), NoMemory>
+fn add_codes(seed: &Seed, keys: &[Key], codes: &mut Vec<u64>) -> Result<(), NoMemory>
     ensures { OnOk result
         (codes.new.items ≡ codes.old.items ++ map (interest_code seed.now) keys.now) }
 {
@@ -92,7 +92,7 @@ fn add_codes(seed: &RandomState, keys: &[Key], codes: &mut Vec<u64>) -> Result<(
 /// the shares looked up. `NoMemory` where the allocator has no room for them.
 pub fn codes_of(
     alloc: Global,
-    seed: &RandomState,
+    seed: &Seed,
     own: &Key,
     shares: &[Share],
 ) -> Result<Vec<u64>, NoMemory>

@@ -15,7 +15,8 @@ use Rattle.cs_shelf.specs.Places.{found}
 use Rattle.cs_shelf.proofs.Standing.{at-documents}
 use Rattle.cs_docs.specs.Store.{docs, doc_at, place_at, ArePlacesSteady}
 use Rattle.cs_docs.specs.declared.docs.Docs.{Docs}
-use Rattle.cs_codes.specs.Codes.{Seed, key_codes, is_among, side_codes}
+use Rattle.cs_codes.specs.Codes.{key_codes, is_among, side_codes}
+use Rattle.cs_codes.specs.declared.seed.Seed.{Seed}
 use Rattle.cs_index.specs.Entries.{same_entry, entry, has_entry, is_put, is_put_at, puts, parts, gains, enters, or_some, AreEntriesOf}
 use Rattle.cs_docs.specs.Gathered.{entering}
 use Rattle.cs_index.specs.declared.entry.Entry.{Entry}

@@ -4,5 +4,5 @@ pub mod Marks
 pub mod Nearest
 pub mod Picked
 pub mod Referred
-pub mod Sets
 pub mod Split
+pub mod Spreads

@@ -24,7 +24,8 @@ use Rattle.cs_shelf.specs.Places.{Store, found, tree_at, trees_at}
 use Rattle.cs_shelf.proofs.Standing.{Entry as PlaceEntry, AreSound, at-documents, sound_entries, at-trees, ascending-trees, some-trees, ascending-documents}
 use Rattle.cs_docs.specs.Store.{docs, place_at, doc_at}
 use Rattle.cs_docs.specs.declared.docs.Docs.{Docs}
-use Rattle.cs_codes.specs.Codes.{Seed, is_among, key_code, side_codes}
+use Rattle.cs_codes.specs.Codes.{is_among, key_code, side_codes}
+use Rattle.cs_codes.specs.declared.seed.Seed.{Seed}
 use Rattle.cs_index.specs.Entries.{entry_cmp, same_entry, entry, has_entry, AreEntriesOf}
 use Rattle.cs_codes.specs.Kept.{IsKept}
 use Rattle.cs_index.specs.Picking.{Hits, IsImplied, where_has, wanted, is_hit, is_found, is_found_at, is_found_among, under}

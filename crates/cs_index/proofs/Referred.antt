@@ -18,7 +18,8 @@ use Rattle.cs_docs.specs.Store.{docs, place_at, doc_at}
 use Rattle.cs_docs.specs.Suspects.{lesser}
 use Rattle.cs_docs.specs.declared.docs.Docs.{Docs}
 use Rattle.cs_docs.proofs.Filters.{keep, first_at, first_lesser, filter_same, members}
-use Rattle.cs_codes.specs.Codes.{Seed, ref_code, is_among, side_codes}
+use Rattle.cs_codes.specs.Codes.{ref_code, is_among, side_codes}
+use Rattle.cs_codes.specs.declared.seed.Seed.{Seed}
 use Rattle.cs_index.specs.Entries.{entry_cmp, entry, AreEntriesOf}
 use Rattle.cs_index.specs.Picking.{under}
 use Rattle.cs_index.specs.Referring.{refers, referrer_at, least}

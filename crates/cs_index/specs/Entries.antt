@@ -1,6 +1,7 @@
 -- What an index holds: entries, each a code and the place of a document that has it. What changes
 -- do to them.
-use Rattle.std.specs.Prelude.{◌≡◌, ℕ, Bool, true, false, not, cond, ◌&&◌, List, [], ◌∷◌, Option, Some, None, is_some}
+use Rattle.std.specs.Prelude.{◌≡◌, ℕ, Bool, true, false, not, cond, ◌&&◌, List, [], ◌∷◌, Option, Some, None, is_some, Vec}
+use Rattle.std.specs.declared.alloc.Global.{Global}
 use Rattle.std.specs.declared.cmp.Ordering.{Ordering}
 use Rattle.std.specs.Ordering.{is_eq}
 use Rattle.std.specs.BTreeSet.{BTreeSet, contains}
@@ -10,7 +11,8 @@ use Rattle.cs_view.specs.Changes.{Edit}
 use Rattle.cs_view.specs.Dataset.{standing}
 use Rattle.cs_docs.specs.Store.{docs, place_at}
 use Rattle.cs_docs.specs.declared.docs.Docs.{Docs}
-use Rattle.cs_codes.specs.Codes.{Seed, is_among, side_codes}
+use Rattle.cs_codes.specs.Codes.{is_among, side_codes}
+use Rattle.cs_codes.specs.declared.seed.Seed.{Seed}
 use Rattle.cs_index.specs.declared.entry.Entry.{Entry}
 use Rattle.cs_index.specs.contracts.entry.EntryOrd.TheImpl as entry_order
 
@@ -28,6 +30,9 @@ has_entry m q = contains entry_cmp m q
 
 abbrev pub is_in : Entry → List Entry → Bool
 is_in q es = list_any (λ e. same_entry e q) es
+
+abbrev pub is_in_some : Entry → List (Vec Entry Global) → Bool
+is_in_some q lists = list_any (λ es. is_in q es.items) lists
 
 -- under each code of a document of the store stands the document's place
 abbrev pub AreEntriesOf : Seed → BTreeSet Entry → Docs → Type 0

@@ -2,7 +2,8 @@
 use Rattle.std.specs.Prelude.{◌≡◌, ℕ, true, false}
 use Rattle.cs_view.specs.Changes.{Edit}
 use Rattle.cs_docs.specs.declared.docs.Docs.{Docs}
-use Rattle.cs_codes.specs.Codes.{Seed, is_among, side_codes}
+use Rattle.cs_codes.specs.Codes.{is_among, side_codes}
+use Rattle.cs_codes.specs.declared.seed.Seed.{Seed}
 use Rattle.cs_index.specs.Entries.{entry, puts, parts}
 
 -- an entry of a code that both sides of a change have is neither put nor parted with

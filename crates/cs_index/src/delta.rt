@@ -8,12 +8,11 @@ ghost use Rattle.cs_index.specs.Entries.{entry, same_entry, is_in, is_put, is_ap
 ghost use Rattle.cs_index.specs.declared.entry.Entry.{Entry};
 
 use crate::entry::Entry;
-use cs_codes::{codes_of, has_code, sort_codes};
+use cs_codes::{Seed, codes_of, has_code, sort_codes};
 use cs_docs::Docs;
 use cs_value::NoMemory;
 use cs_view::{Change, Doc};
 use std::alloc::Global;
-use std::hash::RandomState;
 
 /// The entries that go and those that come where changes are installed, of the documents that stand
 /// before the changes.
@@ -24,7 +23,7 @@ pub struct Delta {
 }
 
 // The codes of a document in ascending order.
-fn sorted_codes(alloc: Global, seed: &RandomState, doc: &Doc) -> Result<Vec<u64>, NoMemory>
+fn sorted_codes(alloc: Global, seed: &Seed, doc: &Doc) -> Result<Vec<u64>, NoMemory>
     ensures among { IfOk result (λ cs. (x : ℕ) → is_among x cs.items
         ≡ is_among x (key_codes seed.now (document_of doc.now))) }
     ensures ascending { IfOk result (λ cs. IsNonDecreasing cs.items) }
@@ -35,7 +34,7 @@ fn sorted_codes(alloc: Global, seed: &RandomState, doc: &Doc) -> Result<Vec<u64>
 }
 
 // The codes of what stands on a side of a change in ascending order.
-fn side_codes(alloc: Global, seed: &RandomState, side: &Option<Doc>) -> Result<Vec<u64>, NoMemory>
+fn side_codes(alloc: Global, seed: &Seed, side: &Option<Doc>) -> Result<Vec<u64>, NoMemory>
     ensures among { IfOk result (λ cs. (x : ℕ) → is_among x cs.items
         ≡ is_among x (side_codes seed.now (option_map document_of side.now))) }
     ensures ascending { IfOk result (λ cs. IsNonDecreasing cs.items) }
@@ -88,7 +87,7 @@ impl Delta {
     fn add_at(
         &mut self,
         alloc: Global,
-        seed: &RandomState,
+        seed: &Seed,
         before: &Doc,
         after: &Option<Doc>,
         place: u32,
@@ -113,7 +112,7 @@ impl Delta {
     fn add(
         &mut self,
         alloc: Global,
-        seed: &RandomState,
+        seed: &Seed,
         docs: &Docs,
         change: &Change,
     ) -> Result<(), NoMemory>
@@ -135,7 +134,7 @@ impl Delta {
 // What changes do to the entries of the documents that stand before them.
 pub(crate) fn delta_of(
     alloc: Global,
-    seed: &RandomState,
+    seed: &Seed,
     docs: &Docs,
     changes: &[Change],
 ) -> Result<Delta, NoMemory>

@@ -9,6 +9,7 @@ use crate::entry::Entry;
 use crate::narrow::{id_among, rarest};
 use crate::pick::{place_of_id, places_under};
 use crate::put::{enter_changes, put_in, take_out};
+use cs_codes::Seed;
 use cs_docs::Docs;
 use cs_value::NoMemory;
 use cs_view::{Change, Key};
@@ -18,12 +19,12 @@ use std::hash::RandomState;
 
 /// The places of a store's documents by the codes of their keys. It keeps each scalar at an
 /// attribute path of at most four names, each scalar element of a list at such a path, and each
-/// `_ref`: for each of them the code and the place alone. The codes depend on its seed, so that
-/// those who choose the documents can't choose which keys share a code; no answer does.
+/// `_ref`: for each of them the code and the place alone. The codes depend on its seed, which those
+/// who choose the documents don't know; no answer does.
 #[derive(Drop)]
 pub struct Index {
     pub(crate) entries: BTreeSet<Entry>,
-    pub(crate) seed: RandomState,
+    pub(crate) seed: Seed,
     pub(crate) alloc: Global,
 }
 
@@ -38,6 +39,7 @@ impl Index {
     pub fn build(alloc: Global, seed: RandomState, docs: &Docs) -> Result<Index, NoMemory>
         ensures { IfOk result (λ index. IsIndexOf index docs.now) }
     {
+        let seed = Seed::new(&seed);
         let listed = list_all(alloc, &seed, docs)?;
         let entries = set_of(alloc, listed)?;
         Ok(Index {

@@ -12,6 +12,7 @@ mod narrow;
 mod pick;
 mod put;
 mod referrers;
+mod spread;
 mod view;
 
 pub use commit::{InstallFault, install};

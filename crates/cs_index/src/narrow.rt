@@ -5,11 +5,10 @@ ghost use Rattle.cs_codes.specs.Kept.{IsKept};
 ghost use Rattle.cs_index.specs.Picking.{IsImplied};
 
 use crate::entry::Entry;
-use cs_codes::key_code;
+use cs_codes::{Seed, key_code};
 use cs_value::Txt;
 use cs_view::Key;
 use std::collections::BTreeSet;
-use std::hash::RandomState;
 
 // Whether the index keeps the key.
 fn is_kept(key: &Key) -> bool
@@ -56,7 +55,7 @@ pub(crate) fn id_among(keys: &[Key]) -> Option<&Txt>
 
 // The first key that the index keeps and under which at most so many entries stand.
 fn first_of_few<'k>(
-    seed: &RandomState,
+    seed: &Seed,
     entries: &BTreeSet<Entry>,
     keys: &'k [Key],
     most: usize,
@@ -75,7 +74,7 @@ fn first_of_few<'k>(
 /// To find it, no more than some twenty entries are counted for each that stands under it and each
 /// key. `None` where more than `most` entries stand under each of them.
 pub(crate) fn rarest<'k>(
-    seed: &RandomState,
+    seed: &Seed,
     entries: &BTreeSet<Entry>,
     keys: &'k [Key],
     most: usize,

@@ -7,13 +7,12 @@ ghost use Rattle.cs_index.specs.Index.{ArePlacesOf};
 ghost use Rattle.cs_index.specs.Picking.{IsImplied, wanted, under, is_hit, is_found, is_found_at, is_found_among, AreWanted, Finds, ArePlacesIn};
 
 use crate::entry::Entry;
-use cs_codes::key_code;
+use cs_codes::{Seed, key_code};
 use cs_docs::Docs;
 use cs_value::{NoMemory, Txt};
 use cs_view::{Key, has_all};
 use std::alloc::Global;
 use std::collections::BTreeSet;
-use std::hash::RandomState;
 
 // The place of the document with the id, if it has each of the keys.
 fn wanted(docs: &Docs, keys: &[Key], id: &Txt) -> Option<u32>
@@ -119,7 +118,7 @@ fn places_of(alloc: Global, hits: Vec<(&Txt, u32)>) -> Result<Vec<u32>, NoMemory
 // The places of the documents that have each of the keys, found under one that the index keeps.
 pub(crate) fn places_under(
     alloc: Global,
-    seed: &RandomState,
+    seed: &Seed,
     entries: &BTreeSet<Entry>,
     key: &Key,
     keys: &[Key],

@@ -5,13 +5,12 @@ ghost use Rattle.cs_codes.specs.Codes.{key_codes};
 ghost use Rattle.cs_index.specs.Entries.{same_entry, is_in, is_put, enters, Gain, Lose, EnterAll};
 
 use crate::entry::Entry;
-use cs_codes::codes_of;
+use cs_codes::{Seed, codes_of};
 use cs_docs::Docs;
 use cs_value::NoMemory;
 use cs_view::{Change, Doc};
 use std::alloc::Global;
 use std::collections::BTreeSet;
-use std::hash::RandomState;
 
 // Takes out the entries of a list. It takes no memory.
 pub(crate) fn take_out(entries: &mut BTreeSet<Entry>, lost: Vec<Entry>)
@@ -54,7 +53,7 @@ fn put_codes(entries: &mut BTreeSet<Entry>, codes: Vec<u64>, place: u32) -> Resu
 // Puts an entry at the place for each code of a document.
 fn put_at(
     alloc: Global,
-    seed: &RandomState,
+    seed: &Seed,
     entries: &mut BTreeSet<Entry>,
     doc: &Doc,
     place: u32,
@@ -71,7 +70,7 @@ fn put_at(
 #[tactic(auto, using(crate::proofs::Marks::nothing_put))]
 fn enter_change(
     alloc: Global,
-    seed: &RandomState,
+    seed: &Seed,
     entries: &mut BTreeSet<Entry>,
     docs: &Docs,
     change: &Change,
@@ -91,7 +90,7 @@ fn enter_change(
 // Puts the entries of the documents that changes make.
 pub(crate) fn enter_changes(
     alloc: Global,
-    seed: &RandomState,
+    seed: &Seed,
     entries: &mut BTreeSet<Entry>,
     docs: &Docs,
     changes: &[Change],

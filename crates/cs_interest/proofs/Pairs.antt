@@ -9,7 +9,8 @@ use Rattle.std.specs.List.{list_any}
 use Rattle.std.specs.List.Sorted.{IsStrictlySortedBy}
 use Rattle.std.specs.declared.ops.Bound.TheVariants.{Included}
 use Rattle.cs_view.specs.Changes.{Edit}
-use Rattle.cs_codes.specs.Codes.{Seed, id_code, side_codes}
+use Rattle.cs_codes.specs.Codes.{id_code, side_codes}
+use Rattle.cs_codes.specs.declared.seed.Seed.{Seed}
 use Rattle.cs_interest.specs.Interest.{pair, pair_cmp, has_pair, has_some, concerned, is_one, IsNumber, AreAsked}
 use Rattle.cs_interest.specs.declared.interest.Interest.{Interest}
 use Rattle.cs_interest.specs.declared.pair.Pair.{Pair}

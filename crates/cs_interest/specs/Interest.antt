@@ -11,7 +11,8 @@ use Rattle.cs_view.specs.Changes.{Edit}
 use Rattle.cs_view.specs.Limits.{most_names}
 use Rattle.cs_view.specs.declared.key.Key.{Key}
 use Rattle.cs_view.specs.declared.key.Key.TheVariants.{All, Id, Path, Elem, Ref}
-use Rattle.cs_codes.specs.Codes.{Seed, id_code, is_among, key_code, side_codes}
+use Rattle.cs_codes.specs.Codes.{id_code, is_among, key_code, side_codes}
+use Rattle.cs_codes.specs.declared.seed.Seed.{Seed}
 use Rattle.cs_interest.specs.declared.pair.Pair.{Pair}
 use Rattle.cs_interest.specs.declared.interest.Interest.{Interest}
 use Rattle.cs_interest.specs.contracts.pair.PairOrd.TheImpl as pair_order

@@ -8,12 +8,11 @@ ghost use Rattle.cs_interest.specs.Interest.{has_pair, has_some, concerned, Adds
 ghost use Rattle.cs_codes.specs.Codes.{side_codes};
 
 use crate::pair::Pair;
-use cs_codes::{codes_of, id_code};
+use cs_codes::{Seed, codes_of, id_code};
 use cs_value::NoMemory;
 use cs_view::{Change, Doc};
 use std::alloc::Global;
 use std::collections::BTreeSet;
-use std::hash::RandomState;
 
 // The highest number.
 const HIGHEST: u64 = 18_446_744_073_709_551_615;
@@ -62,7 +61,7 @@ fn put_under_all(
 // Puts the numbers that stand under a code of what stands on a side of a change.
 fn put_side(
     alloc: Global,
-    seed: &RandomState,
+    seed: &Seed,
     pairs: &BTreeSet<Pair>,
     side: &Option<Doc>,
     asked: &mut BTreeSet<u64>,
@@ -82,7 +81,7 @@ fn put_side(
 // Puts the numbers that a change concerns.
 fn put_change(
     alloc: Global,
-    seed: &RandomState,
+    seed: &Seed,
     pairs: &BTreeSet<Pair>,
     change: &Change,
     asked: &mut BTreeSet<u64>,
@@ -99,7 +98,7 @@ fn put_change(
 // Puts the numbers that changes concern.
 pub(crate) fn put_changes(
     alloc: Global,
-    seed: &RandomState,
+    seed: &Seed,
     pairs: &BTreeSet<Pair>,
     changes: &[Change],
     asked: &mut BTreeSet<u64>,

@@ -2,13 +2,12 @@
 ghost use Rattle.std.specs.Prelude.{◌≡◌};
 ghost use Rattle.cs_interest.specs.Interest.{interest_code};
 
-use cs_codes::{id_code, key_code, ref_code};
+use cs_codes::{Seed, id_code, key_code, ref_code};
 use cs_view::Key;
-use std::hash::RandomState;
 
 /// The code under which interest in a key is held: that of the key. Interest in a key of every
 /// document has the code 0.
-pub fn interest_code(seed: &RandomState, key: &Key) -> u64
+pub fn interest_code(seed: &Seed, key: &Key) -> u64
     ensures { result ≡ interest_code seed.now key.now }
 {
     match key {

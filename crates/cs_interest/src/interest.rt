@@ -1,11 +1,13 @@
 //! Keys of interest.
 ghost use Rattle.std.specs.Prelude.{◌≡◌, ℕ, false, IfOk, OnErr, OnOk};
 ghost use Rattle.cs_view.specs.View.{edits};
+ghost use Rattle.cs_codes.specs.Codes.{seed_of};
 ghost use Rattle.cs_interest.specs.Interest.{holds, AreAsked, Entered, Left};
 
 use crate::asked::{numbers_of, put_changes, put_under};
 use crate::pair::Pair;
 use crate::put::{put_all, take_all};
+use cs_codes::Seed;
 use cs_value::NoMemory;
 use cs_view::Change;
 use std::alloc::Global;
@@ -13,12 +15,12 @@ use std::collections::BTreeSet;
 use std::hash::RandomState;
 
 /// Numbers by the codes of keys: which of them changes of documents concern is found without a walk
-/// over all. The codes depend on its seed, so that those who choose the keys can't choose which of
-/// them share a code. A number that is asked for one of these has to be tested.
+/// over all. The codes depend on its seed, which those who choose the keys don't know. A number
+/// that is asked for has to be tested.
 #[derive(Drop)]
 pub struct Interest {
     pub(crate) pairs: BTreeSet<Pair>,
-    pub(crate) seed: RandomState,
+    pub(crate) seed: Seed,
     pub(crate) alloc: Global,
 }
 
@@ -26,17 +28,17 @@ impl Interest {
     /// No interest in any key. It takes no memory.
     pub fn new(alloc: Global, seed: RandomState) -> Interest
         ensures empty { (c n : ℕ) → holds result c n ≡ false }
-        ensures seed { result.seed ≡ seed }
+        ensures seed { result.seed ≡ seed_of seed }
     {
         Interest {
             pairs: BTreeSet::new(alloc),
-            seed,
+            seed: Seed::new(&seed),
             alloc,
         }
     }
 
     /// What the codes depend on.
-    pub fn seed(&self) -> &RandomState
+    pub fn seed(&self) -> &Seed
         ensures { result.now ≡ self.now.seed }
     {
         &self.seed

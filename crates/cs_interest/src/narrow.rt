@@ -4,8 +4,8 @@ ghost use Rattle.cs_interest.specs.Interest.{interest_code};
 ghost use Rattle.cs_interest.specs.Narrow.{is_type, scalar_breadth, path_breadth, breadth, narrower, narrowest};
 
 use crate::code::interest_code;
+use cs_codes::Seed;
 use cs_view::{Key, Names, Scalar};
-use std::hash::RandomState;
 
 // Whether the path is `_type` alone.
 fn is_type(names: &Names) -> bool
@@ -63,7 +63,7 @@ fn narrower<'k>(one: &'k Key, other: &'k Key) -> &'k Key
 /// The code under which interest in the documents that have each of the keys is held: that of the
 /// narrowest key, the one that the fewest documents are expected to have; the code of every
 /// document where there is no key. It takes no memory.
-pub fn narrowest_code(seed: &RandomState, keys: &[Key]) -> u64
+pub fn narrowest_code(seed: &Seed, keys: &[Key]) -> u64
     ensures { result ≡ interest_code seed.now (narrowest keys.now) }
 {
     let every = Key::All;

@@ -1,6 +1,7 @@
 -- That a last answer is found by its keys, once its number was put under them or taken out.
 use Rattle.std.proofs.Common.{◌≡◌, ◌∙◌, ℕ, List, [], ◌∷◌, Bool, true, false, cond, ◌&&◌, refl, sym, ap, subst, nat_eq, eq-eqb}
-use Rattle.cs_codes.specs.Codes.{Seed, is_among}
+use Rattle.cs_codes.specs.Codes.{is_among}
+use Rattle.cs_codes.specs.declared.seed.Seed.{Seed}
 use Rattle.cs_interest.specs.Interest.{holds, Entered, Left}
 use Rattle.cs_interest.specs.declared.interest.Interest.{Interest}
 use Rattle.cs_kept.specs.Found.{IsFound, IsCoded, KeepsOthers, codes_of, has_code, hit_key}

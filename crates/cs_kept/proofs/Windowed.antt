@@ -20,7 +20,7 @@ use Rattle.cs_meaning.specs.Looked.{query_looked}
 use Rattle.cs_meaning.specs.Values.{query_value}
 use Rattle.cs_window.specs.Laws.{LookedSettlesTail, WindowedIsFiltered, WindowedIsTailOfHits, WindowSettlesTailOver}
 use Rattle.cs_window.specs.Windowed.{is_windowed}
-use Rattle.cs_codes.specs.Codes.{Seed}
+use Rattle.cs_codes.specs.declared.seed.Seed.{Seed}
 use Rattle.cs_hits.proofs.Brought.{stays}
 use Rattle.cs_kept.specs.Fits.{is_by_hits, FitsRecord, FitsWindow, RefreshesKept, SameKeys}
 use Rattle.cs_hits.specs.Behind.{Follows}

@@ -5,7 +5,8 @@ use Rattle.cs_value.specs.View.{tree}
 use Rattle.cs_syntax.specs.Expression.{Expression}
 use Rattle.cs_meaning.specs.Looked.{query_looked}
 use Rattle.cs_meaning.specs.Values.{query_value}
-use Rattle.cs_codes.specs.Codes.{Seed, is_among}
+use Rattle.cs_codes.specs.Codes.{is_among}
+use Rattle.cs_codes.specs.declared.seed.Seed.{Seed}
 use Rattle.cs_kept.specs.Fits.{SameKeys}
 use Rattle.cs_kept.specs.Found.{has_code}
 use Rattle.cs_kept.specs.Keys.{all_keys}

@@ -9,7 +9,8 @@ use Rattle.cs_syntax.specs.Expression.{Expression}
 use Rattle.cs_syntax.specs.Queries.{expression_of}
 use Rattle.cs_view.specs.declared.key.Key.{Key}
 use Rattle.cs_plan.specs.Simple.{query_keys}
-use Rattle.cs_codes.specs.Codes.{Seed, is_among}
+use Rattle.cs_codes.specs.Codes.{is_among}
+use Rattle.cs_codes.specs.declared.seed.Seed.{Seed}
 use Rattle.cs_interest.specs.Interest.{holds, interest_code}
 use Rattle.cs_interest.specs.Narrow.{narrowest}
 use Rattle.cs_interest.specs.declared.interest.Interest.{Interest}

@@ -9,6 +9,7 @@ ghost use Rattle.cs_kept.specs.Fits.{FitsWindow};
 ghost use Rattle.cs_kept.specs.Keys.{rest_of};
 
 use crate::keys::Keys;
+use cs_codes::Seed;
 use cs_eval::{eval, query_key, tail_over};
 use cs_hits::Behind;
 use cs_syntax::Query;
@@ -16,7 +17,6 @@ use cs_value::{Fields, NoMemory, Steps, Val};
 use cs_view::{Record, View};
 use cs_window::{window_settles_tail_over, windowed_is_filtered, windowed_is_tail_of_hits};
 use std::alloc::Global;
-use std::hash::RandomState;
 use std::sync::ledger::Ledger;
 
 /// The value of a query, and the keys that finding it looked up.
@@ -29,7 +29,7 @@ pub(crate) struct Evaluated {
 /// The value of a query over the view.
 pub(crate) fn evaluate<V: View<L>, L: Ledger>(
     alloc: Global,
-    seed: &RandomState,
+    seed: &Seed,
     query: &Query,
     params: &Fields,
     view: &V,
@@ -48,7 +48,7 @@ pub(crate) fn evaluate<V: View<L>, L: Ledger>(
 pub(crate) fn evaluate_behind<V: View<L>, L: Ledger>(
     behind: &mut Behind,
     alloc: Global,
-    seed: &RandomState,
+    seed: &Seed,
     query: &Query,
     params: &Fields,
     view: &V,

@@ -14,6 +14,7 @@ ghost use Rattle.cs_kept.specs.Found.{IsCoded, IsFound, KeepsOthers, codes_of};
 use crate::mapped::Mapped;
 use crate::recorded::Recorded;
 use crate::rows::Rows;
+use cs_codes::Seed;
 use cs_eval::mapped;
 use cs_interest::Interest;
 use cs_plan::simple;
@@ -21,7 +22,6 @@ use cs_syntax::Query;
 use cs_value::{Fields, NoMemory, Steps, Val};
 use cs_view::{Change, View};
 use std::alloc::Global;
-use std::hash::RandomState;
 use std::sync::ledger::Ledger;
 
 /// How a last answer is kept.
@@ -42,7 +42,7 @@ impl Kept {
     /// visited than have its key. `NoMemory` where the allocator has no room for it.
     pub fn make<V: View<L>, L: Ledger>(
         alloc: Global,
-        seed: &RandomState,
+        seed: &Seed,
         query: Query,
         params: Fields,
         view: &V,

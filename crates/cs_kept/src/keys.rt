@@ -8,11 +8,11 @@ ghost use Rattle.cs_interest.specs.Interest.{interest_code};
 ghost use Rattle.cs_kept.specs.Fits.{SameKeys};
 ghost use Rattle.cs_kept.specs.Keys.{ids_of, all_keys, rest_of};
 
+use cs_codes::Seed;
 use cs_interest::interest_code;
 use cs_value::{NoMemory, OrderedMap};
 use cs_view::{Change, Key, Record};
 use std::alloc::Global;
-use std::hash::RandomState;
 
 /// The keys that finding an answer looked up: ids, each once, apart from the others, so that a
 /// change finds its id among them; and the own key of a windowed query, apart from those that the
@@ -27,7 +27,7 @@ pub(crate) struct Keys {
 
 impl Keys {
     /// The keys of the record.
-    pub(crate) fn of(alloc: Global, seed: &RandomState, looked: Record) -> Result<Keys, NoMemory>
+    pub(crate) fn of(alloc: Global, seed: &Seed, looked: Record) -> Result<Keys, NoMemory>
         ensures keys { IfOk result (λ keys. SameKeys (all_keys keys) looked) }
         ensures own { IfOk result (λ keys. keys.own ≡ []) }
         ensures codes { IfOk result
@@ -48,7 +48,7 @@ impl Keys {
     /// The own key of a windowed query, and the keys of the record.
     pub(crate) fn with(
         alloc: Global,
-        seed: &RandomState,
+        seed: &Seed,
         own: Key,
         looked: Record,
     ) -> Result<Keys, NoMemory>
@@ -64,7 +64,7 @@ impl Keys {
     }
 
     // Adds the key and its code; an id that is there stays as it is.
-    fn add(&mut self, seed: &RandomState, key: Key) -> Result<(), NoMemory>
+    fn add(&mut self, seed: &Seed, key: Key) -> Result<(), NoMemory>
         ensures keys { OnOk result (SameKeys (rest_of self.new) (rest_of self.old ++ key ∷ [])) }
         ensures own { self.new.own ≡ self.old.own }
         ensures codes { OnOk result

@@ -18,6 +18,7 @@ ghost use Rattle.cs_kept.specs.declared.kept.Kept.{Kept};
 
 use crate::same::is_same;
 use crate::settling::settle_each;
+use cs_codes::Seed;
 use cs_eval::{hits_have_key, query_key};
 use cs_hits::{
     Share, answer_of, codes_of, find_shares, follow_shares, renew_shares, shares_touched,
@@ -29,7 +30,6 @@ use cs_view::laws::{changes_lead_back_and_on, filter_follows_changes, untouched_
 use cs_view::{Change, Key, View, is_touched};
 use cs_window::{looked_settles_share, mapped_is_filtered, mapped_is_shares_of_hits};
 use std::alloc::Global;
-use std::hash::RandomState;
 use std::mem;
 use std::sync::ledger::Ledger;
 
@@ -50,7 +50,7 @@ impl Mapped {
     /// The query, which is not simple, with its value over the view as its answer.
     pub(crate) fn build<V: View<L>, L: Ledger>(
         alloc: Global,
-        seed: &RandomState,
+        seed: &Seed,
         query: Query,
         params: Fields,
         view: &V,

@@ -17,6 +17,7 @@ ghost use Rattle.cs_kept.specs.declared.kept.Kept.{Kept};
 use crate::evaluated::{Evaluated, evaluate, evaluate_behind};
 use crate::keys::Keys;
 use crate::same::is_same;
+use cs_codes::Seed;
 use cs_eval::{hits_have_key, looked_settles_value, windowed};
 use cs_hits::Behind;
 use cs_interest::Interest;
@@ -28,7 +29,6 @@ use cs_window::{
     looked_settles_tail, window_settles_tail_over, windowed_is_filtered, windowed_is_tail_of_hits,
 };
 use std::alloc::Global;
-use std::hash::RandomState;
 use std::sync::ledger::Ledger;
 
 /// A query with its last answer, and the keys that finding it looked up. Where it is windowed, with
@@ -46,7 +46,7 @@ impl Recorded {
     /// The query, which is neither simple nor mapped, with its value over the view as its answer.
     pub(crate) fn build<V: View<L>, L: Ledger>(
         alloc: Global,
-        seed: &RandomState,
+        seed: &Seed,
         query: Query,
         params: Fields,
         view: &V,
@@ -73,7 +73,7 @@ impl Recorded {
     // The same of a windowed query.
     fn build_windowed<V: View<L>, L: Ledger>(
         alloc: Global,
-        seed: &RandomState,
+        seed: &Seed,
         query: Query,
         params: Fields,
         view: &V,
@@ -121,7 +121,7 @@ impl Recorded {
     fn evaluate<V: View<L>, L: Ledger>(
         &mut self,
         alloc: Global,
-        seed: &RandomState,
+        seed: &Seed,
         view: &V,
         steps: &mut Steps<L>,
     ) -> Result<Evaluated, NoMemory>

@@ -17,6 +17,7 @@ ghost use Rattle.cs_kept.specs.Rows.{rows, is_row, AsksTheSame, IsSettled};
 ghost use Rattle.cs_kept.specs.declared.kept.Kept.{Kept};
 
 use crate::same::is_same;
+use cs_codes::Seed;
 use cs_eval::{query_keys, simple_is_tail_of_hits, tail};
 use cs_hits::Hits;
 use cs_interest::narrowest_code;
@@ -26,7 +27,6 @@ use cs_view::laws::{changes_lead_back_and_on, filter_follows_changes};
 use cs_view::{Change, View};
 use cs_window::{simple_is_filtered, window_settles_tail};
 use std::alloc::Global;
-use std::hash::RandomState;
 use std::sync::ledger::Ledger;
 
 /// A simple query with the documents that make its filter true, its answer, and the code under
@@ -41,12 +41,7 @@ pub struct Rows {
 }
 
 // The code under which interest in the hits of a simple query is held, as a list.
-fn codes(
-    alloc: Global,
-    seed: &RandomState,
-    query: &Query,
-    params: &Fields,
-) -> Result<Vec<u64>, NoMemory>
+fn codes(alloc: Global, seed: &Seed, query: &Query, params: &Fields) -> Result<Vec<u64>, NoMemory>
     requires { is_filtered (expression_of query.now) ≡ true }
     ensures { IfOk result (λ cs. cs.items
         ≡ interest_code seed.now (hit_key (expression_of query.now) (fields params.now)) ∷ []) }
@@ -61,7 +56,7 @@ impl Rows {
     /// The query with its hits in the view, and its answer.
     pub(crate) fn build<V: View<L>, L: Ledger>(
         alloc: Global,
-        seed: &RandomState,
+        seed: &Seed,
         query: Query,
         params: Fields,
         view: &V,

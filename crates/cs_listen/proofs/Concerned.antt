@@ -15,7 +15,8 @@ use Rattle.cs_view.specs.declared.key.Key.{Key}
 use Rattle.cs_view.specs.declared.key.Key.TheVariants.{All, Id, Path, Elem, Ref}
 use Rattle.cs_view.proofs.Booleans.{and-left, and-right}
 use Rattle.cs_view.proofs.Datasets.{same_id-same}
-use Rattle.cs_codes.specs.Codes.{Seed, key_codes, id_code, is_among, key_code}
+use Rattle.cs_codes.specs.Codes.{key_codes, id_code, is_among, key_code}
+use Rattle.cs_codes.specs.declared.seed.Seed.{Seed}
 use Rattle.cs_codes.specs.Kept.{IsKept}
 use Rattle.cs_codes.specs.Laws.{KeysAreListed}
 use Rattle.cs_interest.specs.Interest.{are_few, interest_code}

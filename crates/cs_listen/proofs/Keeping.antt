@@ -4,7 +4,8 @@ use Rattle.std.specs.Prelude.{filter}
 use Rattle.std.proofs.lemmas.Bool.{and_from, or_right}
 use Rattle.cs_value.specs.View.{fields}
 use Rattle.cs_view.proofs.Booleans.{and-left, and-right}
-use Rattle.cs_codes.specs.Codes.{Seed, is_among}
+use Rattle.cs_codes.specs.Codes.{is_among}
+use Rattle.cs_codes.specs.declared.seed.Seed.{Seed}
 use Rattle.cs_plain.specs.Predicates.{filter as filter_of}
 use Rattle.cs_listen.specs.Coded.{filter_code, is_coded, are_coded}
 use Rattle.cs_listen.specs.declared.listening.Listening.{Listening}

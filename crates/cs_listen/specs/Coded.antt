@@ -9,7 +9,8 @@ use Rattle.cs_value.specs.View.{fields}
 use Rattle.cs_syntax.specs.Expression.{Expression}
 use Rattle.cs_view.specs.Changes.{Edit}
 use Rattle.cs_view.specs.Document.{id_of}
-use Rattle.cs_codes.specs.Codes.{Seed, key_codes, id_code, is_among}
+use Rattle.cs_codes.specs.Codes.{key_codes, id_code, is_among}
+use Rattle.cs_codes.specs.declared.seed.Seed.{Seed}
 use Rattle.cs_interest.specs.Interest.{interest_code}
 use Rattle.cs_interest.specs.Narrow.{narrowest}
 use Rattle.cs_plain.specs.Keyed.{predicate_keys}

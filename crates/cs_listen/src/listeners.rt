@@ -12,8 +12,8 @@ ghost use Rattle.cs_reply.specs.View.{event};
 use crate::hearing::hear_all;
 use crate::listening::Listening;
 use crate::sought::{filter_code, sought_codes, waiting_codes};
-use cs_codes::has_code;
 use cs_codes::laws::keys_are_listed;
+use cs_codes::{Seed, has_code};
 use cs_interest::laws::narrowest_is_had;
 use cs_plain::{Plain, true_has_predicate_keys};
 use cs_reply::Event;
@@ -49,7 +49,7 @@ pub enum ListenFault {
 #[derive(Drop)]
 pub struct Listeners {
     alloc: Global,
-    seed: RandomState,
+    seed: Seed,
     made: Vec<Listening>,
     waiting: Vec<u64>,
     pub ghost coded: { are_coded seed waiting.items made.items ≡ true },
@@ -59,14 +59,14 @@ pub struct Listeners {
 impl Listeners {
     ghost use Rattle.cs_listen.specs.Listeners.{HasRoom, NotAdded, NotTaken, is_listening, listeners, with_one, with_query, without};
 
-    /// No listener. Which keys share a code depends on the seed, so that no one who chooses
-    /// documents can choose it. It takes no memory.
+    /// No listener. Which keys share a code depends on the seed, which no one who chooses documents
+    /// knows. It takes no memory.
     pub fn new(alloc: Global, seed: RandomState) -> Listeners
         ensures { listeners result ≡ [] }
     {
         Listeners {
             alloc,
-            seed,
+            seed: Seed::new(&seed),
             made: Vec::new(alloc),
             waiting: Vec::new(alloc),
         }

@@ -8,18 +8,17 @@ ghost use Rattle.cs_plain.specs.Predicates.{filter};
 ghost use Rattle.cs_listen.specs.Coded.{change_codes, changes_codes, filter_code, is_sought, all_codes};
 
 use crate::listening::Listening;
-use cs_codes::{has_code, id_code, put_codes, sort_codes};
+use cs_codes::{Seed, has_code, id_code, put_codes, sort_codes};
 use cs_interest::narrowest_code;
 use cs_plain::{Plain, keys};
 use cs_value::{Fields, NoMemory};
 use cs_view::{Change, Doc};
 use std::alloc::Global;
-use std::hash::RandomState;
 
 /// The code of the narrowest of a predicate's keys.
 pub(crate) fn filter_code(
     alloc: Global,
-    seed: &RandomState,
+    seed: &Seed,
     predicate: &Plain,
     params: &Fields,
 ) -> Result<u64, NoMemory>
@@ -58,7 +57,7 @@ pub(crate) fn waiting_codes(
 }
 
 // Puts the codes of what stands on a side of a change behind the others.
-fn put_side(seed: &RandomState, side: &Option<Doc>, out: &mut Vec<u64>) -> Result<(), NoMemory>
+fn put_side(seed: &Seed, side: &Option<Doc>, out: &mut Vec<u64>) -> Result<(), NoMemory>
     ensures { OnOk result (out.new.items
         ≡ out.old.items ++ all_codes seed.now (option_map document_of side.now)) }
 {
@@ -72,7 +71,7 @@ fn put_side(seed: &RandomState, side: &Option<Doc>, out: &mut Vec<u64>) -> Resul
 }
 
 // Puts the codes of both sides of a change.
-fn put_change(seed: &RandomState, change: &Change, out: &mut Vec<u64>) -> Result<(), NoMemory>
+fn put_change(seed: &Seed, change: &Change, out: &mut Vec<u64>) -> Result<(), NoMemory>
     ensures { OnOk result (out.new.items
         ≡ out.old.items ++ change_codes seed.now (edit change.now)) }
 {
@@ -81,11 +80,7 @@ fn put_change(seed: &RandomState, change: &Change, out: &mut Vec<u64>) -> Result
 }
 
 // The codes of changes.
-fn codes_of_changes(
-    alloc: Global,
-    seed: &RandomState,
-    changes: &[Change],
-) -> Result<Vec<u64>, NoMemory>
+fn codes_of_changes(alloc: Global, seed: &Seed, changes: &[Change]) -> Result<Vec<u64>, NoMemory>
     ensures { IfOk result (λ cs. cs.items ≡ changes_codes seed.now (edits changes.now)) }
 {
     let mut out = Vec::new(alloc);
@@ -113,7 +108,7 @@ fn waited(alloc: Global, waiting: &Vec<u64>, codes: &Vec<u64>) -> Result<Vec<u64
 /// The codes of changes that are among some which ascend, ascending.
 pub(crate) fn sought_codes(
     alloc: Global,
-    seed: &RandomState,
+    seed: &Seed,
     waiting: &Vec<u64>,
     changes: &[Change],
 ) -> Result<Vec<u64>, NoMemory>

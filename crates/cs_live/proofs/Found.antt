@@ -10,7 +10,8 @@ use Rattle.std.proofs.lemmas.List.Quantifiers.{all_pairs_remove, all_pairs_push}
 use Rattle.std.proofs.Math.Seq.{map-set_same}
 use Rattle.std.proofs.lemmas.Grind.{common_steps}
 use Rattle.cs_view.proofs.Booleans.{or-left, or-right}
-use Rattle.cs_codes.specs.Codes.{Seed, is_among}
+use Rattle.cs_codes.specs.Codes.{is_among}
+use Rattle.cs_codes.specs.declared.seed.Seed.{Seed}
 use Rattle.cs_interest.specs.Interest.{holds, is_of, Entered, Left}
 use Rattle.cs_interest.specs.declared.interest.Interest.{Interest}
 use Rattle.cs_kept.specs.Found.{IsFound, IsCoded, KeepsOthers, codes_of}

@@ -12,13 +12,13 @@ ghost use Rattle.cs_live.specs.Fits.{FitsOne, Refreshes};
 ghost use Rattle.cs_kept.specs.Found.{IsCoded, IsFound, KeepsOthers};
 ghost use Rattle.cs_live.specs.Lives.{has_live_name, is_stale, made, news_of, say};
 
+use cs_codes::Seed;
 use cs_interest::Interest;
 use cs_kept::Kept;
 use cs_syntax::Query;
 use cs_value::{Fields, NoMemory, Steps, Txt, Val};
 use cs_view::{Change, View};
 use std::alloc::Global;
-use std::hash::RandomState;
 use std::sync::ledger::Ledger;
 
 /// A live query with its last answer, and its number among those that are interested in keys.
@@ -45,7 +45,7 @@ impl Entry {
         alloc: Global,
         name: Txt,
         number: u64,
-        seed: &RandomState,
+        seed: &Seed,
         query: Query,
         params: Fields,
         view: &V,

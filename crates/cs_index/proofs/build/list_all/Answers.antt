@@ -5,7 +5,8 @@ use Rattle.cs_value.specs.Tree.{Tree}
 use Rattle.cs_view.specs.Document.{id_of}
 use Rattle.cs_view.specs.View.{document_of}
 use Rattle.cs_docs.specs.Store.{doc_at}
-use Rattle.cs_index.specs.Entries.{is_in, or_some, puts}
+use Rattle.cs_index.specs.Entries.{or_some, puts}
+use Rattle.cs_index.specs.Spreading.{is_spread}
 use Rattle.cs_docs.specs.Gathered.{entering}
 use Rattle.cs_index.proofs.Applied.{put_at_place}
 use Rattle.cs_index.proofs.Split.{split, no_rest, or_null}
@@ -29,9 +30,9 @@ loop-place-preserved c =
       λ q.
           ap (or_some (puts c.args.seed.now d q) (entering s.more))
           (c.in_ok-list_doc.ensures q
-          ∙ ap (λ b. cond b true (is_in q c.loop-place.entries.items)) (put_at_place c.args.seed.now d c.in-Some.place this q c.at-doc.ensures)
-          ∙ ap (λ (o : Option Tree). cond (puts c.args.seed.now d q (id_of (or_null o), (None, Some (or_null o)))) true (is_in q c.loop-place.entries.items)) one)
-          ∙ sym (ap (λ ds. or_some (puts c.args.seed.now d q) (entering ds) (is_in q c.loop-place.entries.items)) s.is)
+          ∙ ap (λ b. cond b true (is_spread q c.loop-place.spread)) (put_at_place c.args.seed.now d c.in-Some.place this q c.at-doc.ensures)
+          ∙ ap (λ (o : Option Tree). cond (puts c.args.seed.now d q (id_of (or_null o), (None, Some (or_null o)))) true (is_spread q c.loop-place.spread)) one)
+          ∙ sym (ap (λ ds. or_some (puts c.args.seed.now d q) (entering ds) (is_spread q c.loop-place.spread)) s.is)
           ∙ c.loop-place.invariant.2 q,
     )
 
@@ -39,5 +40,5 @@ pub returns : goal.returns
 returns c = λ q.
     let ended : into_iter_items c.loop-place.place-iterator ≡ [] = grind (arith, common_steps, c.in-None.ensures.steps.0) in
     let over : c.loop-place.invariant.0 ≡ [] = no_rest c.loop-place.invariant.0 (sym (ap (λ ps. map (doc_at c.args.docs.now) ps) ended) ∙ c.loop-place.invariant.1) in
-    sym (ap (λ ds. or_some (puts c.args.seed.now c.args.docs.now q) (entering ds) (is_in q c.loop-place.entries.items)) over)
+    sym (ap (λ ds. or_some (puts c.args.seed.now c.args.docs.now q) (entering ds) (is_spread q c.loop-place.spread)) over)
     ∙ c.loop-place.invariant.2 q

@@ -1,6 +1,7 @@
 use Rattle.std.proofs.Common.{◌≡◌, ◌∙◌, ◌∷◌, ap, map, sym, ℕ, List, subst}
 use Rattle.std.proofs.lemmas.Slice.Eq.{bytes_eq-Decides}
-use Rattle.cs_codes.specs.Codes.{Seed, is_among}
+use Rattle.cs_codes.specs.Codes.{is_among}
+use Rattle.cs_codes.specs.declared.seed.Seed.{Seed}
 use Rattle.cs_interest.specs.Interest.{Entered, Left, interest_code}
 use Rattle.cs_kept.specs.Found.{IsCoded}
 use Rattle.cs_hits.specs.Shares.{shares_looked}

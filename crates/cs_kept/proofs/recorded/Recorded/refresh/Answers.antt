@@ -5,7 +5,7 @@ use Rattle.cs_view.specs.Dataset.{ascending}
 use Rattle.cs_view.specs.Touched.{touched}
 use Rattle.cs_view.specs.View.{edits}
 use Rattle.cs_view.proofs.Booleans.{and-left}
-use Rattle.cs_codes.specs.Codes.{Seed}
+use Rattle.cs_codes.specs.declared.seed.Seed.{Seed}
 use Rattle.cs_interest.specs.Interest.{Entered, Left}
 use Rattle.cs_kept.specs.Found.{IsCoded}
 use Rattle.cs_kept.specs.Keys.{all_keys, rest_of}

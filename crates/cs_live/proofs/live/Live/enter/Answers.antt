@@ -1,6 +1,6 @@
 use Rattle.std.proofs.Common.{◌+◌, ℕ, List, sym, subst, arith}
 use Rattle.std.specs.List.{All}
-use Rattle.cs_codes.specs.Codes.{Seed}
+use Rattle.cs_codes.specs.declared.seed.Seed.{Seed}
 use Rattle.cs_interest.specs.Interest.{Left}
 use Rattle.cs_live.specs.Fits.{FitsOne}
 use Rattle.cs_kept.specs.Found.{IsCoded, codes_of}
