@@ -5,6 +5,8 @@ ghost use Rattle.std.specs.Prelude.{◌≡◌, ◌≢◌, ℕ, List, All, Contai
 ghost use Rattle.cs_table.specs.Ascending.{IsAscending};
 ghost use Rattle.cs_table.specs.Row.{row_of};
 
+use cs_value::compared;
+
 /// A row of a table, which has a name.
 pub trait Row {
     ghost called: { Self → List ℕ };
@@ -37,7 +39,7 @@ impl<'t, R: Row> Table<'t, R> {
         ensures found { IfSome result (λ r. Contains self.now.rows.now r.now) }
         ensures none { IfNone result (All (λ r. R.called r ≢ name.now) self.now.rows.now) }
     {
-        match self.rows.binary_search_by(|row| row.name().cmp(name)) {
+        match self.rows.binary_search_by(|row| compared(row.name(), name)) {
             Ok(place) => Some(&self.rows[place]),
             Err(_) => None,
         }

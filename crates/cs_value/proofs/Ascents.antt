@@ -104,6 +104,17 @@ module _ {V : Type 0} where
         Ascend-remove_entry test es s.1,
       )
 
+  all_sooner : (P : Name → Type 0) (es fs : Entries V)
+      → AllByRecursion P (keys_of (es ++ fs)) → AllByRecursion P (keys_of es)
+  all_sooner P [] fs a = tt
+  all_sooner P (e ∷ es) fs a = (a.0, all_sooner P es fs a.1)
+
+  pub ascend_sooner : (es fs : Entries V) → Ascend (es ++ fs) → Ascend es
+  unfolding IsStrictlySortedBy
+  ascend_sooner [] fs s = tt
+  ascend_sooner (e ∷ es) fs s =
+      (all_sooner (λ y. compares e.0 y ≡ Less) es fs s.0, ascend_sooner es fs s.1)
+
   ascend_later : (es fs : Entries V) → Ascend (es ++ fs) → Ascend fs
   unfolding IsStrictlySortedBy
   ascend_later [] fs s = s
@@ -115,6 +126,29 @@ module _ {V : Type 0} where
   put_first e [] s = refl
   put_first e (f ∷ fs) s =
       ap (λ o. put_at e.0 e.1 o f fs (insert_entry compares fs e.0 e.1)) s.0.0
+
+  last_above : (P : Name → Type 0) (es : Entries V) (e : Name × V)
+      → AllByRecursion P (keys_of (es ++ e ∷ [])) → P e.0
+  last_above P [] e a = a.0
+  last_above P (f ∷ es) e a = last_above P es e a.1
+
+  -- a pair whose name is above all others goes last
+  pub put_above : (es : Entries V) (e : Name × V) → Ascend (es ++ e ∷ [])
+      → insert_entry compares es e.0 e.1 ≡ es ++ e ∷ []
+  unfolding IsStrictlySortedBy
+  put_above [] e s = refl
+  put_above (f ∷ es) e s =
+      let above : compares e.0 f.0 ≡ Greater = nat_list_cmp_total.antisymm e.0 f.0
+      ∙ ap ordering_reverse (last_above (λ y. compares f.0 y ≡ Less) es e s.0) in
+      ap (λ o. put_at e.0 e.1 o f es (insert_entry compares es e.0 e.1)) above
+      ∙ ap (λ xs. f ∷ xs) (put_above es e s.1)
+
+  -- pairs stay in order when one goes last, whether or not there was memory for it
+  pub Ascend-last : {A B : Type 0} (r : Result A B) (old new : Entries V) (e : Name × V)
+      → Ascend old → Ascend (old ++ e ∷ [])
+      → OnOk r (new ≡ old ++ e ∷ []) → OnErr r (new ≡ old) → Ascend new
+  Ascend-last (Ok a) old new e s t is _ = subst Ascend (sym is) t
+  Ascend-last (Err b) old new e s t _ is = subst Ascend (sym is) s
 
   -- the last of some pairs, put into a tree of those after it
   pub moved : (all row rest tree new : Entries V) (e : Name × V) → Ascend all → row ++ tree ≡ all

@@ -40,7 +40,7 @@ fn copy_fields(alloc: Global, object: &Fields) -> Result<Fields, NoMemory>
     let mut copies = Fields::with_capacity(alloc, object.pairs.len())?;
     let mut pairs = object.pairs.iter();
     while let Some((name, member)) = pairs.next_copied(alloc)? {
-        drop(copies.put(name, copy(alloc, member)?)?);
+        copies.pairs.push_last(name, copy(alloc, member)?)?;
     }
     Ok(copies)
 }

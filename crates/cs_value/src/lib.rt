@@ -18,5 +18,6 @@ pub use id::is_id;
 pub use map::OrderedMap;
 pub use memory::{NoMemory, NoName};
 pub use steps::Steps;
+pub use txt::order::compared;
 pub use txt::{MOST_INSIDE, Txt};
 pub use val::{Fields, Val};

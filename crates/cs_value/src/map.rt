@@ -1,5 +1,5 @@
 //! An ordered map from names to values, of one allocation while it is small.
-ghost use Rattle.std.specs.Prelude.{◌≡◌, ◌^◌, ◌<◌, [], length, IfOk, OnOk, OnErr, ◌↔◌, IsTrue};
+ghost use Rattle.std.specs.Prelude.{◌≡◌, ◌^◌, ◌<◌, [], ◌∷◌, ◌++◌, length, IfOk, OnOk, OnErr, ◌↔◌, IsTrue};
 ghost use Rattle.std.specs.Map.{lookup, remove_entry};
 ghost use Rattle.std.specs.BTreeMap.{insert_entry, is_at};
 ghost use Rattle.std.specs.Option.{option_copied};
@@ -16,6 +16,7 @@ mod tree;
 use crate::memory::NoMemory;
 use crate::txt::Txt;
 use iter::{IntoIter, Iter};
+use name::Name;
 use std::alloc::Global;
 use std::marker::Model;
 use stored::Stored;
@@ -139,6 +140,18 @@ impl<V> OrderedMap<V> {
         ensures kept { OnErr result (self.new ≡ self.old) }
     {
         self.stored.insert(self.alloc, name, value)
+    }
+
+    /// Puts the value at a name that is above all others. `NoMemory` where the map cannot grow; it
+    /// is unchanged then.
+    pub(crate) fn push_last(&mut self, name: Name, value: V) -> Result<(), NoMemory>
+    where
+        V: Drop,
+        requires { Ascend (self.old ++ (name, value) ∷ []) }
+        ensures last { OnOk result (self.new ≡ self.old ++ (name, value) ∷ []) }
+        ensures kept { OnErr result (self.new ≡ self.old) }
+    {
+        self.stored.push_last(self.alloc, name, value)
     }
 
     /// Takes the name out, and gives its value. `None` exactly where the map lacks the name.

@@ -7,6 +7,7 @@ ghost use Rattle.std.specs.Cmp.Lexicographic.{slice_cmp, pointwise};
 ghost use Rattle.std.specs.Cmp.Rules.{comparing};
 
 pub(crate) mod inside;
+pub(crate) mod order;
 
 use crate::memory::NoMemory;
 use inside::Short;

@@ -58,7 +58,7 @@ impl<'a, V> Iter<'a, V> {
     }
 
     /// The next pair, with a copy of its name. `NoMemory` where the allocator has no room for it.
-    pub(crate) fn next_copied(&mut self, alloc: Global) -> Result<Option<(Txt, &'a V)>, NoMemory>
+    pub(crate) fn next_copied(&mut self, alloc: Global) -> Result<Option<(Name, &'a V)>, NoMemory>
         ensures { IfOk result (λ next. MatchOption next
             ((self.old ≡ []) × (self.new ≡ []))
             (λ pair. self.old ≡ (pair.0, pair.1.now) ∷ self.new)) }
@@ -69,7 +69,9 @@ impl<'a, V> Iter<'a, V> {
                 None => Ok(None),
             },
             Lent::LentTree(pairs) => match next_of_tree(pairs) {
-                Some((name, value)) => Ok(Some((Txt::copy_of(alloc, name)?, value))),
+                Some((name, value)) => {
+                    Ok(Some((Name::of(alloc, Txt::copy_of(alloc, name)?)?, value)))
+                }
                 None => Ok(None),
             },
         }

@@ -1,5 +1,7 @@
 //! The name of a pair in a vector.
-ghost use Rattle.std.specs.Prelude.{◌≡◌, IfOk};
+ghost use Rattle.std.specs.Prelude.{◌≡◌, IfOk, IsTrue};
+ghost use Rattle.std.specs.BTreeMap.{is_at};
+ghost use Rattle.cs_value.specs.Entries.{compares};
 
 use crate::memory::NoMemory;
 use crate::txt::Txt;
@@ -34,6 +36,14 @@ impl Model for Name {
     ghost view = { λ n. name_bytes n.held };
 }
 
+// Whether the two have one length and one last byte, as equal texts have. It takes no call, and few
+// names of an object agree in both.
+fn is_alike(one: &str, other: &str) -> bool
+    ensures { one.now ≡ other.now → IsTrue result }
+{
+    one.len() == other.len() && one.as_bytes().last() == other.as_bytes().last()
+}
+
 impl Name {
     /// The name that the text is. `NoMemory` where the allocator has no room for a longer one.
     pub(super) fn of(alloc: Global, text: Txt) -> Result<Name, NoMemory>
@@ -60,6 +70,27 @@ impl Name {
         }
     }
 
+    /// Whether the name is the text.
+    pub(super) fn is(&self, text: &str) -> bool
+        ensures { result ≡ is_at (compares text.now) self.now }
+    {
+        let own = self.as_str();
+        is_alike(text, own) && text == own
+    }
+
+    /// The same name again. `NoMemory` where the allocator has no room for a longer one.
+    pub(super) fn copy(&self, alloc: Global) -> Result<Name, NoMemory>
+        ensures { IfOk result (λ name. name ≡ self.now) }
+    {
+        let held = match &self.held {
+            Spelled::Beside(short) => Spelled::Beside(short.copy()),
+            Spelled::Apart(long) => {
+                Spelled::Apart(Box::new(alloc, String::from_str(alloc, long.as_str())?)?)
+            }
+        };
+        Ok(Name { held })
+    }
+
     /// The name as a text. It is moved, and takes no memory.
     pub(super) fn into_txt(self) -> Txt
         ensures { result ≡ self }
@@ -68,16 +99,6 @@ impl Name {
         match held {
             Spelled::Beside(short) => Txt::widened(&short),
             Spelled::Apart(long) => Txt::from_string(Box::into_inner(long)),
-        }
-    }
-
-    /// The name again, as a text. `NoMemory` where the allocator has no room for a longer one.
-    pub(super) fn copy(&self, alloc: Global) -> Result<Txt, NoMemory>
-        ensures { IfOk result (λ text. text ≡ self.now) }
-    {
-        match &self.held {
-            Spelled::Beside(short) => Ok(Txt::widened(short)),
-            Spelled::Apart(long) => Txt::copy_of(alloc, long.as_str()),
         }
     }
 }

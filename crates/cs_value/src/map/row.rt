@@ -11,6 +11,7 @@ ghost use Rattle.cs_value.specs.Entries.{Ascend, compares};
 use super::name::Name;
 use crate::memory::NoMemory;
 use crate::txt::Txt;
+use crate::txt::order::compared;
 use std::alloc::Global;
 use std::cmp::Ordering;
 use std::mem;
@@ -25,7 +26,7 @@ pub(super) fn place<V>(row: &[(Name, V)], name: &str) -> Result<usize, usize>
     ensures within { IsSearchInRange result (length row.now) }
 {
     for at in 0..row.len() {
-        match name.cmp(row[at].0.as_str()) {
+        match compared(name, row[at].0.as_str()) {
             Ordering::Less => return Err(at),
             Ordering::Equal => return Ok(at),
             Ordering::Greater => {}
@@ -35,12 +36,12 @@ pub(super) fn place<V>(row: &[(Name, V)], name: &str) -> Result<usize, usize>
 }
 
 /// The value of the name. `None` exactly where the row lacks the name. It asks whether names are
-/// equal and not how they are ordered, since most that differ do so in their lengths.
+/// equal and not how they are ordered, since most that differ do so in their lengths or ends.
 pub(super) fn get<'a, V>(row: &'a [(Name, V)], name: &str) -> Option<&'a V>
     ensures { option_copied result ≡ lookup (is_at (compares name.now)) row.now }
 {
     for (other, value) in row {
-        if name == other.as_str() {
+        if other.is(name) {
             return Some(value);
         }
     }
@@ -69,7 +70,7 @@ fn gap<V>(row: &[(Name, V)], name: &str) -> Result<usize, usize>
     ensures within { IsSearchInRange result (length row.now) }
 {
     if let Some((last, _)) = row.last() {
-        if let Ordering::Greater = name.cmp(last.as_str()) {
+        if let Ordering::Greater = compared(name, last.as_str()) {
             return Err(row.len());
         }
     }

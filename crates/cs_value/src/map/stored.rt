@@ -1,5 +1,5 @@
 //! The two forms of an ordered map: a vector while it is small, and a tree.
-ghost use Rattle.std.specs.Prelude.{◌≡◌, ◌^◌, ◌<◌, [], length, IfOk, OnOk, OnErr};
+ghost use Rattle.std.specs.Prelude.{◌≡◌, ◌^◌, ◌<◌, [], ◌∷◌, ◌++◌, length, IfOk, OnOk, OnErr};
 ghost use Rattle.std.specs.Map.{lookup, remove_entry};
 ghost use Rattle.std.specs.BTreeMap.{insert_entry, is_at};
 ghost use Rattle.std.specs.Option.{option_copied};
@@ -100,6 +100,25 @@ impl<V> Stored<V> {
         match self {
             Stored::Few(row) => row::put(alloc, row, name, value),
             Stored::Many(tree) => tree::put(alloc, tree, name, value),
+        }
+    }
+
+    pub(super) fn push_last(&mut self, alloc: Global, name: Name, value: V) -> Result<(), NoMemory>
+    where
+        V: Drop,
+        requires { Ascend (entries self.old ++ (name, value) ∷ []) }
+        ensures last { OnOk result (entries self.new ≡ entries self.old ++ (name, value) ∷ []) }
+        ensures kept { OnErr result (entries self.new ≡ entries self.old) }
+    {
+        match self {
+            Stored::Few(row) => {
+                row.push((name, value))?;
+                Ok(())
+            }
+            Stored::Many(tree) => match tree::enter(alloc, tree, &name, value) {
+                Ok(()) => Ok(()),
+                Err(_) => Err(NoMemory),
+            },
         }
     }
 

@@ -1,6 +1,5 @@
 use Rattle.std.proofs.Common.{sym, ap, ◌∙◌}
-use Rattle.std.specs.Ordering.{nat_cmp}
-use Rattle.std.specs.Cmp.Lexicographic.{slice_cmp}
+use Rattle.cs_value.specs.Entries.{compares}
 use Rattle.cs_value.proofs.Ascents.{above_last}
 use Rattle.cs_value.proofs.map.row.gap.Goals as goal
 
@@ -8,6 +7,5 @@ pub returns-in-Greater-clause-place : goal.returns-in-Greater-clause-place
 returns-in-Greater-clause-place g c =
     let row = c.args.row.now in
     let text = c.args.name.now in
-    let o = ap (slice_cmp nat_cmp text) (sym c.as_str.ensures) ∙ sym c.cmp.ensures
-    ∙ c.in-Greater.is in
+    let o = ap (compares text) (sym c.as_str.ensures) ∙ sym c.compared.ensures ∙ c.in-Greater.is in
     sym (above_last text row c.in-Some.field-0.now c.requires c.in-Some.ensures.value o)

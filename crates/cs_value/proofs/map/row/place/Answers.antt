@@ -1,6 +1,4 @@
 use Rattle.std.proofs.Common.{◌<◌, length, sym, ap, ◌∙◌, arith}
-use Rattle.std.specs.Ordering.{nat_cmp}
-use Rattle.std.specs.Cmp.Lexicographic.{slice_cmp}
 use Rattle.cs_value.specs.Entries.{compares}
 use Rattle.cs_value.proofs.Rows.{ends_below, ends_at, goes_on, whole, ended}
 use Rattle.cs_value.proofs.map.row.place.Goals as goal
@@ -14,8 +12,7 @@ loop-at-preserved g c =
     let row = c.args.row.now in
     let here : at < length row = omega arith in
     let name = c.args.name.now in
-    let o = ap (slice_cmp nat_cmp name) (sym c.as_str.ensures) ∙ sym c.cmp.ensures
-    ∙ c.in-Greater.is in
+    let o = ap (compares name) (sym c.as_str.ensures) ∙ sym c.compared.ensures ∙ c.in-Greater.is in
     c.loop-at.invariant ∙ goes_on (compares name) row at c.index-row-at.result here o
 
 pub returns-in-Less-clause-place : goal.returns-in-Less-clause-place
@@ -24,8 +21,7 @@ returns-in-Less-clause-place g c =
     let row = c.args.row.now in
     let here : at < length row = omega arith in
     let name = c.args.name.now in
-    let o = ap (slice_cmp nat_cmp name) (sym c.as_str.ensures) ∙ sym c.cmp.ensures
-    ∙ c.in-Less.is in
+    let o = ap (compares name) (sym c.as_str.ensures) ∙ sym c.compared.ensures ∙ c.in-Less.is in
     sym (c.loop-at.invariant ∙ ends_below (compares name) row at c.index-row-at.result here o)
 
 pub returns-in-Equal-clause-place : goal.returns-in-Equal-clause-place
@@ -34,8 +30,7 @@ returns-in-Equal-clause-place g c =
     let row = c.args.row.now in
     let here : at < length row = omega arith in
     let name = c.args.name.now in
-    let o = ap (slice_cmp nat_cmp name) (sym c.as_str.ensures) ∙ sym c.cmp.ensures
-    ∙ c.in-Equal.is in
+    let o = ap (compares name) (sym c.as_str.ensures) ∙ sym c.compared.ensures ∙ c.in-Equal.is in
     sym (c.loop-at.invariant ∙ ends_at (compares name) row at c.index-row-at.result here o)
 
 pub returns-clause-place : goal.returns-clause-place
