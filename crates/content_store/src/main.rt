@@ -27,10 +27,10 @@ use std::marker::Brand;
 use std::process::ExitCode;
 use std::sync::ledger::{Blank, Ledger};
 
-/// The status where the machine hands over no words, or words that are no text.
+/// The status where the operating system hands over no words, or words that are no text.
 const NO_WORDS: u8 = 8;
 
-/// The status where the machine hands over no random numbers.
+/// The status where the operating system hands over no random numbers.
 const NO_SEED: u8 = 9;
 
 // Runs over files and the standard streams, with a counter of the run's own ledger.
@@ -55,7 +55,7 @@ fn counted<L: Ledger, R: Files + Input + Print>(
 // memory to copy them.
 fn status_without_words(error: &io::Error) -> u8 {
     match error.kind() {
-        io::ErrorKind::OutOfMemory => Status::NoMemory as u8,
+        io::ErrorKind::OutOfMemory => Status::NoMemory.number(),
         _ => NO_WORDS,
     }
 }
@@ -75,14 +75,14 @@ fn main(rt: HostRuntime) -> ExitCode {
         Err(error) => return ExitCode::from(status_without_words(&error)),
     };
     let Ok(words) = arguments.collect(alloc) else {
-        return ExitCode::from(Status::NoMemory as u8);
+        return ExitCode::from(Status::NoMemory.number());
     };
     let Ok(words) = texts(alloc, words) else {
-        return ExitCode::from(Status::NoMemory as u8);
+        return ExitCode::from(Status::NoMemory.number());
     };
     let Ok(seed) = RandomState::new(&rt) else {
         return ExitCode::from(NO_SEED);
     };
     let status = counted::<Brand, HostRuntime>(Blank::new(1), &rt, alloc, seed, words.as_slice());
-    ExitCode::from(status as u8)
+    ExitCode::from(status.number())
 }

@@ -1,10 +1,10 @@
 //! Replies counted by their kinds, and the summary that says the counts.
-ghost use Rattle.std.specs.Prelude.{◌≡◌, ◌+◌, ◌++◌, ◌∷◌, [], List, IfOk, OnOk, map};
+ghost use Rattle.std.specs.Prelude.{◌≡◌, ◌≤◌, ◌+◌, ◌^◌, ◌++◌, ◌∷◌, [], List, IfOk, OnOk, OnErr, map};
 ghost use Rattle.cs_json.specs.Nodes.{member_pair};
 ghost use Rattle.cs_reply.specs.Fields.{number};
 ghost use Rattle.cs_reply.specs.Reply.{Reply};
 ghost use Rattle.cs_gen.specs.Summary.{summary_line};
-ghost use Rattle.cs_gen.specs.Tally.{IsTally};
+ghost use Rattle.cs_gen.specs.Tally.{IsBeyond, IsTally};
 
 use cs_json::{Member, Node};
 use cs_reply::write_line;
@@ -24,8 +24,10 @@ pub struct Tally {
     pub refused: u32,
 }
 
+// The sum, where it has 32 bits.
 fn sum(one: u32, other: u32) -> Result<u32, NoMemory>
-    ensures { IfOk result (λ n. n ≡ one + other) }
+    ensures sum { IfOk result (λ n. n ≡ one + other) }
+    ensures cause { OnErr result (2 ^ 32 ≤ one + other) }
 {
     one.checked_add(other).ok_or(NoMemory)
 }
@@ -53,10 +55,11 @@ impl Tally {
         }
     }
 
-    /// Of the replies of both. `NoMemory` where a count is beyond 32 bits.
+    /// Of the replies of both. `NoMemory` only where a count is beyond 32 bits.
     pub fn plus(self, other: Tally) -> Result<Tally, NoMemory>
-        ensures { IfOk result (λ t. (rs qs : List Reply) → IsTally self rs → IsTally other qs
+        ensures both { IfOk result (λ t. (rs qs : List Reply) → IsTally self rs → IsTally other qs
             → IsTally t (rs ++ qs)) }
+        ensures cause { OnErr result (IsBeyond self other) }
     {
         Ok(Tally {
             replies: sum(self.replies, other.replies)?,

@@ -1,11 +1,12 @@
 //! The documents behind the answer of a windowed query: those near its window, or all of its hits.
-ghost use Rattle.std.specs.Prelude.{◌≡◌, List, false, true, map, IfOk, OnOk};
+ghost use Rattle.std.specs.Prelude.{◌≡◌, ◌≤◌, ◌+◌, List, false, true, map, IfOk, OnOk};
 ghost use Rattle.cs_value.specs.Tree.{Tree, Pairs};
 ghost use Rattle.cs_value.specs.View.{fields};
 ghost use Rattle.cs_syntax.specs.Queries.{expression_of};
 ghost use Rattle.cs_view.specs.Changes.{after_changes, changes_where};
 ghost use Rattle.cs_view.specs.Dataset.{ascending, kept_if, placed};
 ghost use Rattle.cs_view.specs.View.{document_of, edit, edits};
+ghost use Rattle.cs_meaning.specs.Hits.{cost};
 ghost use Rattle.cs_window.specs.Windowed.{is_filtered};
 ghost use Rattle.cs_hits.specs.Behind.{AreBehind, AreEnoughBehind, KeepsKind, held_docs, is_held};
 
@@ -29,7 +30,8 @@ pub enum Behind {
 }
 
 impl Behind {
-    /// Those of the query in the view. `NoMemory` where the allocator has no room for them.
+    /// Those of the query in the view. No more documents are visited than have its key. `NoMemory`
+    /// where the allocator has no room for them.
     pub fn find<V: View<L>, L: Ledger>(
         alloc: Global,
         query: &Query,
@@ -42,6 +44,8 @@ impl Behind {
             (AreBehind (V.docs view.now) (expression_of query.now) (fields params.now)) }
         ensures enough { IfOk result
             (AreEnoughBehind (V.docs view.now) (expression_of query.now) (fields params.now)) }
+        ensures visits { steps.new
+            ≤ steps.old + cost (expression_of query.now) (fields params.now) (V.docs view.now) }
     {
         let docs = hits(alloc, query, params, view, steps)?;
         match Near::among(alloc, query, params, &docs)? {
@@ -60,7 +64,7 @@ impl Behind {
         }
     }
 
-    // Brings them behind one change: whether one of them came, changed or went.
+    // Brings them behind one change. `false` says that they are as before.
     fn place(
         &mut self,
         alloc: Global,
@@ -90,8 +94,8 @@ impl Behind {
         }
     }
 
-    /// Brings them behind the changes: whether one of them came, changed or went. Nothing is asked
-    /// of a view. After `NoMemory` they are of no more use.
+    /// Brings them behind the changes. `false` says that they are as before. Nothing is asked of a
+    /// view. After `NoMemory` they are of no more use.
     pub fn follow(
         &mut self,
         alloc: Global,
@@ -129,8 +133,8 @@ impl Behind {
         }
     }
 
-    /// Finds them anew where fewer are left near the window than it has. `NoMemory` where the
-    /// allocator has no room for them.
+    /// Finds them anew where fewer are left near the window than it has. No more documents are
+    /// visited than have the query's key. `NoMemory` where the allocator has no room for them.
     pub fn fill<V: View<L>, L: Ledger>(
         &mut self,
         alloc: Global,
@@ -146,6 +150,8 @@ impl Behind {
             (fields params.now) self.new) }
         ensures enough { OnOk result (AreEnoughBehind (V.docs view.now) (expression_of query.now)
             (fields params.now) self.new) }
+        ensures visits { steps.new
+            ≤ steps.old + cost (expression_of query.now) (fields params.now) (V.docs view.now) }
     {
         if !self.is_enough(query) {
             *self = Behind::find(alloc, query, params, view, steps)?;

@@ -60,8 +60,8 @@ impl Hits {
         }
     }
 
-    // Puts a copy of a document of which the filter is true in the place of its id: whether this
-    // touches what settles the answer.
+    // Puts a copy of a document of which the filter is true in the place of its id. `false` says
+    // that what settles the answer is as before.
     fn put(
         &mut self,
         alloc: Global,
@@ -86,7 +86,7 @@ impl Hits {
         }
     }
 
-    // Takes out the document of the id: whether this touches what settles the answer.
+    // Takes out the document of the id. `false` says that what settles the answer is as before.
     fn remove(&mut self, id: &Txt) -> bool
         requires ascending { ascending (docs_of self.old) ≡ true }
         requires settling { ascending (settling self.old) ≡ true }
@@ -103,7 +103,7 @@ impl Hits {
         }
     }
 
-    // Brings the hits behind one change: whether it touches what settles the answer.
+    // Brings the hits behind one change. `false` says that what settles the answer is as before.
     fn place(
         &mut self,
         alloc: Global,
@@ -136,8 +136,8 @@ impl Hits {
         Ok(self.remove(&change.id))
     }
 
-    /// Brings the hits behind the changes: whether what settles the answer is touched. Nothing is
-    /// asked of a view. After `NoMemory` they are of no more use.
+    /// Brings the hits behind the changes. `false` says that what settles the answer is as before.
+    /// Nothing is asked of a view. After `NoMemory` they are of no more use.
     pub fn follow(
         &mut self,
         alloc: Global,

@@ -112,8 +112,8 @@ impl Near {
         Ok(remove(&mut self.docs, doc.id()))
     }
 
-    /// Brings them behind one change, where they are those of hits: whether one of them came,
-    /// changed or went.
+    /// Brings them behind one change, where they are those of hits. `false` says that they are as
+    /// before.
     pub fn place(
         &mut self,
         alloc: Global,

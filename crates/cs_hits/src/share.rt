@@ -87,6 +87,8 @@ impl Share {
             (λ r. IsShare (V.docs view.now) (expression_of query.now) (fields params.now) r.0) }
         ensures doc { IfOk result (λ r. share_doc r.0 ≡ share_doc self) }
         ensures same { IfOk result (λ r. r.1 ≡ false → r.0 ≡ self) }
+        ensures told { IfOk result (λ r. r.1 ≡ touched self.looked (edits changes.now)) }
+        ensures quiet { touched self.looked (edits changes.now) ≡ false → steps.new ≡ steps.old }
     {
         looked_settles_share();
         untouched_selects_the_same();

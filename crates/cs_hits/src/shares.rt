@@ -119,8 +119,9 @@ pub fn shares_touched(shares: &[Share], changes: &[Change]) -> bool
     false
 }
 
-/// The shares of the same documents in the dataset after the changes, and whether one of them was
-/// found anew. `NoMemory` where the allocator has no room for them.
+/// The shares of the same documents in the dataset after the changes. Those that the changes touch
+/// are found anew; `false` says that all are as before. `NoMemory` where the allocator has no room
+/// for them.
 pub fn renew_shares<V: View<L>, L: Ledger>(
     alloc: Global,
     query: &Query,
@@ -150,7 +151,7 @@ pub fn renew_shares<V: View<L>, L: Ledger>(
     Ok((renewed, moved))
 }
 
-// Brings the shares behind one change: whether one of them came, changed or went.
+// Brings the shares behind one change. `false` says that they are as before.
 fn place<V: View<L>, L: Ledger>(
     alloc: Global,
     query: &Query,
@@ -181,8 +182,8 @@ fn place<V: View<L>, L: Ledger>(
     Ok(remove(shares, &change.id))
 }
 
-/// Brings the shares of the dataset's documents behind the changes that led to it: whether one of
-/// them came, changed or went. After `NoMemory` they are of no more use.
+/// Brings the shares of the dataset's documents behind the changes that led to it. `false` says that
+/// they are as before. After `NoMemory` they are of no more use.
 pub fn follow_shares<V: View<L>, L: Ledger>(
     alloc: Global,
     query: &Query,

@@ -1,4 +1,5 @@
 pub mod Expected
 pub mod Headline
 pub mod Script
+pub mod Status
 pub mod Visits

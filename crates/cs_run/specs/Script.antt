@@ -1,8 +1,6 @@
 -- What the parts of a run leave. For private clauses.
-use Rattle.std.specs.Prelude.{◌≡◌, ◌≢◌, ℕ, List, [], Option, None, Some, Result, Ok, Err, IfSome, MatchOption, ⊤, Vec}
-use Rattle.std.specs.declared.alloc.Global.{Global}
+use Rattle.std.specs.Prelude.{◌≡◌, ◌≢◌, ℕ, List, [], Option, None, Some, Result, Ok, Err, IfSome, MatchOption, ⊤}
 use Rattle.std.specs.Io.KnownBytes.{Appends, Keeps}
-use Rattle.cs_value.specs.declared.memory.NoMemory as memory
 use Rattle.cs_io.specs.Bytes.{AppendsPartOf}
 use Rattle.cs_io.specs.Lines.{whole_lines}
 use Rattle.cs_io.specs.Names.{Files}
@@ -27,12 +25,6 @@ pub record Stated (result status : Status) (line : List ℕ) (old new : Option (
     pub whole : result ≢ WriteFault → result ≢ NoMemory → (result ≡ status) × Appends old new line
     pub part : AppendsPartOf old new line
     pub none : result ≡ NoMemory → Appends old new []
-
--- the same of a line that memory may have been short for
-abbrev pub States : Status → Status → Result (Vec ℕ Global) memory.NoMemory → Option (List ℕ)
-    → Option (List ℕ) → Type 0
-States result status (Ok line) old new = Stated result status line.items old new
-States result status (Err e) old new = (result ≡ NoMemory) × Appends old new []
 
 -- what the run of one line that could not be ended leaves
 abbrev pub LineStops : Status → Option (List ℕ) → Option (List ℕ) → List ℕ → Type 0

@@ -298,7 +298,7 @@ fn sum_up<K: Sink, L: Ledger>(
 /// Runs the program: the words of its command line, of which the first is the program's name, over
 /// the library's files, with what is due written to the sink. `steps` counts the visits of
 /// documents. Nothing that is written depends on `seed`: with one that no one can foresee, no one
-/// who chooses the documents can choose which keys the index of the documents confuses.
+/// who chooses the documents knows which keys the index of the documents confuses.
 ///
 /// The words are `--data NAME`, `--script NAME` and `--gen N`, each at most once; the script's name
 /// is `-` where none is given. The data file is loaded before the script is opened, and each line
