@@ -20,7 +20,8 @@ use Rattle.cs_reply.specs.Refusal.{bad_moment, full_subscriptions, name_used, no
 use Rattle.cs_reply.specs.Reply.{found, set, stopped}
 use Rattle.cs_listen.specs.Events.{Listener}
 use Rattle.cs_meaning.specs.Values.{query_value}
-use Rattle.cs_live.specs.Lives.{LiveQuery, are_simple_lives, all_refreshed, has_live_name, made, most_subscriptions, without_name}
+use Rattle.cs_interest.specs.Limits.{most_subscriptions}
+use Rattle.cs_live.specs.Lives.{LiveQuery, are_simple_lives, all_refreshed, has_live_name, made, without_name}
 use Rattle.cs_machine.specs.Fold.{Stepped}
 use Rattle.cs_machine.specs.Machine.{by_command, deepest_line, heard, step}
 use Rattle.cs_machine.specs.Refused.{by_reading, refuse}

@@ -92,8 +92,9 @@ pub fn hit(alloc: Global, query: &Query, params: &Fields, doc: &Doc) -> Result<b
     )
 }
 
-/// Copies of the documents of a view that make the filter of a query true, in the order of the
-/// dataset. No more documents are visited than have the key of the query.
+/// Copies of the documents of a view that make the filter of a query true where it is evaluated
+/// over no documents, as that of a simple, a mapped or a windowed query is over any: in the order
+/// of the dataset. No more documents are visited than have the key of the query.
 pub fn hits<V: View<L>, L: Ledger>(
     alloc: Global,
     query: &Query,

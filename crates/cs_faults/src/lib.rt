@@ -10,5 +10,8 @@ mod numbers;
 mod walk;
 
 pub use fault::Fault;
-pub use laws::{each_function_has_its_arity, global_is_the_same_function, no_function_is_left_out};
+pub use laws::{
+    a_number_without_fault_fits, each_function_has_its_arity, global_is_the_same_function,
+    no_function_is_left_out,
+};
 pub use walk::first_fault;

@@ -1,3 +1,4 @@
 pub mod Interest
 pub mod Laws
+pub mod Limits
 pub mod Narrow

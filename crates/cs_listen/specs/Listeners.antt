@@ -8,15 +8,12 @@ use Rattle.cs_value.specs.View.{fields}
 use Rattle.cs_syntax.specs.Expression.{Expression}
 use Rattle.cs_plain.specs.Plain.{listened_filter}
 use Rattle.cs_plain.specs.Predicates.{filter as filter_of}
+use Rattle.cs_interest.specs.Limits.{most_subscriptions}
 use Rattle.cs_listen.specs.Events.{Listener}
 use Rattle.cs_listen.specs.declared.listening.Listening.{Listening}
 use Rattle.cs_listen.specs.declared.listeners.Listeners.{Listeners}
 use Rattle.cs_listen.specs.declared.listeners.ListenFault.{ListenFault}
 use Rattle.cs_listen.specs.declared.listeners.ListenFault.TheVariants.{NotListenable, NameUsed, Full, NoMemory}
-
--- at most so many listeners may stand
-abbrev pub most_listeners : ℕ
-most_listeners = 1024
 
 abbrev pub listener : Listening → Listener
 listener l = record {
@@ -62,13 +59,13 @@ with_query name q params result previous ls =
 -- the name is free, and there is room
 pub record HasRoom (name : List ℕ) (ls : List Listener) : Type 0 where
   pub free : is_listening name ls ≡ false
-  pub room : length ls < most_listeners
+  pub room : length ls < most_subscriptions
 
 -- what each fault says of the name and the listeners
 abbrev pub NotTaken : List ℕ → List Listener → ListenFault → Type 0
 NotTaken name ls NotListenable = true ≡ false
 NotTaken name ls NameUsed = is_listening name ls ≡ true
-NotTaken name ls Full = (is_listening name ls ≡ false) × (most_listeners ≤ length ls)
+NotTaken name ls Full = (is_listening name ls ≡ false) × (most_subscriptions ≤ length ls)
 NotTaken name ls NoMemory = HasRoom name ls
 
 -- what each fault says of the query too

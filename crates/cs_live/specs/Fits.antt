@@ -5,7 +5,8 @@ use Rattle.std.specs.List.{All, AllZip}
 use Rattle.cs_value.specs.Tree.{Tree}
 use Rattle.cs_view.specs.Changes.{Edit}
 use Rattle.cs_kept.specs.Fits.{FitsKept, IsQuiet, KeepsRecord}
-use Rattle.cs_live.specs.Lives.{LiveQuery, refreshed, is_named, most_subscriptions}
+use Rattle.cs_interest.specs.Limits.{most_subscriptions}
+use Rattle.cs_live.specs.Lives.{LiveQuery, refreshed, is_named}
 use Rattle.cs_live.specs.Found.{AreFound}
 use Rattle.cs_live.specs.Entries.{live_query, entries}
 use Rattle.cs_live.specs.declared.entry.Entry.{Entry}

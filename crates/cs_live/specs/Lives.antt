@@ -72,7 +72,3 @@ answer_of name (e ∷ es) = cond (has_live_name name e) (Some e.last) (answer_of
 abbrev pub made : List Tree → List ℕ → Expression → Pairs → LiveQuery
 made docs name q params =
     record { name = name; query = q; params = params; last = query_value docs params q }
-
--- the most live queries at a time, and the most listeners
-abbrev pub most_subscriptions : ℕ
-most_subscriptions = 1024

@@ -1,5 +1,5 @@
 //! The live queries of a store.
-ghost use Rattle.std.specs.Prelude.{◌≡◌, ◌++◌, ◌∷◌, ◌<◌, ◌≤◌, ◌+◌, [], List, length, get_or, IfOk, OnOk, OnErr, IfErr, true, false, map, option_map};
+ghost use Rattle.std.specs.Prelude.{◌≡◌, ◌≢◌, ◌++◌, ◌∷◌, ◌<◌, ◌≤◌, ◌+◌, [], List, length, get_or, IfOk, OnOk, OnErr, IfErr, true, false, map, option_map};
 ghost use Rattle.cs_value.specs.Tree.{Tree};
 ghost use Rattle.cs_value.specs.View.{tree, fields};
 ghost use Rattle.cs_syntax.specs.Queries.{expression_of};
@@ -143,7 +143,7 @@ impl Live {
 
     /// One live query more, the last, with its value over the view as its answer, and the line that
     /// says it. The first fault that holds is told: that a live query has the name, that 1,024
-    /// stand. After a fault the live queries are as before.
+    /// stand; nothing is asked of the view then. After a fault the live queries are as before.
     pub fn add<V: View<L>, L: Ledger>(
         &mut self,
         name: Txt,
@@ -163,6 +163,7 @@ impl Live {
         ensures unchanged { OnErr result (entries self.new ≡ entries self.old) }
         ensures fits_still { OnErr result ((docs : List Tree) → Fits self.old docs
             → Fits self.new docs) }
+        ensures unasked { IfErr result (λ fault. fault ≢ LiveFault.NoMemory → steps.new ≡ steps.old) }
         ensures visits { is_simple (expression_of query) ≡ true
             → steps.new ≤ steps.old + cost (expression_of query) (fields params) (V.docs view.now) }
     {

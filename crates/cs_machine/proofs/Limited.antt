@@ -4,7 +4,8 @@ use Rattle.std.specs.List.{filter}
 use Rattle.std.proofs.lemmas.Bool.{leb-false}
 use Rattle.cs_value.specs.Tree.{Tree}
 use Rattle.cs_machine.specs.Laws.{RunsStayWithinLimits}
-use Rattle.cs_live.specs.Lives.{LiveQuery, all_refreshed, has_live_name, without_name, most_subscriptions}
+use Rattle.cs_interest.specs.Limits.{most_subscriptions}
+use Rattle.cs_live.specs.Lives.{LiveQuery, all_refreshed, has_live_name, without_name}
 use Rattle.cs_listen.specs.Listeners.{has_name}
 use Rattle.cs_machine.specs.State.{State, begun}
 use Rattle.cs_machine.proofs.Steps.{Cases, lines-keep}

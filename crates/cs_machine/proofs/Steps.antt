@@ -18,7 +18,8 @@ use Rattle.cs_body.specs.Transaction.{Transaction}
 use Rattle.cs_txn.specs.Refused.{Refused, Outcome as Committed}
 use Rattle.cs_machine.specs.Causes.{of_fault}
 use Rattle.cs_machine.specs.Fold.{Stepped}
-use Rattle.cs_live.specs.Lives.{LiveQuery, value_of, made, most_subscriptions}
+use Rattle.cs_interest.specs.Limits.{most_subscriptions}
+use Rattle.cs_live.specs.Lives.{LiveQuery, value_of, made}
 use Rattle.cs_wire.specs.Blank.{is_blank_line}
 use Rattle.cs_machine.specs.Machine.{deepest_line, by_command, heard, step, state_after}
 use Rattle.cs_wire.specs.Moments.{is_moment}

@@ -22,13 +22,6 @@ pub data Ending : Type 0 where
   bad_data : Ending
   bad_input : Ending
 
--- the number with which the program then ends
-abbrev pub status_number : Ending → ℕ
-status_number done = 0
-status_number bad_usage = 2
-status_number bad_data = 3
-status_number bad_input = 4
-
 -- ---- a script
 -- what follows the replies to the lines that a script gives
 abbrev pub last_line : Feed → List ℕ

@@ -9,7 +9,8 @@ use Rattle.std.specs.Str.{bytes_eq}
 use Rattle.cs_reply.specs.Reply.{live, committed}
 use Rattle.cs_gen.specs.Summary.{is_refusal as refuses}
 use Rattle.cs_machine.specs.DataFile.{dataset, loaded}
-use Rattle.cs_live.specs.Lives.{LiveQuery, value_of, has_live_name, most_subscriptions}
+use Rattle.cs_interest.specs.Limits.{most_subscriptions}
+use Rattle.cs_live.specs.Lives.{LiveQuery, value_of, has_live_name}
 use Rattle.cs_machine.specs.Machine.{step, state_after, written}
 use Rattle.cs_machine.specs.Replies.{Reply, said, not_done}
 use Rattle.cs_listen.specs.Listeners.{has_name}

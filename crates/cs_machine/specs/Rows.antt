@@ -18,7 +18,8 @@ use Rattle.cs_txn.specs.Commit.{commit}
 use Rattle.cs_body.specs.Transaction.{Transaction}
 use Rattle.cs_txn.specs.Refused.{Outcome}
 use Rattle.cs_machine.specs.Fold.{Stepped}
-use Rattle.cs_live.specs.Lives.{LiveQuery, Said, made, news, all_refreshed, without_name, most_subscriptions}
+use Rattle.cs_interest.specs.Limits.{most_subscriptions}
+use Rattle.cs_live.specs.Lives.{LiveQuery, Said, made, news, all_refreshed, without_name}
 use Rattle.cs_wire.specs.Moments.{is_moment}
 use Rattle.cs_machine.specs.Refused.{refuse, with_query}
 use Rattle.cs_machine.specs.Replies.{said, not_done}

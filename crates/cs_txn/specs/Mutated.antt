@@ -88,7 +88,7 @@ deleted docs (asked s params) =
     and_then (λ ids. Ok (without_all ids docs)) (found docs s params)
 
 -- ---- patches
--- of these `deep_document` alone says no id
+-- of these `bad_path` and `deep_document` say no id
 abbrev pub cause_of : List ℕ → patch.Refusal → Cause
 cause_of id (patch.revision expected now) = revision id expected now
 cause_of id (patch.no_path path place) = bad_path path place

@@ -76,8 +76,7 @@ fn refusal_of(fault: PrepareFault) -> Refusal
 /// dataset after the transaction, or the refusal. The mutations are done one after another to a
 /// dataset that is worked on, over which the queries inside them are evaluated too: by the index of
 /// the store, and by what was put so far. The store stays as it is until the changes are installed.
-/// Strong references and the number of documents
-/// are asked for after the last mutation alone.
+/// Strong references and the number of documents are asked for after the last mutation alone.
 ///
 /// `referrers` knows who refers to an id in the store's dataset. There are fewer than 2^31
 /// mutations, and each text of a query and of a patch's path has fewer than 2^32 bytes. A query

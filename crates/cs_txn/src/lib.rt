@@ -12,5 +12,5 @@ mod stamp;
 mod why;
 
 pub use commit::prepare;
-pub use stamp::{entered, has_text, put_text};
+pub use stamp::{has_text, put_text};
 pub use why::{Refusal, Why};

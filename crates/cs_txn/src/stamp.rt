@@ -53,7 +53,7 @@ fn stamp(alloc: Global, attributes: &mut Fields, tx: &str, moment: &str) -> Resu
 
 /// The document that a value becomes in the transaction `tx` at the moment. `NoMemory` where the
 /// allocator has no room for what the store sets.
-pub fn entered(alloc: Global, body: Val, tx: &str, moment: &str) -> Result<Doc, NoMemory>
+pub(crate) fn entered(alloc: Global, body: Val, tx: &str, moment: &str) -> Result<Doc, NoMemory>
     requires body { is_body (tree body) ≡ true }
     requires shallow { is_shallow (tree body) ≡ true }
     ensures { IfOk result (λ d. document_of d ≡ entered tx.now moment.now (tree body)) }
