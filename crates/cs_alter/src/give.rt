@@ -35,6 +35,6 @@ pub(crate) fn give(alloc: Global, val: Val, names: &[Txt], new: Val) -> Result<V
     let mut object = object_of(alloc, val);
     let old = object.put(name.copy(alloc)?, Val::Null)?;
     let inner = give(alloc, or_null(old), rest, new)?;
-    drop(object.put(name.copy(alloc)?, inner)?);
+    object.set(name.copy(alloc)?, inner)?;
     Ok(Val::Obj(object))
 }

@@ -60,8 +60,7 @@ fn alter_member(
         return Ok(());
     };
     alter(alloc, &mut inner, rest, alteration)?;
-    drop(object.put(name.copy(alloc)?, inner)?);
-    Ok(())
+    object.set(name.copy(alloc)?, inner)
 }
 
 #[cycle(alter)]

@@ -152,7 +152,7 @@ fn read_members(
     'members: while let Some(name) = reader.next_key().ok()? {
         let name = Txt::copy_of(alloc, name).ok()?;
         let member = read_value(alloc, reader, levels, left, 0)?;
-        drop(object.put(name, member).ok()?);
+        object.set(name, member).ok()?;
     }
     Some(object)
 }

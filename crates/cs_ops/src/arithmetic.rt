@@ -145,7 +145,7 @@ fn put_all(alloc: Global, left: Val, right: &Fields) -> Result<Val, NoMemory>
     };
     for (key, member) in right.pairs.iter() {
         let name = Txt::copy_of(alloc, key)?;
-        drop(object.put(name, member.copy(alloc)?)?);
+        object.set(name, member.copy(alloc)?)?;
     }
     Ok(Val::Obj(object))
 }

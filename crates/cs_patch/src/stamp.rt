@@ -13,9 +13,9 @@ pub(crate) fn stamp(alloc: Global, val: Val, tx: &Txt, moment: &Txt) -> Result<V
         Val::Obj(fields) => {
             let mut object = fields;
             let rev = tx.copy(alloc)?;
-            drop(object.put(Txt::copy_of(alloc, "_rev")?, Val::Text(rev))?);
+            object.set(Txt::copy_of(alloc, "_rev")?, Val::Text(rev))?;
             let updated = moment.copy(alloc)?;
-            drop(object.put(Txt::copy_of(alloc, "_updatedAt")?, Val::Text(updated))?);
+            object.set(Txt::copy_of(alloc, "_updatedAt")?, Val::Text(updated))?;
             Ok(Val::Obj(object))
         }
         other => Ok(other),

@@ -21,8 +21,7 @@ fn put_number(alloc: Global, reply: &mut Fields, name: &str, n: u32) -> Result<(
     ensures { OnOk result (fields reply.new ≡ put name.now (number n) (fields reply.old)) }
 {
     let name = Txt::copy_of(alloc, name)?;
-    drop(reply.put(name, Val::Num(i64::from(n)))?);
-    Ok(())
+    reply.set(name, Val::Num(i64::from(n)))
 }
 
 // The word that says why, beside what it says more.

@@ -25,8 +25,7 @@ pub fn put_text(
 {
     let name = Txt::copy_of(alloc, name)?;
     let value = Val::Text(Txt::copy_of(alloc, value)?);
-    drop(attributes.put(name, value)?);
-    Ok(())
+    attributes.set(name, value)
 }
 
 /// Whether a text stands at the name.

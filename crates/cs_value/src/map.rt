@@ -142,6 +142,17 @@ impl<V> OrderedMap<V> {
         self.stored.insert(self.alloc, name, value)
     }
 
+    /// Puts the value at the name, in the place of one that stood there, without giving that back.
+    /// Otherwise as [`insert`](OrderedMap::insert).
+    pub fn set(&mut self, name: Txt, value: V) -> Result<(), NoMemory>
+    where
+        V: Drop,
+        ensures entries { OnOk result (self.new ≡ insert_entry compares self.old name value) }
+        ensures kept { OnErr result (self.new ≡ self.old) }
+    {
+        self.stored.set(self.alloc, name, value)
+    }
+
     /// Puts the value at a name that is above all others. `NoMemory` where the map cannot grow; it
     /// is unchanged then.
     pub(crate) fn push_last(&mut self, name: Name, value: V) -> Result<(), NoMemory>

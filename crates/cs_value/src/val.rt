@@ -1,5 +1,5 @@
 //! Values and the attributes of objects.
-ghost use Rattle.std.specs.Prelude.{◌≡◌, option_map, IfOk, OnErr, ◌<◌, ◌^◌, ◌↔◌, IsTrue, nat_le};
+ghost use Rattle.std.specs.Prelude.{◌≡◌, option_map, IfOk, OnOk, OnErr, ◌<◌, ◌^◌, ◌↔◌, IsTrue, nat_le};
 ghost use Rattle.cs_value.specs.Tree.{no_pairs, depth as tree_depth};
 ghost use Rattle.cs_value.specs.Pairs.{find, put, without, attribute};
 ghost use Rattle.cs_value.specs.Value.{IsValue};
@@ -142,6 +142,15 @@ impl Fields {
         ensures kept { OnErr result (fields self.new ≡ fields self.old) }
     {
         self.pairs.insert(name, val)
+    }
+
+    /// Puts the value at the name, in the place of one that stood there, without giving that back.
+    /// Otherwise as [`put`](Fields::put).
+    pub fn set(&mut self, name: Txt, val: Val) -> Result<(), NoMemory>
+        ensures put { OnOk result (fields self.new ≡ put name (tree val) (fields self.old)) }
+        ensures kept { OnErr result (fields self.new ≡ fields self.old) }
+    {
+        self.pairs.set(name, val)
     }
 
     /// Takes the name out, and gives its value. `None` exactly where the object lacks the name.

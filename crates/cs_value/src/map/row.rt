@@ -115,6 +115,23 @@ fn put_in<V: Drop>(row: &mut Vec<(Name, V)>, at: usize, pair: (Name, V)) -> Resu
     Ok(())
 }
 
+// Puts a pair in where its name would go.
+fn enter<V: Drop>(
+    alloc: Global,
+    row: &mut Vec<(Name, V)>,
+    at: usize,
+    name: Txt,
+    value: V,
+) -> Result<(), NoMemory>
+    requires { at ≤ length row.old.items }
+    ensures items { OnOk result (row.new.items ≡ insert row.old.items at (name, value)) }
+    ensures kept { OnErr result (row.new.items ≡ row.old.items) }
+{
+    let name = Name::of(alloc, name)?;
+    make_room(row)?;
+    put_in(row, at, (name, value))
+}
+
 /// Puts the value at the name, and gives back the value that it replaces. `NoMemory` where the
 /// vector cannot grow, or a long name has no room; the vector is unchanged then.
 pub(super) fn put<V: Drop>(
@@ -132,10 +149,29 @@ pub(super) fn put<V: Drop>(
     match gap(row.as_slice(), name.as_str()) {
         Ok(at) => Ok(Some(mem::replace(&mut row[at].1, value))),
         Err(at) => {
-            let name = Name::of(alloc, name)?;
-            make_room(row)?;
-            put_in(row, at, (name, value))?;
+            enter(alloc, row, at, name, value)?;
             Ok(None)
         }
+    }
+}
+
+/// Puts the value at the name, in the place of one that stood there. `NoMemory` as [`put`] says.
+pub(super) fn set<V: Drop>(
+    alloc: Global,
+    row: &mut Vec<(Name, V)>,
+    name: Txt,
+    value: V,
+) -> Result<(), NoMemory>
+    requires { Ascend row.old.items }
+    ensures entries { OnOk result
+        (row.new.items ≡ insert_entry compares row.old.items name value) }
+    ensures kept { OnErr result (row.new.items ≡ row.old.items) }
+{
+    match gap(row.as_slice(), name.as_str()) {
+        Ok(at) => {
+            row[at].1 = value;
+            Ok(())
+        }
+        Err(at) => enter(alloc, row, at, name, value),
     }
 }

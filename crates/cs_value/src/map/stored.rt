@@ -103,6 +103,26 @@ impl<V> Stored<V> {
         }
     }
 
+    pub(super) fn set(&mut self, alloc: Global, name: Txt, value: V) -> Result<(), NoMemory>
+    where
+        V: Drop,
+        requires { Ascend (entries self.old) }
+        ensures entries { OnOk result
+            (entries self.new ≡ insert_entry compares (entries self.old) name value) }
+        ensures kept { OnErr result (entries self.new ≡ entries self.old) }
+    {
+        if self.is_full_without(name.as_str()) {
+            grow::grow(alloc, self)?;
+        }
+        match self {
+            Stored::Few(row) => row::set(alloc, row, name, value),
+            Stored::Many(tree) => {
+                drop(tree::put(alloc, tree, name, value)?);
+                Ok(())
+            }
+        }
+    }
+
     pub(super) fn push_last(&mut self, alloc: Global, name: Name, value: V) -> Result<(), NoMemory>
     where
         V: Drop,

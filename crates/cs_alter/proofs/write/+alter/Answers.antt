@@ -23,10 +23,12 @@ alter_member-returns t c =
     let f : Tree → Tree = changed c.args.rest.now (altered c.args.alteration.now) in
     let ascends : Ascends (fields c.args.object.now) = subst Ascends (sym (fields-out c.args.object.now))
     (Ascends-entries_tree (out-Fields c.args.object.now).pairs c.len-count.ensures.ordered) in
-    member_back c.args.name.now c.as_str.result.now _ f (tree c.in-Some.inner) (tree c.alter.new.val)
-    (fields c.args.object.now) (fields c.take.new.self) _ ascends c.as_str.ensures
-    c.in_ok-copy.ensures c.in-Some.ensures.taken c.in-Some.ensures.left
-    c.in_ok-alter.ensures c.in_ok-put.ensures.put
+    on_ok c.set.result _ _
+    (λ put. member_back c.args.name.now c.as_str.result.now _ f (tree c.in-Some.inner)
+    (tree c.alter.new.val) (fields c.args.object.now) (fields c.take.new.self) _ ascends
+    c.as_str.ensures c.in_ok-copy.ensures c.in-Some.ensures.taken c.in-Some.ensures.left
+    c.in_ok-alter.ensures put)
+    c.set.ensures.put
 
 pub alter_item-returns-in-Some : goal.alter_item-returns-in-Some
 alter_item-returns-in-Some t c =

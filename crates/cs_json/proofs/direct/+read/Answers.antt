@@ -73,9 +73,9 @@ read_members-members-preserved t c =
     let copied : name ≡ k = ok_holds (λ x. x ≡ k) c.copy_of.result name c.in_ok-name-2.ensures.value c.copy_of.ensures in
     let less = read_key-shorter l.reader (Some k) s is in
     let lesser = done.shorter in
-    let placed : fields c.put.new.self ≡ put name (tree v) (fields l.object) =
-    ok_holds (λ _. fields c.put.new.self ≡ put name (tree v) (fields l.object)) c.put.result c.in_ok-ok.field-0 c.in_ok-ok.ensures.value c.put.ensures.put in
-    let together : fields c.put.new.self ≡ put_all (es ++ (k, tree v) ∷ []) no_pairs =
+    let placed : fields c.set.new.self ≡ put name (tree v) (fields l.object) =
+    ok_holds (λ _. fields c.set.new.self ≡ put name (tree v) (fields l.object)) c.set.result c.in_ok-ok.field-0 c.in_ok-ok.ensures.value c.set.ensures.put in
+    let together : fields c.set.new.self ≡ put_all (es ++ (k, tree v) ∷ []) no_pairs =
     placed ∙ ap (λ x. put x (tree v) (fields l.object)) copied ∙ ap (put k (tree v)) l.invariant.5.0 ∙ sym (put_all-push es (k, tree v) no_pairs) in
     let all = converted named (members_of p (length c.args.reader.now) c.args.reader.now) in
     let utf8 : IsUtf8 k = search rules in (
