@@ -19,7 +19,7 @@ ghost use Rattle.cs_window.specs.Window.{by_order, is_near, keys_at, order_keys,
 use crate::queries::{NO_DOCS, parts, vals_of};
 use cs_expr::{enter, pipes, rank_each, rank_keys};
 use cs_order::{Ranked, first_asked, is_above, pipe_of};
-use cs_parts::{Got, Item, directions, kinds, push};
+use cs_parts::{Got, Item, directions, kinds, lend_all, push};
 use cs_plan::is_quiet;
 use cs_syntax::{OrderKey, Query, Step};
 use cs_value::{Fields, NoMemory, Steps, Val};
@@ -89,17 +89,6 @@ pub fn windowed(query: &Query) -> bool
         return false;
     }
     are_quiet(order)
-}
-
-// Values as elements that are lent.
-fn lent<'v>(alloc: Global, vals: &'v [Val]) -> Result<Vec<Item<'v>>, NoMemory>
-    ensures { IfOk result (λ v. map item v.items ≡ map tree vals.now) }
-{
-    let mut items = Vec::new(alloc);
-    for val in vals {
-        push(&mut items, Item::Lent(val))?;
-    }
-    Ok(items)
 }
 
 // Documents as elements that are lent.
@@ -212,7 +201,7 @@ pub fn is_near(
     let directions = directions(alloc, order)?;
     let near = ranked(alloc, order, &root, params, doc.val())?;
     let last = Ranked {
-        by: lent(alloc, bound)?,
+        by: lend_all(alloc, bound)?,
         item: Item::Lent(query.null()),
     };
     Ok(!is_above(&directions, &near, &last))

@@ -17,7 +17,7 @@ use cs_func::Function;
 use cs_ops::between;
 use cs_order::{Ranked, in_order, items_of};
 use cs_parts::{
-    Got, Item, among, applied, at_level, gather, in_path, operated, push, put, put_all, put_bare,
+    Got, Item, among, applied, at_level, gather, in_path, operated, push, put_all, put_bare,
     references, settle, sole,
 };
 use cs_syntax::{BinSign, Expr};
@@ -100,7 +100,7 @@ pub(crate) fn put_named(
     ensures { OnOk result (fields pairs.new ≡ put name.now (got value.entry) (fields pairs.old)) }
 {
     let val = value.into_val(alloc)?;
-    put(pairs, name.copy(alloc)?, val)
+    pairs.set(name.copy(alloc)?, val)
 }
 
 /// A value put under the key that its expression has by itself.

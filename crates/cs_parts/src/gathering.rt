@@ -25,8 +25,8 @@ pub fn elements<'s>(alloc: Global, whole: Got<'s>) -> Result<Option<Vec<Item<'s>
     }
 }
 
-// The values of a borrowed list as elements.
-fn lend_all<'s>(alloc: Global, vals: &'s [Val]) -> Result<Vec<Item<'s>>, NoMemory>
+/// Borrowed values as elements. `NoMemory` where the allocator has no room for them.
+pub fn lend_all<'s>(alloc: Global, vals: &'s [Val]) -> Result<Vec<Item<'s>>, NoMemory>
     ensures { IfOk result (λ v. map item v.items ≡ map tree vals.now) }
 {
     let mut out = Vec::new(alloc);

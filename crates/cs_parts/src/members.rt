@@ -1,6 +1,5 @@
 //! Pairs of an object that is made.
 ghost use Rattle.std.specs.Prelude.{◌≡◌, OnOk};
-ghost use Rattle.cs_value.specs.Pairs.{put};
 ghost use Rattle.cs_value.specs.View.{tree, fields};
 ghost use Rattle.cs_syntax.specs.Brackets.{key_of};
 ghost use Rattle.cs_syntax.specs.View.{expression};
@@ -11,21 +10,13 @@ use cs_syntax::Expr;
 use cs_value::{Fields, NoMemory, Txt, Val};
 use std::alloc::Global;
 
-/// The value at the name, in the place of one that stood there.
-pub fn put(pairs: &mut Fields, name: Txt, val: Val) -> Result<(), NoMemory>
-    ensures { OnOk result (fields pairs.new ≡ put name (tree val) (fields pairs.old)) }
-{
-    drop(pairs.put(name, val)?);
-    Ok(())
-}
-
 /// The value under the key that the expression has by itself; nothing where it has none.
 pub fn put_bare(alloc: Global, pairs: &mut Fields, expr: &Expr, val: Val) -> Result<(), NoMemory>
     ensures { OnOk result (fields pairs.new
         ≡ put_under (key_of (expression expr.now)) (tree val) (fields pairs.old)) }
 {
     match expr.key() {
-        Some(key) => put(pairs, Txt::copy_of(alloc, key)?, val),
+        Some(key) => pairs.set(Txt::copy_of(alloc, key)?, val),
         None => Ok(()),
     }
 }
@@ -47,7 +38,7 @@ fn put_each(alloc: Global, pairs: &mut Fields, more: &Fields) -> Result<(), NoMe
 {
     for (key, member) in more.pairs.iter() {
         let name = Txt::copy_of(alloc, key)?;
-        drop(pairs.put(name, member.copy(alloc)?)?);
+        pairs.set(name, member.copy(alloc)?)?;
     }
     Ok(())
 }

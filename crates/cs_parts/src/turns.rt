@@ -1,5 +1,5 @@
 //! Small questions and makings of an evaluation.
-ghost use Rattle.std.specs.Prelude.{◌≡◌, ◌∷◌, [], IfOk, map, unwrap_or};
+ghost use Rattle.std.specs.Prelude.{◌≡◌, [], IfOk, map, unwrap_or};
 ghost use Rattle.cs_value.specs.Words.{as_list};
 ghost use Rattle.cs_syntax.specs.View.{expression};
 ghost use Rattle.cs_meaning.specs.Looked.{is_everything};
@@ -8,7 +8,7 @@ ghost use Rattle.cs_parts.specs.Turns.{turn, is_end, is_over_way};
 ghost use Rattle.cs_parts.specs.Parts.{got, item};
 
 use crate::literals::signed;
-use crate::{Entrance, Got, Item, Way, elements, push, settle};
+use crate::{Entrance, Got, Item, Way, elements};
 use cs_syntax::{Expr, PreSign};
 use cs_value::NoMemory;
 use std::alloc::Global;
@@ -52,15 +52,6 @@ pub fn is_all(expr: &Expr) -> bool
         Expr::All => true,
         _ => false,
     }
-}
-
-/// The value as one element.
-pub fn one_item<'s>(alloc: Global, whole: Got<'s>) -> Result<Vec<Item<'s>>, NoMemory>
-    ensures { IfOk result (λ v. map item v.items ≡ got whole.entry ∷ []) }
-{
-    let mut out = Vec::new(alloc);
-    push(&mut out, settle(alloc, whole)?)?;
-    Ok(out)
 }
 
 /// The elements of a list, none where the value is no list.

@@ -13,5 +13,5 @@ loop-key-preserved c =
     let all : (out-Fields c.args.more.now).pairs ≡ done ++ e ∷ left = l.invariant.1 ∙ ap (λ es. done ++ es) c.in-Some.ensures.steps in (
       done ++ e ∷ [],
       all ∙ sym (append_assoc done (e ∷ []) left),
-      c.in_ok-put.ensures.put ∙ rw (c.in_ok-name.ensures, c.in_ok-copy.ensures, l.invariant.2) (sym (merged-push _ done e)),
+      c.in_ok-set.ensures.put ∙ rw (c.in_ok-name.ensures, c.in_ok-copy.ensures, l.invariant.2) (sym (merged-push _ done e)),
     )
