@@ -163,7 +163,8 @@ impl Live {
         ensures unchanged { OnErr result (entries self.new ≡ entries self.old) }
         ensures fits_still { OnErr result ((docs : List Tree) → Fits self.old docs
             → Fits self.new docs) }
-        ensures unasked { IfErr result (λ fault. fault ≢ LiveFault.NoMemory → steps.new ≡ steps.old) }
+        ensures unasked { IfErr result
+            (λ fault. fault ≢ LiveFault.NoMemory → steps.new ≡ steps.old) }
         ensures visits { is_simple (expression_of query) ≡ true
             → steps.new ≤ steps.old + cost (expression_of query) (fields params) (V.docs view.now) }
     {

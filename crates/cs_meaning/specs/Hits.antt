@@ -12,7 +12,7 @@ use Rattle.cs_meaning.specs.Looked.{entered_looked, pipes_looked, rest_looked}
 use Rattle.cs_meaning.specs.Operators.{is_true}
 use Rattle.cs_meaning.specs.Values.{value, rest_value, pipes_value}
 
--- The filter of a simple query is true of the document.
+-- The filter that stands first in a query is true of the document, where no dataset is asked.
 abbrev pub is_hit : Expression → Pairs → Tree → Bool
 is_hit e params d = is_true (value [] params (filter_of (steps_behind e)) (d ∷ null ∷ []))
 
@@ -35,7 +35,7 @@ tail_looked docs e params ds =
     ++ pipes_looked docs params ss (null ∷ [])
     (entered (entrance (kind ss)) (rest_value docs params ss (null ∷ [])) (list_of ds))
 
--- What those of a simple query make of them. No dataset is asked.
+-- What they make of them where no dataset is asked.
 abbrev pub tail : Expression → Pairs → List Tree → Tree
 tail e params ds = tail_over [] e params ds
 

@@ -134,7 +134,6 @@ first_or_all [] = All
 first_or_all (k ∷ ks) = k
 
 -- The key of a filter, in the scope in which its chain stands: the leftmost of the first kind that
--- some conjunct gives;
--- `All` where none gives one.
+-- some conjunct gives; `All` where none gives one.
 abbrev pub key_in : Expression → List Tree → Pairs → Key
 key_in e scope params = first_or_all (by_kind (filter_keys e scope params))

@@ -1,5 +1,6 @@
--- Simple queries, whose answer follows from the documents that make one filter true: this project's
--- profile.
+-- Queries of one filter and steps behind it: what of them looks nothing up, which of them are simple,
+-- so that the documents that make the filter true are all that the answer is made of, and the keys
+-- of their filter. This project's profile.
 use Rattle.std.specs.Prelude.{Bool, true, false, ◌&&◌, List, [], ◌∷◌, if◌then◌else◌}
 use Rattle.cs_value.specs.Tree.{null, Pairs}
 use Rattle.cs_syntax.specs.Expression.{Expression, null_literal, everything, round, call, array, object_literal, chain, prefix, run, within, between, Operands, no_operands, more_operands, Step, attr, deref, each, slice, bracket, project, pipe, Steps, no_steps, more_steps, Entry, keyed, bare, when, spread, Entries, no_entries, more_entries, Element, element, spread_element, Elements, no_elements, more_elements, Argument, argument, when_argument, Arguments, no_arguments, more_arguments, order_key, OrderKeys, no_keys, more_keys}
@@ -121,15 +122,15 @@ abbrev pub tail_of : Steps → Steps
 tail_of no_steps = no_steps
 tail_of (more_steps s ss) = ss
 
--- What stands behind the `*` of a simple query.
+-- What stands behind the `*` of a query that begins with it.
 abbrev pub steps_behind : Expression → Steps
 steps_behind (chain everything ss) = ss
 steps_behind _ = no_steps
 
--- The key of a simple query: that of its filter in the scope of null alone.
+-- The key of a query of one filter: that of the filter in the scope of null alone.
 abbrev pub query_key : Expression → Pairs → Key
 query_key e params = key_in (filter_of (steps_behind e)) (null ∷ []) params
 
--- The keys that the filter of a simple query gives, in the same scope.
+-- The keys that the filter gives, in the same scope.
 abbrev pub query_keys : Expression → Pairs → List Key
 query_keys e params = filter_keys (filter_of (steps_behind e)) (null ∷ []) params

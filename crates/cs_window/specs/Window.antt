@@ -1,5 +1,5 @@
--- The window of a simple query: the first documents in an order, which are all that its answer is
--- made of. This project's profile.
+-- The window of a query: the first documents in the order that stands behind its filter, which are
+-- all that its answer is made of. This project's profile.
 use Rattle.std.specs.Prelude.{◌≡◌, ◌≤◌, ℕ, Bool, true, filter, length, List, [], ◌∷◌, map, take, not, Option, Some, None, option_and_then, slice_get, if◌then◌else◌}
 use Rattle.std.specs.Option.{option_map, option_map_or}
 use Rattle.std.specs.Ordering.{is_gt}
