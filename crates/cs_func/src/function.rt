@@ -1,3 +1,5 @@
+//! Which function a call asks for.
+
 /// A function of values.
 #[derive(Clone, Copy, Debug, Drop, PartialEq, Eq)]
 pub enum Function {

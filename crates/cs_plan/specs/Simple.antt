@@ -1,6 +1,6 @@
--- Queries of one filter and steps behind it: what of them looks nothing up, which of them are simple,
--- so that the documents that make the filter true are all that the answer is made of, and the keys
--- of their filter. This project's profile.
+-- Queries of one filter and steps behind it: what of them looks nothing up, which of them are
+-- simple, so that the documents that make the filter true are all that the answer is made of, and
+-- the keys of their filter. This project's profile.
 use Rattle.std.specs.Prelude.{Bool, true, false, ◌&&◌, List, [], ◌∷◌, if◌then◌else◌}
 use Rattle.cs_value.specs.Tree.{null, Pairs}
 use Rattle.cs_syntax.specs.Expression.{Expression, null_literal, everything, round, call, array, object_literal, chain, prefix, run, within, between, Operands, no_operands, more_operands, Step, attr, deref, each, slice, bracket, project, pipe, Steps, no_steps, more_steps, Entry, keyed, bare, when, spread, Entries, no_entries, more_entries, Element, element, spread_element, Elements, no_elements, more_elements, Argument, argument, when_argument, Arguments, no_arguments, more_arguments, order_key, OrderKeys, no_keys, more_keys}

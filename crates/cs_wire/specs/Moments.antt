@@ -48,7 +48,7 @@ minute s = number_at 14 2 s
 abbrev pub second : List ℕ → ℕ
 second s = number_at 17 2 s
 
--- ---- the calendar (RFC 3339, "Day of the Month" and "Leap Years")
+-- ---- the calendar (RFC 3339, section 5.7 and appendix C)
 abbrev pub is_leap : ℕ → Bool
 is_leap y = y % 4 == 0 && (not (y % 100 == 0) || y % 400 == 0)
 

@@ -1,11 +1,11 @@
 use Rattle.std.proofs.Common.{◌≡◌, Ok, Err, set, sym, ap, ◌∙◌}
+use Rattle.std.proofs.lemmas.Result.{IfOk-weaker}
 use Rattle.std.specs.List.{insert}
 use Rattle.std.specs.BTreeMap.{insert_entry}
 use Rattle.std_collections.specs.Layout.BTreeMap.{seek}
 use Rattle.std_collections.proofs.Seek.{insert_entry_err}
 use Rattle.cs_value.specs.Entries.{compares}
 use Rattle.cs_value.proofs.Places.{written_over}
-use Rattle.cs_value.proofs.Views.{ok_mapped}
 use Rattle.cs_value.proofs.map.row.set.Goals as goal
 
 pub returns-in-Ok-clause-entries : goal.returns-in-Ok-clause-entries
@@ -27,7 +27,7 @@ returns-in-Err-clause-entries g c =
     ap (λ t. seek (compares t) row) (sym c.as_str.ensures)
     ∙ ap (λ r. seek (compares c.as_str.result.now) r) (sym c.as_slice.ensures.value)
     ∙ sym c.in-Err.ensures.place in
-    ok_mapped c.enter.result
+    IfOk-weaker c.enter.result
     (λ _. c.enter.new.row.items ≡ insert row at (c.args.name, c.args.value))
     (λ _. c.enter.new.row.items ≡ insert_entry compares row c.args.name c.args.value)
     (λ _ items. items ∙ insert_entry_err compares c.args.name c.args.value row at is)
