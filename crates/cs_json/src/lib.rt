@@ -5,11 +5,13 @@ mod convert;
 mod de;
 mod depth;
 mod direct;
+mod list;
 mod node;
 mod send;
 mod ser;
 
 pub use de::{ValueReader, read};
+pub use list::write_list;
 pub use node::{Member, Node};
 pub use ser::{write, write_node};
 use std::alloc::{AllocError, AllocFailed};

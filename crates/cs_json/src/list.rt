@@ -1,0 +1,44 @@
+//! The text of a list from the texts of its values, none of which is walked again.
+ghost use Rattle.std.specs.Prelude.{◌≡◌, ◌++◌, List, OnOk, IfOk, map, false};
+ghost use Rattle.serde_json.specs.Written.{comma_if};
+ghost use Rattle.cs_value.specs.Tree.{Tree};
+ghost use Rattle.cs_value.specs.Words.{list_of};
+ghost use Rattle.cs_json.specs.Text.{items_joined, json_text};
+
+use cs_value::NoMemory;
+use std::alloc::Global;
+
+/// The compact text of a list, of whose values these are the compact texts: each is copied as it
+/// stands. `NoMemory` where the allocator has no room for it.
+pub fn write_list(alloc: Global, texts: &[&[u8]]) -> Result<Vec<u8>, NoMemory>
+    ensures { (ts : List Tree) → map (λ text. text.now) texts.now ≡ map json_text ts
+        → IfOk result (λ b. b.items ≡ json_text (list_of ts)) }
+{
+    let mut out = Vec::new(alloc);
+    out.push(b'[')?;
+    write_items(texts, &mut out)?;
+    Ok(out)
+}
+
+// Appends the text of one value, behind a comma where another stands before it.
+fn write_item(later: bool, text: &[u8], out: &mut Vec<u8>) -> Result<(), NoMemory>
+    ensures { OnOk result (out.new.items ≡ out.old.items ++ (comma_if later ++ text.now)) }
+{
+    if later {
+        out.push(b',')?;
+    }
+    Ok(out.extend_from_slice(text)?)
+}
+
+// Appends the texts of the values and the bracket behind them.
+fn write_items(texts: &[&[u8]], out: &mut Vec<u8>) -> Result<(), NoMemory>
+    ensures { OnOk result (out.new.items
+        ≡ out.old.items ++ items_joined false (map (λ text. text.now) texts.now)) }
+{
+    let mut later = false;
+    for text in texts {
+        write_item(later, text, out)?;
+        later = true;
+    }
+    Ok(out.push(b']')?)
+}
