@@ -1,2 +1,3 @@
+pub mod Living
 mod Members
 mod Sorting

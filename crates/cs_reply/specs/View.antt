@@ -1,8 +1,10 @@
 -- What contracts see of the replies that are written.
-use Rattle.std.specs.Prelude.{◌≡◌, ℕ, List, ◌++◌, map, option_map}
-use Rattle.cs_value.specs.Tree.{Tree}
+use Rattle.std.specs.Prelude.{◌≡◌, ℕ, List, ◌++◌, codes, map, option_map}
+use Rattle.cs_value.specs.Tree.{Tree, text}
 use Rattle.cs_value.specs.View.{tree}
 use Rattle.cs_json.specs.Nodes.{node_tree}
+use Rattle.cs_json.specs.Text.{json_text}
+use Rattle.cs_reply.specs.Fields.{number}
 use Rattle.cs_reply.specs.Refusal as why
 use Rattle.cs_reply.specs.Reply as said
 use Rattle.cs_reply.specs.Stated as stated
@@ -15,7 +17,7 @@ use Rattle.cs_reply.specs.declared.reply.Operation.{Operation}
 use Rattle.cs_reply.specs.declared.reply.Operation.TheVariants.{Create, Update, Delete}
 use Rattle.cs_reply.specs.declared.reply.Outcome.{Outcome}
 use Rattle.cs_reply.specs.declared.reply.Reply.{Reply}
-use Rattle.cs_reply.specs.declared.reply.Reply.TheVariants.{Committed, Found, Live, Welcome, Heard, Stopped, Set, Refused}
+use Rattle.cs_reply.specs.declared.reply.Reply.TheVariants.{Committed, Found, Welcome, Heard, Stopped, Set, Refused}
 use Rattle.cs_reply.specs.declared.stated.Cause.{Cause}
 use Rattle.cs_reply.specs.declared.stated.Cause.TheVariants as line
 use Rattle.cs_reply.specs.declared.stated.Source.{Source}
@@ -72,7 +74,6 @@ event e = record {
 abbrev pub reply : Reply → said.Reply
 reply (Committed tx outcomes) = said.committed tx.now (map outcome outcomes.now)
 reply (Found node) = said.found (node_tree node)
-reply (Live name answer) = said.live name.now (node_tree answer)
 reply (Welcome name) = said.welcome name.now
 reply (Heard e) = said.event (event e)
 reply (Stopped name) = said.stopped name.now
@@ -100,3 +101,10 @@ stop (ends.Dangling from to) = stated.dangling from.now to.now
 -- the value was written as a line behind what stood there
 abbrev pub Appended : List ℕ → List ℕ → Tree → Type 0
 Appended old new t = new ≡ old ++ said.written_line t
+
+-- what stands before the answer in the reply with that of a live query. For private clauses
+abbrev pub before_answer : ℕ → List ℕ → List ℕ
+before_answer line name =
+    codes "{\"line\":" ++ json_text (number line)
+    ++ codes ",\"live\":" ++ json_text (text name)
+    ++ codes ",\"result\":"

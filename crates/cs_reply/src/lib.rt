@@ -4,6 +4,7 @@
 
 mod event;
 mod line;
+mod live;
 mod refusal;
 mod reply;
 mod stated;
@@ -12,6 +13,7 @@ mod tests;
 
 pub use event::{Event, Transition};
 pub use line::{write_line, write_value};
+pub use live::write_live;
 pub use refusal::Refusal;
 pub use reply::{Operation, Outcome, Reply};
 pub use stated::{Cause, Source, Stop};

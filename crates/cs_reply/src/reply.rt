@@ -1,7 +1,7 @@
 //! The replies to a line.
 ghost use Rattle.std.specs.Prelude.{◌≡◌, OnOk, IfOk, map};
 ghost use Rattle.cs_json.specs.Nodes.{node_tree};
-ghost use Rattle.cs_reply.specs.Reply.{operation_word, reply_tree, committed, found, live, welcome, stopped, set, outcome as outcome_tree};
+ghost use Rattle.cs_reply.specs.Reply.{operation_word, reply_tree, committed, found, welcome, stopped, set, outcome as outcome_tree};
 ghost use Rattle.cs_reply.specs.View.{operation, outcome, reply, Appended};
 
 use crate::event::{Event, write_event};
@@ -43,7 +43,7 @@ pub struct Outcome<'a> {
     pub operation: Operation,
 }
 
-/// A reply to a line.
+/// A reply to a line. The answer of a live query is written by [`crate::write_live`].
 #[derive(Drop)]
 pub enum Reply<'a> {
     /// A transaction was accepted: its id, and what became of each document that it changed, by
@@ -54,11 +54,6 @@ pub enum Reply<'a> {
     },
     /// What a query found.
     Found(Node<'a>),
-    /// The answer of the live query of this name.
-    Live {
-        name: &'a str,
-        answer: Node<'a>,
-    },
     /// A listener of this name listens.
     Welcome(&'a str),
     /// What a listener hears of a change.
@@ -121,24 +116,6 @@ fn write_found(alloc: Global, node: Node<'_>, line: u32, out: &mut Vec<u8>) -> R
     write_line(alloc, members, out)
 }
 
-fn write_live<'a>(
-    alloc: Global,
-    name: &'a str,
-    answer: Node<'a>,
-    line: u32,
-    out: &mut Vec<u8>,
-) -> Result<(), NoMemory>
-    ensures { OnOk result (Appended out.old.items out.new.items
-        (reply_tree line (live name.now (node_tree answer.entry)))) }
-{
-    let members = vec![in alloc;
-        member("line", number(line)),
-        member("live", text(name)),
-        member("result", answer),
-    ]?;
-    write_line(alloc, members, out)
-}
-
 fn write_welcome(alloc: Global, name: &str, line: u32, out: &mut Vec<u8>) -> Result<(), NoMemory>
     ensures { OnOk result (Appended out.old.items out.new.items
         (reply_tree line (welcome name.now))) }
@@ -177,7 +154,6 @@ impl Reply<'_> {
         match self {
             Reply::Committed { tx, outcomes } => write_committed(alloc, tx, outcomes, line, out),
             Reply::Found(node) => write_found(alloc, node, line, out),
-            Reply::Live { name, answer } => write_live(alloc, name, answer, line, out),
             Reply::Welcome(name) => write_welcome(alloc, name, line, out),
             Reply::Heard(event) => write_event(alloc, event, line, out),
             Reply::Stopped(name) => write_stopped(alloc, name, line, out),

@@ -45,9 +45,10 @@ fn writes_replies(rt: HostRuntime) -> Result<(), Fail> {
         written(alloc, Reply::Found(Node::Flag(true)))?.as_str(),
         "{\"line\":7,\"result\":true}\n"
     );
-    let answer = Node::Flag(false);
+    let mut live = Vec::new(alloc);
+    write_live(alloc, "a", b"false", 7, &mut live)?;
     assert_eq!(rt;
-        written(alloc, Reply::Live { name: "a", answer })?.as_str(),
+        String::from_utf8(live)?.as_str(),
         "{\"line\":7,\"live\":\"a\",\"result\":false}\n"
     );
     assert_eq!(rt;
