@@ -3,4 +3,6 @@ pub mod Brought
 pub mod Nearing
 pub mod Newly
 pub mod Places
+mod Renewing
 pub mod Sharing
+pub mod Sides

@@ -4,6 +4,7 @@ use Rattle.std.specs.Prelude.{Contains}
 use Rattle.std.proofs.lemmas.List.Folds.{list_any-append}
 use Rattle.cs_value.specs.Tree.{Tree, Pairs}
 use Rattle.cs_value.specs.Words.{list_of}
+use Rattle.cs_json.specs.Text.{json_text}
 use Rattle.cs_syntax.specs.Expression.{Expression}
 use Rattle.cs_view.specs.Changes.{Edit, are_changes, LeadTo, before_changes}
 use Rattle.cs_view.specs.Dataset.{ascending}
@@ -31,6 +32,11 @@ pub shares-value : MappedIsSharesOfHits → (docs : List Tree) (e : Expression) 
 shares-value law docs e params ss v mapped are all is =
     is ∙ ap list_of (made-of docs e params ss all ∙ ap (map (share docs e params)) are) ∙ sym (law e params docs mapped).0
 
+-- the texts of shares are those of their values
+pub texts-of : (docs : List Tree) (e : Expression) (params : Pairs) (ss : List Share) → AreShares docs e params ss → map (λ (s : Share). s.text.items) ss ≡ map json_text (share_values ss)
+texts-of docs e params [] all = refl
+texts-of docs e params (s ∷ ss) all = λ i. all.0.text i ∷ texts-of docs e params ss all.1 i
+
 -- ---- shares that no change touches
 module _ (docs : List Tree) (cs : List Edit) (sorted : ascending docs ≡ true) (changes : are_changes cs ≡ true) (leads : LeadTo docs cs)
     (untouched : UntouchedSelectsTheSame) (back : ChangesLeadBackAndOn) (looked : LookedSettlesShare) where
@@ -42,7 +48,7 @@ module _ (docs : List Tree) (cs : List Edit) (sorted : ascending docs ≡ true) 
       let agree : (k : Key) → Contains (share_looked before e params (share_doc s)) k → having k before ≡ having k docs
       = λ k at. stays docs cs sorted changes leads untouched back s.looked quiet k (subst (λ (ks : List Key). Contains ks k) (sym is.looked) at) in
       let settled = looked e params (share_doc s) before docs agree in
-      record { value = is.value ∙ settled.0; looked = is.looked ∙ settled.1 }
+      record { value = is.value ∙ settled.0; text = is.text; looked = is.looked ∙ settled.1 }
 
   pub all-still : (e : Expression) (params : Pairs) (ss : List Share) → touched (shares_looked ss) cs ≡ false → AreShares before e params ss → AreShares docs e params ss
   all-still e params [] quiet all = tt

@@ -1,13 +1,15 @@
 -- What contracts see of the shares that hits have in the answer of a mapped query. This project's
 -- profile.
-use Rattle.std.specs.Prelude.{◌≡◌, List, map, flat_map}
-use Rattle.std.specs.List.{AllByRecursion}
+use Rattle.std.specs.Prelude.{◌≡◌, ℕ, ◌<◌, List, length, get_or, false, map, flat_map}
+use Rattle.std.specs.List.{All, AllByRecursion}
 use Rattle.cs_value.specs.Tree.{Tree, Pairs}
 use Rattle.cs_value.specs.View.{tree}
+use Rattle.cs_json.specs.Text.{json_text}
 use Rattle.cs_syntax.specs.Expression.{Expression}
 use Rattle.cs_view.specs.Changes.{Edit, after_changes, changes_where}
 use Rattle.cs_view.specs.View.{document_of}
 use Rattle.cs_view.specs.declared.key.Key.{Key}
+use Rattle.cs_codes.specs.Codes.{is_among}
 use Rattle.cs_meaning.specs.Hits.{is_hit}
 use Rattle.cs_window.specs.Mapped.{share, share_looked}
 use Rattle.cs_hits.specs.declared.share.Share.{Share}
@@ -27,9 +29,10 @@ share_values ss = map (λ s. tree s.value) ss
 abbrev pub shares_looked : List Share → List Key
 shares_looked ss = flat_map (λ s. s.looked) ss
 
--- it is the share of its document over a dataset, with what finding it looks up
+-- it is the share of its document over a dataset, with its text and what finding it looks up
 pub record IsShare (docs : List Tree) (e : Expression) (params : Pairs) (s : Share) : Type 0 where
   pub value : tree s.value ≡ share docs e params (share_doc s)
+  pub text : s.text.items ≡ json_text (tree s.value)
   pub looked : s.looked ≡ share_looked docs e params (share_doc s)
 
 abbrev pub AreShares : List Tree → Expression → Pairs → List Share → Type 0
@@ -40,3 +43,10 @@ pub record SharesFollow (docs : List Tree) (cs : List Edit) (e : Expression) (pa
     (old new : List Share) : Type 0 where
   pub hits : share_docs new ≡ after_changes (share_docs old) (changes_where (is_hit e params) cs)
   pub shares : AreShares docs e params new
+
+-- one list of trees is the other, but at these places
+pub record SameBut (places : List ℕ) (ts us : List Tree) : Type 0 where
+  pub long : length ts ≡ length us
+  pub within : All (λ i. i < length ts) places
+  pub same : (i : ℕ) (t : Tree) → i < length ts → is_among i places ≡ false
+      → get_or ts i t ≡ get_or us i t

@@ -1,5 +1,5 @@
 //! What is held for documents, by ascending id.
-ghost use Rattle.std.specs.Prelude.{◌≡◌, false, true, map, OnOk};
+ghost use Rattle.std.specs.Prelude.{◌≡◌, ◌<◌, length, set, false, true, map, OnOk, IfOk, IfSome};
 ghost use Rattle.cs_value.specs.Tree.{Tree};
 ghost use Rattle.cs_view.specs.Dataset.{ascending, with_doc, without};
 ghost use Rattle.cs_view.specs.View.{document_of};
@@ -33,18 +33,26 @@ fn seek<T: Held>(all: &[T], id: &Txt) -> Result<usize, usize>
     all.binary_search_by(|one| one.doc().id().as_str().cmp(id.as_str()))
 }
 
-/// Puts one in the place of its document's id.
-pub fn put<T: Held + Drop>(all: &mut Vec<T>, one: T) -> Result<(), NoMemory>
+/// Puts one in the place of its document's id. The place is told where one stood there; `None` says
+/// that it stands between others now, or at an end.
+pub fn put<T: Held + Drop>(all: &mut Vec<T>, one: T) -> Result<Option<usize>, NoMemory>
     requires { ascending (map T.held all.old.items) ≡ true }
     ensures put { OnOk result (map T.held all.new.items
         ≡ with_doc (T.held one) (map T.held all.old.items)) }
     ensures among { OnOk result (IsPut one all.old.items all.new.items) }
+    ensures stood { IfOk result (λ at. IfSome at (λ i. (i < length all.old.items)
+        × (all.new.items ≡ set all.old.items i one))) }
 {
     match seek(all, one.doc().id()) {
-        Ok(place) => all[place] = one,
-        Err(place) => all.insert(place, one)?,
+        Ok(place) => {
+            all[place] = one;
+            Ok(Some(place))
+        }
+        Err(place) => {
+            all.insert(place, one)?;
+            Ok(None)
+        }
     }
-    Ok(())
 }
 
 /// Takes out what is held for the document of the id: whether there was something.

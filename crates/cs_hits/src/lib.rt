@@ -8,8 +8,12 @@ mod hits;
 mod near;
 mod share;
 mod shares;
+mod touching;
 
 pub use behind::Behind;
 pub use hits::Hits;
 pub use share::Share;
-pub use shares::{answer_of, codes_of, find_shares, follow_shares, renew_shares, shares_touched};
+pub use shares::{
+    answer_of, codes_of, find_shares, follow_shares, renew_shares, shares_touched, text_of,
+};
+pub use touching::stands;

@@ -1,5 +1,5 @@
 //! The share that a hit has in the answer of a mapped query.
-ghost use Rattle.std.specs.Prelude.{◌≡◌, false, true, IfOk};
+ghost use Rattle.std.specs.Prelude.{◌≡◌, false, true, IfOk, OnErr, OnOk};
 ghost use Rattle.cs_value.specs.View.{fields};
 ghost use Rattle.cs_syntax.specs.Queries.{expression_of};
 ghost use Rattle.cs_view.specs.Changes.{are_changes, LeadTo, before_changes};
@@ -9,7 +9,9 @@ ghost use Rattle.cs_window.specs.Mapped.{is_mapped};
 ghost use Rattle.cs_hits.specs.Shares.{IsShare, share_doc};
 
 use crate::held::Held;
+use crate::touching::some_touched;
 use cs_eval::share;
+use cs_json::write;
 use cs_syntax::Query;
 use cs_value::{Fields, NoMemory, Steps, Val};
 use cs_view::laws::{changes_lead_back_and_on, untouched_selects_the_same};
@@ -18,11 +20,12 @@ use cs_window::looked_settles_share;
 use std::alloc::Global;
 use std::sync::ledger::Ledger;
 
-/// A document, its share in an answer, and the keys that finding the share looked up.
+/// A document, its share in an answer with its text, and the keys that finding the share looked up.
 #[derive(Drop)]
 pub struct Share {
     pub doc: Doc,
     pub value: Val,
+    pub text: Vec<u8>,
     pub looked: Record,
 }
 
@@ -52,51 +55,57 @@ impl Share {
     {
         let mut looked = Record::new(alloc);
         let value = share(alloc, query, params, doc, view, &mut looked, steps)?;
+        let text = write(alloc, &value)?;
         Ok(Share {
             doc: doc.copy()?,
             value,
+            text,
             looked,
         })
     }
 
     /// Whether the changes touch what finding the share looked up.
     pub fn touched(&self, changes: &[Change]) -> bool
+        requires { are_changes (edits changes.now) ≡ true }
         ensures { result ≡ touched self.now.looked (edits changes.now) }
     {
-        self.looked.touched(changes)
+        some_touched(self.looked.keys(), changes)
     }
 
-    /// The share of its document in the dataset after the changes, and whether it was found anew:
-    /// that is where the changes touch what finding it looked up. `NoMemory` where the allocator
-    /// has no room for it.
-    pub fn renewed<V: View<L>, L: Ledger>(
-        self,
+    /// Brings the share to the dataset after the changes: whether it was found anew, which it is
+    /// where the changes touch what finding it looked up. `NoMemory` where the allocator has no
+    /// room for it; it is as before then.
+    pub fn renew<V: View<L>, L: Ledger>(
+        &mut self,
         alloc: Global,
         query: &Query,
         params: &Fields,
         view: &V,
         changes: &[Change],
         steps: &mut Steps<L>,
-    ) -> Result<(Share, bool), NoMemory>
+    ) -> Result<bool, NoMemory>
         requires mapped { is_mapped (expression_of query.now) ≡ true }
         requires changes { are_changes (edits changes.now) ≡ true }
         requires led { LeadTo (V.docs view.now) (edits changes.now) }
         requires share { IsShare (before_changes (V.docs view.now) (edits changes.now))
-            (expression_of query.now) (fields params.now) self }
-        ensures share { IfOk result
-            (λ r. IsShare (V.docs view.now) (expression_of query.now) (fields params.now) r.0) }
-        ensures doc { IfOk result (λ r. share_doc r.0 ≡ share_doc self) }
-        ensures same { IfOk result (λ r. r.1 ≡ false → r.0 ≡ self) }
-        ensures told { IfOk result (λ r. r.1 ≡ touched self.looked (edits changes.now)) }
-        ensures quiet { touched self.looked (edits changes.now) ≡ false → steps.new ≡ steps.old }
+            (expression_of query.now) (fields params.now) self.old }
+        ensures share { OnOk result (IsShare (V.docs view.now) (expression_of query.now)
+            (fields params.now) self.new) }
+        ensures doc { OnOk result (share_doc self.new ≡ share_doc self.old) }
+        ensures same { IfOk result (λ b. b ≡ false → self.new ≡ self.old) }
+        ensures told { IfOk result (λ b. b ≡ touched self.old.looked (edits changes.now)) }
+        ensures unchanged { OnErr result (self.new ≡ self.old) }
+        ensures quiet { touched self.old.looked (edits changes.now) ≡ false
+            → steps.new ≡ steps.old }
     {
         looked_settles_share();
         untouched_selects_the_same();
         changes_lead_back_and_on();
         if !self.touched(changes) {
-            return Ok((self, false));
+            return Ok(false);
         }
         let anew = Share::find(alloc, query, params, &self.doc, view, steps)?;
-        Ok((anew, true))
+        *self = anew;
+        Ok(true)
     }
 }

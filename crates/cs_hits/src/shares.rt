@@ -1,22 +1,27 @@
 //! The shares that the hits of a mapped query have in its answer, by ascending id.
-ghost use Rattle.std.specs.Prelude.{◌≡◌, ◌++◌, ◌∷◌, false, true, map, IfOk, OnOk};
+ghost use Rattle.std.specs.Prelude.{◌≡◌, ◌≢◌, ◌++◌, ◌∷◌, [], List, false, true, map, IfOk, OnOk};
+ghost use Rattle.cs_value.specs.Tree.{Pairs, Tree};
 ghost use Rattle.cs_value.specs.View.{tree, fields};
 ghost use Rattle.cs_value.specs.Words.{list_of};
+ghost use Rattle.cs_json.specs.Text.{json_text};
+ghost use Rattle.cs_syntax.specs.Expression.{Expression};
 ghost use Rattle.cs_syntax.specs.Queries.{expression_of};
 ghost use Rattle.cs_view.specs.Changes.{are_changes, before_changes, LeadTo};
-ghost use Rattle.cs_view.specs.Dataset.{ascending, kept_if, placed};
+ghost use Rattle.cs_view.specs.Dataset.{ascending, kept_if, placed, with_doc};
 ghost use Rattle.cs_view.specs.Touched.{touched};
 ghost use Rattle.cs_view.specs.View.{document_of, edit, edits};
 ghost use Rattle.cs_meaning.specs.Hits.{hits, is_hit};
 ghost use Rattle.cs_window.specs.Mapped.{is_mapped};
 ghost use Rattle.cs_interest.specs.Interest.{interest_code};
-ghost use Rattle.cs_hits.specs.Shares.{AreShares, SharesFollow, share_docs, share_values, shares_looked};
+ghost use Rattle.cs_hits.specs.Held.{IsPut};
+ghost use Rattle.cs_hits.specs.Shares.{AreShares, SameBut, SharesFollow, share_doc, share_docs, share_values, shares_looked};
 
 use crate::held::{put, remove};
 use crate::share::Share;
 use cs_codes::Seed;
 use cs_eval::{hit, hits};
 use cs_interest::interest_code;
+use cs_json::write_list;
 use cs_syntax::Query;
 use cs_value::{Fields, NoMemory, Steps, Val};
 use cs_view::{Change, Doc, Key, View};
@@ -77,6 +82,29 @@ pub fn answer_of(alloc: Global, shares: &[Share]) -> Result<Val, NoMemory>
     Ok(Val::List(list))
 }
 
+/// The text of the list of the shares, put together from theirs. `NoMemory` where the allocator has
+/// no room for it.
+pub fn text_of(alloc: Global, shares: &[Share]) -> Result<Vec<u8>, NoMemory>
+    ensures { (docs : List Tree) (e : Expression) (params : Pairs)
+        → AreShares docs e params shares.now
+        → IfOk result (λ b. b.items ≡ json_text (list_of (share_values shares.now))) }
+{
+    let texts = texts_of(alloc, shares)?;
+    write_list(alloc, &texts)
+}
+
+// The texts of the shares, which are lent.
+fn texts_of<'s>(alloc: Global, shares: &'s [Share]) -> Result<Vec<&'s [u8]>, NoMemory>
+    ensures { IfOk result (λ texts. map (λ text. text.now) texts.items
+        ≡ map (λ s. s.text.items) shares.now) }
+{
+    let mut texts = Vec::with_capacity(alloc, shares.len())?;
+    for share in shares {
+        texts.push(share.text.as_slice())?;
+    }
+    Ok(texts)
+}
+
 // Adds the codes under which interest in the keys is held.
 fn add_codes(seed: &Seed, keys: &[Key], codes: &mut Vec<u64>) -> Result<(), NoMemory>
     ensures { OnOk result
@@ -109,6 +137,7 @@ pub fn codes_of(
 
 /// Whether the changes touch what finding one of the shares looked up. It takes no memory.
 pub fn shares_touched(shares: &[Share], changes: &[Change]) -> bool
+    requires { are_changes (edits changes.now) ≡ true }
     ensures { result ≡ touched (shares_looked shares.now) (edits changes.now) }
 {
     for share in shares {
@@ -119,39 +148,62 @@ pub fn shares_touched(shares: &[Share], changes: &[Change]) -> bool
     false
 }
 
-/// The shares of the same documents in the dataset after the changes. Those that the changes touch
-/// are found anew; `false` says that all are as before. `NoMemory` where the allocator has no room
-/// for them.
+/// Brings the shares to the dataset after the changes: the places of those that were found anew, by
+/// what the changes touch. After `NoMemory` they are of no more use.
 pub fn renew_shares<V: View<L>, L: Ledger>(
     alloc: Global,
     query: &Query,
     params: &Fields,
-    shares: Vec<Share>,
+    shares: &mut Vec<Share>,
     view: &V,
     changes: &[Change],
     steps: &mut Steps<L>,
-) -> Result<(Vec<Share>, bool), NoMemory>
+) -> Result<Vec<usize>, NoMemory>
     requires mapped { is_mapped (expression_of query.now) ≡ true }
     requires changes { are_changes (edits changes.now) ≡ true }
     requires led { LeadTo (V.docs view.now) (edits changes.now) }
     requires shares { AreShares (before_changes (V.docs view.now) (edits changes.now))
-        (expression_of query.now) (fields params.now) shares.items }
-    ensures docs { IfOk result (λ r. share_docs r.0.items ≡ share_docs shares.items) }
-    ensures shares { IfOk result (λ r. AreShares (V.docs view.now) (expression_of query.now)
-        (fields params.now) r.0.items) }
-    ensures same { IfOk result (λ r. r.1 ≡ false → r.0.items ≡ shares.items) }
+        (expression_of query.now) (fields params.now) shares.old.items }
+    ensures docs { OnOk result (share_docs shares.new.items ≡ share_docs shares.old.items) }
+    ensures shares { OnOk result (AreShares (V.docs view.now) (expression_of query.now)
+        (fields params.now) shares.new.items) }
+    ensures but { IfOk result (λ anew. SameBut anew.items (share_values shares.old.items)
+        (share_values shares.new.items)) }
+    ensures same { IfOk result (λ anew. anew.items ≡ []
+        → shares.new.items ≡ shares.old.items) }
 {
-    let mut renewed = Vec::with_capacity(alloc, shares.len())?;
-    let mut moved = false;
-    for share in shares {
-        let (share, anew) = share.renewed(alloc, query, params, view, changes, steps)?;
-        renewed.push(share)?;
-        moved = moved | anew;
+    let mut anew = Vec::new(alloc);
+    for place in 0..shares.len() {
+        if shares[place].renew(alloc, query, params, view, changes, steps)? {
+            anew.push(place)?;
+        }
     }
-    Ok((renewed, moved))
+    Ok(anew)
 }
 
-// Brings the shares behind one change. `false` says that they are as before.
+// Puts the share in the place of its document's id, and notes the place where one stood there.
+// `true` says that none did, so that those behind it stand elsewhere now.
+fn put_share(shares: &mut Vec<Share>, share: Share, anew: &mut Vec<usize>) -> Result<bool, NoMemory>
+    requires { ascending (share_docs shares.old.items) ≡ true }
+    ensures put { OnOk result (share_docs shares.new.items
+        ≡ with_doc (share_doc share) (share_docs shares.old.items)) }
+    ensures among { OnOk result (IsPut share shares.old.items shares.new.items) }
+    ensures but { IfOk result (λ shifted. shifted ≡ false → (ts : List Tree)
+        → SameBut anew.old.items ts (share_values shares.old.items)
+        → SameBut anew.new.items ts (share_values shares.new.items)) }
+    ensures noted { IfOk result (λ shifted. shifted ≡ false → anew.new.items ≢ []) }
+{
+    match put(shares, share)? {
+        Some(stood) => {
+            anew.push(stood)?;
+            Ok(false)
+        }
+        None => Ok(true),
+    }
+}
+
+// Brings the shares behind one change, and notes the place of one that was found anew. `true` says
+// that one was taken out, or put where none stood.
 fn place<V: View<L>, L: Ledger>(
     alloc: Global,
     query: &Query,
@@ -159,6 +211,7 @@ fn place<V: View<L>, L: Ledger>(
     shares: &mut Vec<Share>,
     view: &V,
     change: &Change,
+    anew: &mut Vec<usize>,
     steps: &mut Steps<L>,
 ) -> Result<bool, NoMemory>
     requires mapped { is_mapped (expression_of query.now) ≡ true }
@@ -170,20 +223,25 @@ fn place<V: View<L>, L: Ledger>(
         (share_docs shares.old.items)) }
     ensures shares { OnOk result (AreShares (V.docs view.now) (expression_of query.now)
         (fields params.now) shares.new.items) }
-    ensures same { IfOk result (λ b. b ≡ false → shares.new.items ≡ shares.old.items) }
+    ensures but { IfOk result (λ shifted. shifted ≡ false → (ts : List Tree)
+        → SameBut anew.old.items ts (share_values shares.old.items)
+        → SameBut anew.new.items ts (share_values shares.new.items)) }
+    ensures same { IfOk result (λ shifted. shifted ≡ false → anew.new.items ≡ []
+        → (anew.old.items ≡ []) × (shares.new.items ≡ shares.old.items)) }
 {
     mapped_is_filtered();
     if let Some(doc) = &change.after {
         if hit(alloc, query, params, doc)? {
-            put(shares, Share::find(alloc, query, params, doc, view, steps)?)?;
-            return Ok(true);
+            let share = Share::find(alloc, query, params, doc, view, steps)?;
+            return put_share(shares, share, anew);
         }
     }
     Ok(remove(shares, &change.id))
 }
 
-/// Brings the shares of the dataset's documents behind the changes that led to it. `false` says that
-/// they are as before. After `NoMemory` they are of no more use.
+/// Brings the shares of the dataset's documents behind the changes that led to it, and notes the
+/// places of those that were found anew. `true` says that one was taken out, or put where none
+/// stood, so that others stand elsewhere now. After `NoMemory` they are of no more use.
 pub fn follow_shares<V: View<L>, L: Ledger>(
     alloc: Global,
     query: &Query,
@@ -191,6 +249,7 @@ pub fn follow_shares<V: View<L>, L: Ledger>(
     shares: &mut Vec<Share>,
     view: &V,
     changes: &[Change],
+    anew: &mut Vec<usize>,
     steps: &mut Steps<L>,
 ) -> Result<bool, NoMemory>
     requires mapped { is_mapped (expression_of query.now) ≡ true }
@@ -199,14 +258,27 @@ pub fn follow_shares<V: View<L>, L: Ledger>(
         shares.old.items }
     ensures follow { OnOk result (SharesFollow (V.docs view.now) (edits changes.now)
         (expression_of query.now) (fields params.now) shares.old.items shares.new.items) }
-    ensures same { IfOk result (λ b. b ≡ false → shares.new.items ≡ shares.old.items) }
+    ensures but { IfOk result (λ shifted. shifted ≡ false → (ts : List Tree)
+        → SameBut anew.old.items ts (share_values shares.old.items)
+        → SameBut anew.new.items ts (share_values shares.new.items)) }
+    ensures same { IfOk result (λ shifted. shifted ≡ false → anew.new.items ≡ []
+        → (anew.old.items ≡ []) × (shares.new.items ≡ shares.old.items)) }
 {
-    let mut touched = false;
+    let mut shifted = false;
     let mut left = changes.len();
     while left > 0 {
         left -= 1;
-        let moved = place(alloc, query, params, shares, view, &changes[left], steps)?;
-        touched = touched | moved;
+        let moved = place(
+            alloc,
+            query,
+            params,
+            shares,
+            view,
+            &changes[left],
+            anew,
+            steps,
+        )?;
+        shifted = shifted | moved;
     }
-    Ok(touched)
+    Ok(shifted)
 }

@@ -1,5 +1,6 @@
-use Rattle.std.proofs.Common.{◌≡◌, ◌∙◌, refl, sym, ap, subst, map, set, inl, inr}
+use Rattle.std.proofs.Common.{◌≡◌, ◌∙◌, ◌<◌, length, refl, sym, ap, subst, map, set, inl, inr, arith}
 use Rattle.std.specs.Prelude.{insert}
+use Rattle.std.proofs.lemmas.List.{length-map}
 use Rattle.cs_view.specs.Dataset.{with_doc}
 use Rattle.cs_view.specs.Document.{id_of}
 use Rattle.cs_hits.proofs.Places.{set_docs, insert_docs}
@@ -26,3 +27,11 @@ returns-in_ok-insert-in-Err-clause-put g c =
 
 pub returns-in_ok-insert-in-Err-clause-among : goal.returns-in_ok-insert-in-Err-clause-among
 returns-in_ok-insert-in-Err-clause-among g c = (c.in-Err.place, inr c.in_ok-insert-in-Err.ensures.items)
+
+pub returns-in-Ok-clause-stood : goal.returns-in-Ok-clause-stood
+returns-in-Ok-clause-stood g c =
+    let held = g.T.Held.held in
+    let low : c.in-Ok.place < length (map held c.args.all.now.items)
+    = subst (λ xs. c.in-Ok.place < length (map held xs)) c.deref.ensures.value c.in-Ok.ensures.within in
+    let long = length-map c.args.all.now.items held in
+    (omega (arith, low, long), refl)

@@ -22,7 +22,8 @@ loop-left-init g c =
       placed = ap (λ (l : List Change). after_changes (share_docs c.args.shares.now.items) (changes_where p (edits l))) (sym (drop_all (length changes) changes (omega arith)));
       sorted = c.requires.ascending;
       shares = c.requires.shares;
-      same = λ _. refl;
+      but = λ h ts but. but;
+      same = λ h none. (none, refl);
     }
 
 pub loop-left-preserved : goal.loop-left-preserved
@@ -39,7 +40,11 @@ loop-left-preserved g c =
           (subst (λ (k : ℕ). cur ≡ after_changes old (changes_where p (edits (drop k changes)))) next inv.placed) moved.placed;
       sorted = ap ascending moved.placed ∙ ascending-placed _ _ cur inv.sorted;
       shares = moved.shares;
-      same = λ h. moved.same (or-right _ _ h) ∙ inv.same (or-left _ _ h);
+      but = λ h ts but. moved.but (or-right _ _ h) ts (inv.but (or-left _ _ h) ts but);
+      same = λ h none.
+          let here = moved.same (or-right _ _ h) none in
+          let before = inv.same (or-left _ _ h) here.0 in
+          (before.0, here.1 ∙ before.1);
     }
 
 pub returns-clause-follow : goal.returns-clause-follow

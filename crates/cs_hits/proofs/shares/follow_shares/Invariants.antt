@@ -1,11 +1,12 @@
-use Rattle.std.proofs.Common.{◌≡◌, ◌≤◌, drop, length, false, true}
+use Rattle.std.proofs.Common.{◌≡◌, ◌≤◌, List, [], drop, length, false, true}
+use Rattle.cs_value.specs.Tree.{Tree}
 use Rattle.cs_value.specs.View.{fields}
 use Rattle.cs_syntax.specs.Queries.{expression_of}
 use Rattle.cs_view.specs.Changes.{after_changes, changes_where}
 use Rattle.cs_view.specs.Dataset.{ascending}
 use Rattle.cs_view.specs.View.{edits}
 use Rattle.cs_meaning.specs.Hits.{is_hit}
-use Rattle.cs_hits.specs.Shares.{AreShares, share_docs}
+use Rattle.cs_hits.specs.Shares.{AreShares, SameBut, share_docs, share_values}
 use Rattle.cs_hits.proofs.shares.follow_shares.Given as goal
 
 abbrev pub invariant-loop-left : goal.invariant-loop-left
@@ -14,7 +15,8 @@ invariant-loop-left g l = record {
   placed : share_docs l.shares.items ≡ after_changes (share_docs l.fn.shares.items) (changes_where (is_hit (expression_of l.query) (fields l.params)) (edits (drop l.left l.changes)));
   sorted : ascending (share_docs l.shares.items) ≡ true;
   shares : AreShares (g.V.View.docs l.view) (expression_of l.query) (fields l.params) l.shares.items;
-  same : l.touched ≡ false → l.shares.items ≡ l.fn.shares.items;
+  but : l.shifted ≡ false → (ts : List Tree) → SameBut l.fn.anew.items ts (share_values l.fn.shares.items) → SameBut l.anew.items ts (share_values l.shares.items);
+  same : l.shifted ≡ false → l.anew.items ≡ [] → (l.fn.anew.items ≡ []) × (l.shares.items ≡ l.fn.shares.items);
 }
 
 abbrev pub decreases-loop-left : goal.decreases-loop-left

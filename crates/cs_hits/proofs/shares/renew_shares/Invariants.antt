@@ -1,16 +1,16 @@
-use Rattle.std.proofs.Common.{◌≡◌, ◌++◌, false}
-use Rattle.std.specs.Vec.Iter.{into_iter_items}
+use Rattle.std.proofs.Common.{◌≡◌, [], take, drop}
 use Rattle.cs_value.specs.View.{fields}
 use Rattle.cs_syntax.specs.Queries.{expression_of}
 use Rattle.cs_view.specs.Changes.{before_changes}
 use Rattle.cs_view.specs.View.{edits}
-use Rattle.cs_hits.specs.Shares.{AreShares, share_docs}
+use Rattle.cs_hits.specs.Shares.{AreShares, SameBut, share_docs, share_values}
 use Rattle.cs_hits.proofs.shares.renew_shares.Given as goal
 
-abbrev pub invariant-loop-share : goal.invariant-loop-share
-invariant-loop-share g l = record {
-  docs : share_docs l.renewed.items ++ share_docs (into_iter_items l.share-iterator) ≡ share_docs l.fn.shares.items;
-  now : AreShares (g.V.View.docs l.view) (expression_of l.query) (fields l.params) l.renewed.items;
-  was : AreShares (before_changes (g.V.View.docs l.view) (edits l.changes)) (expression_of l.query) (fields l.params) (into_iter_items l.share-iterator);
-  same : l.moved ≡ false → l.renewed.items ++ into_iter_items l.share-iterator ≡ l.fn.shares.items;
+abbrev pub invariant-loop-place : goal.invariant-loop-place
+invariant-loop-place g l = record {
+  docs : share_docs l.shares.items ≡ share_docs l.fn.shares.items;
+  done : AreShares (g.V.View.docs l.view) (expression_of l.query) (fields l.params) (take l.place l.shares.items);
+  left : AreShares (before_changes (g.V.View.docs l.view) (edits l.changes)) (expression_of l.query) (fields l.params) (drop l.place l.shares.items);
+  but : SameBut l.anew.items (share_values l.fn.shares.items) (share_values l.shares.items);
+  same : l.anew.items ≡ [] → l.shares.items ≡ l.fn.shares.items;
 }
