@@ -1,6 +1,6 @@
 -- Ids apart from the other keys of a record: the same keys, and touched alike.
 use Rattle.std.proofs.Common.{◌≡◌, ℕ, ◌<◌, ◌≤◌, ◌+◌, drop, get_or, List, [], ◌∷◌, ◌++◌, map, Bool, true, false, ◌&&◌, ◌||◌, Option, Some, None, Less, Equal, Greater, refl, sym, ap, subst, ◌∙◌, ⊎_elim, arith, length, append_assoc, Bor}
-use Rattle.std.specs.Prelude.{is_some, option_map, Contains}
+use Rattle.std.specs.Prelude.{is_some, Contains}
 use Rattle.std.specs.Ordering.{match_ordering}
 use Rattle.std.specs.BTreeMap.{insert_entry, is_at}
 use Rattle.std.specs.List.{list_any}
@@ -11,19 +11,14 @@ use Rattle.std.proofs.lemmas.List.Elements.{Contains-push, Contains-push_cases, 
 use Rattle.std.proofs.lemmas.Map.Lookups.{exact_bytes}
 use Rattle.std.proofs.lemmas.Map.Made.{is_some-lookup}
 use Rattle.cs_value.specs.Entries.{Name, compares}
-use Rattle.cs_value.specs.Tree.{Tree}
 use Rattle.cs_view.specs.Changes.{Edit, is_of_id}
 use Rattle.cs_view.specs.Dataset.{same_id}
-use Rattle.cs_view.specs.Document.{passes, id_of}
-use Rattle.cs_view.specs.Keys.{has}
 use Rattle.cs_view.specs.Touched.{touches, is_touched, touched}
 use Rattle.cs_view.specs.declared.key.Key.{Key}
 use Rattle.cs_view.specs.declared.key.Key.TheVariants.{Id}
-use Rattle.cs_view.specs.View.{document_of, edit, edits}
+use Rattle.cs_view.specs.View.{edit, edits}
 use Rattle.cs_view.specs.declared.change.Change.{Change}
-use Rattle.cs_view.specs.declared.doc.Doc.{Doc}
-use Rattle.cs_view.proofs.Changed.{OwnIds}
-use Rattle.cs_view.proofs.Datasets.{same_id-same, same_id-sym}
+use Rattle.cs_hits.proofs.Sides.{sides, touches-id}
 use Rattle.cs_kept.specs.Fits.{SameKeys}
 
 -- ---- the same keys, order and repeats aside
@@ -139,10 +134,6 @@ touched-none ks = any-none ks
 touched-more : (ks : List Key) (c : Edit) (cs : List Edit) → touched ks (c ∷ cs) ≡ (list_any (λ k. touches k c) ks || touched ks cs)
 touched-more ks c cs = any-or (λ k. touches k c) (is_touched cs) ks
 
--- the changes from a place on: the one there, and those after it
-pub own-more : (cs : List Change) (i : ℕ) (d : Change) → i < length cs → OwnIds (edits (drop i cs)) → OwnIds (edit (get_or cs i d) ∷ edits (drop (i + 1) cs))
-own-more cs i d low own = subst (λ l. OwnIds (edits l)) (drop_more cs i d low) own
-
 pub touched-here : (ks : List Key) (cs : List Change) (i : ℕ) (d : Change) → i < length cs
     → touched ks (edits (drop i cs)) ≡ (list_any (λ k. touches k (edit (get_or cs i d))) ks || touched ks (edits (drop (i + 1) cs)))
 touched-here ks cs i d low =
@@ -150,22 +141,6 @@ touched-here ks cs i d low =
 
 pub touched-end : (ks : List Key) (cs : List Change) (i : ℕ) → length cs ≤ i → touched ks (edits (drop i cs)) ≡ false
 touched-end ks cs i h = ap (λ l. touched ks (edits l)) (drop_all i cs h) ∙ touched-none ks
-
--- a side of the id has the key of an id where it stands and the two are one
-side-touched : (t q : List ℕ) (o : Option Tree) → is_of_id q o ≡ true → passes (has (Id t)) o ≡ (is_some o && same_id q t)
-side-touched t q None own = refl
-side-touched t q (Some d) own = ap (same_id t) (sym (same_id-same q (id_of d) own)) ∙ same_id-sym t q
-
-together : (a b s : Bool) → ((a && s) || (b && s)) ≡ ((a || b) && s)
-together true true true = refl
-together true true false = refl
-together true false true = refl
-together true false false = refl
-together false b s = refl
-
-touches-id : (t : List ℕ) (c : Edit) → is_of_id c.0 c.1.0 ≡ true → is_of_id c.0 c.1.1 ≡ true → touches (Id t) c ≡ ((is_some c.1.0 || is_some c.1.1) && same_id c.0 t)
-touches-id t c before after =
-    (λ i. side-touched t c.0 c.1.0 before i || side-touched t c.0 c.1.1 after i) ∙ together (is_some c.1.0) (is_some c.1.1) (same_id c.0 t)
 
 apart : (s a b : Bool) → ((s && a) || (s && b)) ≡ (s && (a || b))
 apart true a b = refl
@@ -189,13 +164,6 @@ looked-up es c before after = ap (λ b. (is_some c.1.0 || is_some c.1.1) && b) (
 copied : {V : Type 0} (o : Option (Bor V)) → is_some o ≡ is_some (option_copied o)
 copied None = refl
 copied (Some v) = refl
-
-shown : (o : Option Doc) → is_some o ≡ is_some (option_map document_of o)
-shown None = refl
-shown (Some d) = refl
-
-sides : (c : Change) → (is_some c.before || is_some c.after) ≡ (is_some (edit c).1.0 || is_some (edit c).1.1)
-sides c = λ i. shown c.before i || shown c.after i
 
 module _ {V : Type 0} (es : List (Name × V)) (c : Change) (before : is_of_id (edit c).0 (edit c).1.0 ≡ true) (after : is_of_id (edit c).0 (edit c).1.1 ≡ true) (s : Bool) (is : s ≡ (is_some c.before || is_some c.after)) where
   pub one-stands : s ≡ true → (o : Option (Bor V)) → option_copied o ≡ lookup (is_at (compares c.id)) es → (b : Bool) → b ≡ is_some o → b ≡ list_any (λ k. touches k (edit c)) (ids es)

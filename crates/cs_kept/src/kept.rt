@@ -1,7 +1,9 @@
 //! How a last answer is kept.
-ghost use Rattle.std.specs.Prelude.{◌≡◌, ◌≤◌, ◌+◌, true, not, IfOk, OnOk};
+ghost use Rattle.std.specs.Prelude.{◌≡◌, ◌≤◌, ◌+◌, List, true, not, IfOk, OnOk};
 ghost use Rattle.cs_value.specs.Same.{same_tree};
+ghost use Rattle.cs_value.specs.Tree.{Tree};
 ghost use Rattle.cs_value.specs.View.{tree, fields};
+ghost use Rattle.cs_json.specs.Text.{json_text};
 ghost use Rattle.cs_syntax.specs.Queries.{expression_of};
 ghost use Rattle.cs_view.specs.Changes.{are_changes, LeadTo, before_changes};
 ghost use Rattle.cs_view.specs.View.{edits};
@@ -16,7 +18,9 @@ use crate::recorded::Recorded;
 use crate::rows::Rows;
 use cs_codes::Seed;
 use cs_eval::mapped;
+use cs_hits::text_of;
 use cs_interest::Interest;
+use cs_json::write;
 use cs_plan::simple;
 use cs_syntax::Query;
 use cs_value::{Fields, NoMemory, Steps, Val};
@@ -71,6 +75,19 @@ impl Kept {
             Kept::ByRecord(kept) => &kept.last,
             Kept::InRows(kept) => &kept.answer,
             Kept::InShares(kept) => &kept.last,
+        }
+    }
+
+    /// The compact text of the last answer, where it fits a dataset. That of a mapped query is put
+    /// together from the texts of its shares. `NoMemory` where the allocator has no room for it.
+    pub fn text(&self, alloc: Global) -> Result<Vec<u8>, NoMemory>
+        ensures { (docs : List Tree) → FitsKept docs self.now
+            → IfOk result (λ b. b.items ≡ json_text (last_of self.now)) }
+    {
+        match self {
+            Kept::ByRecord(kept) => write(alloc, &kept.last),
+            Kept::InRows(kept) => write(alloc, &kept.answer),
+            Kept::InShares(kept) => text_of(alloc, &kept.shares),
         }
     }
 

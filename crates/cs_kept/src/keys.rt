@@ -1,5 +1,5 @@
 //! The keys that finding an answer looked up, kept so that a change finds its id among them.
-ghost use Rattle.std.specs.Prelude.{◌≡◌, ◌++◌, ◌∷◌, ◌||◌, [], true, IfOk, OnOk, is_some, map};
+ghost use Rattle.std.specs.Prelude.{◌≡◌, ◌++◌, ◌∷◌, [], true, IfOk, OnOk, map};
 ghost use Rattle.std.specs.List.{list_any};
 ghost use Rattle.cs_view.specs.Changes.{are_changes, is_of_id};
 ghost use Rattle.cs_view.specs.Touched.{touched, touches};
@@ -9,6 +9,7 @@ ghost use Rattle.cs_kept.specs.Fits.{SameKeys};
 ghost use Rattle.cs_kept.specs.Keys.{ids_of, all_keys, rest_of};
 
 use cs_codes::Seed;
+use cs_hits::stands;
 use cs_interest::interest_code;
 use cs_value::{NoMemory, OrderedMap};
 use cs_view::{Change, Key, Record};
@@ -128,11 +129,4 @@ impl Keys {
     {
         stands(change) && self.ids.get(change.id.as_str()).is_some()
     }
-}
-
-// Whether a document stands before the change or after it.
-fn stands(change: &Change) -> bool
-    ensures { result ≡ (is_some change.now.before || is_some change.now.after) }
-{
-    change.before.is_some() || change.after.is_some()
 }

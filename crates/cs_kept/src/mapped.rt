@@ -1,6 +1,7 @@
 //! Mapped queries, whose answers are kept hit by hit.
-ghost use Rattle.std.specs.Prelude.{◌≡◌, false, true, not, IfOk, OnOk};
+ghost use Rattle.std.specs.Prelude.{◌≡◌, List, [], false, true, not, IfOk, OnOk};
 ghost use Rattle.cs_value.specs.Same.{same_tree};
+ghost use Rattle.cs_value.specs.Tree.{Tree};
 ghost use Rattle.cs_value.specs.View.{tree, fields};
 ghost use Rattle.cs_value.specs.Words.{list_of};
 ghost use Rattle.cs_syntax.specs.Queries.{expression_of};
@@ -12,12 +13,12 @@ ghost use Rattle.cs_plan.specs.Simple.{is_simple};
 ghost use Rattle.cs_window.specs.Mapped.{is_mapped};
 ghost use Rattle.cs_kept.specs.Fits.{Answers, FitsShares, RefreshesKept};
 ghost use Rattle.cs_kept.specs.Found.{IsCoded, IsFound, KeepsOthers, codes_of};
-ghost use Rattle.cs_hits.specs.Shares.{AreShares, SharesFollow, share_docs, share_values};
+ghost use Rattle.cs_hits.specs.Shares.{AreShares, SameBut, SharesFollow, share_docs, share_values};
 ghost use Rattle.cs_kept.specs.Mapped.{KeepsAllButCodes, KeepsAllButLast, KeepsAllButShares, mapped_keys};
 ghost use Rattle.cs_kept.specs.declared.kept.Kept.{Kept};
 
 use crate::same::is_same;
-use crate::settling::settle_each;
+use crate::settling::settle_places;
 use cs_codes::Seed;
 use cs_eval::{hits_have_key, query_key};
 use cs_hits::{
@@ -30,7 +31,6 @@ use cs_view::laws::{changes_lead_back_and_on, filter_follows_changes, untouched_
 use cs_view::{Change, Key, View, is_touched};
 use cs_window::{looked_settles_share, mapped_is_filtered, mapped_is_shares_of_hits};
 use std::alloc::Global;
-use std::mem;
 use std::sync::ledger::Ledger;
 
 /// A mapped query with its last answer, its own key, the shares of its hits in the answer by
@@ -44,6 +44,14 @@ pub struct Mapped {
     pub(crate) own: Key,
     pub(crate) shares: Vec<Share>,
     pub(crate) codes: Vec<u64>,
+}
+
+// Which shares are not as they were: the places of those that were found anew, and whether one was
+// taken out, or put where none stood, so that others stand elsewhere now.
+#[derive(Drop)]
+struct Moved {
+    anew: Vec<usize>,
+    shifted: bool,
 }
 
 impl Mapped {
@@ -80,19 +88,20 @@ impl Mapped {
 
     // Whether the changes touch one of its keys.
     fn touched(&self, changes: &[Change]) -> bool
+        requires { are_changes (edits changes.now) ≡ true }
         ensures { result ≡ touched (mapped_keys self.now) (edits changes.now) }
     {
         is_touched(&self.own, changes) || shares_touched(&self.shares, changes)
     }
 
-    // Brings the shares to the dataset after the changes: whether one of them is not as it was.
+    // Brings the shares to the dataset after the changes: which of them are not as they were.
     fn follow<V: View<L>, L: Ledger>(
         &mut self,
         alloc: Global,
         view: &V,
         changes: &[Change],
         steps: &mut Steps<L>,
-    ) -> Result<bool, NoMemory>
+    ) -> Result<Moved, NoMemory>
         requires mapped { is_mapped (expression_of self.old.query) ≡ true }
         requires changes { are_changes (edits changes.now) ≡ true }
         requires led { LeadTo (V.docs view.now) (edits changes.now) }
@@ -102,22 +111,14 @@ impl Mapped {
         ensures follow { OnOk result (SharesFollow (V.docs view.now) (edits changes.now)
             (expression_of self.old.query) (fields self.old.params) self.old.shares.items
             self.new.shares.items) }
-        ensures same { IfOk result
-            (λ b. b ≡ false → self.new.shares.items ≡ self.old.shares.items) }
+        ensures but { IfOk result (λ moved. moved.shifted ≡ false
+            → SameBut moved.anew.items (share_values self.old.shares.items)
+            (share_values self.new.shares.items)) }
+        ensures same { IfOk result (λ moved. moved.shifted ≡ false → moved.anew.items ≡ []
+            → self.new.shares.items ≡ self.old.shares.items) }
         ensures kept { KeepsAllButShares self.old self.new }
     {
-        let shares = mem::replace(&mut self.shares, Vec::new(alloc));
-        let (renewed, anew) = renew_shares(
-            alloc,
-            &self.query,
-            &self.params,
-            shares,
-            view,
-            changes,
-            steps,
-        )?;
-        self.shares = renewed;
-        let moved = follow_shares(
+        let mut anew = renew_shares(
             alloc,
             &self.query,
             &self.params,
@@ -126,21 +127,33 @@ impl Mapped {
             changes,
             steps,
         )?;
-        Ok(anew | moved)
+        let shifted = follow_shares(
+            alloc,
+            &self.query,
+            &self.params,
+            &mut self.shares,
+            view,
+            changes,
+            &mut anew,
+            steps,
+        )?;
+        Ok(Moved { anew, shifted })
     }
 
-    // Makes the answer of the shares: whether it is another tree now. Where there are as many as
-    // before, what is the same stays in its place.
-    fn settle(&mut self, alloc: Global) -> Result<bool, NoMemory>
+    // Makes the answer of the shares: whether it is another tree now. Where each share stands where
+    // it stood, the values of those that were found anew alone are looked at.
+    fn settle(&mut self, alloc: Global, moved: &Moved) -> Result<bool, NoMemory>
+        requires { moved.now.shifted ≡ false → (ts : List Tree) → tree self.old.last ≡ list_of ts
+            → SameBut moved.now.anew.items ts (share_values self.old.shares.items) }
         ensures settled { OnOk result
             (tree self.new.last ≡ list_of (share_values self.new.shares.items)) }
         ensures stale { IfOk result
             (λ b. b ≡ not (same_tree (tree self.new.last) (tree self.old.last))) }
         ensures kept { KeepsAllButLast self.old self.new }
     {
-        if let Val::List(list) = &mut self.last {
-            if list.len() == self.shares.len() {
-                return settle_each(alloc, list, &self.shares);
+        if !moved.shifted {
+            if let Val::List(list) = &mut self.last {
+                return settle_places(alloc, list, &self.shares, &moved.anew);
             }
         }
         let answer = answer_of(alloc, &self.shares)?;
@@ -208,10 +221,11 @@ impl Mapped {
         if !self.touched(changes) {
             return Ok(false);
         }
-        if !self.follow(alloc, view, changes, steps)? {
+        let moved = self.follow(alloc, view, changes, steps)?;
+        if !moved.shifted && moved.anew.is_empty() {
             return Ok(false);
         }
-        let stale = self.settle(alloc)?;
+        let stale = self.settle(alloc, &moved)?;
         self.recode(alloc, number, interest)?;
         Ok(stale)
     }

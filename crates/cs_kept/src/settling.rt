@@ -1,9 +1,10 @@
 //! An answer that is made of shares, brought to them value by value.
 ghost use Rattle.std.specs.Prelude.{◌≡◌, ◌<◌, length, get_or, not, map, set, IfOk, OnOk};
-ghost use Rattle.cs_value.specs.Same.{same_tree, same_trees};
-ghost use Rattle.cs_value.specs.Tree.{Tree, trees};
+ghost use Rattle.cs_value.specs.Same.{same_tree};
+ghost use Rattle.cs_value.specs.Tree.{Tree};
 ghost use Rattle.cs_value.specs.View.{tree};
-ghost use Rattle.cs_hits.specs.Shares.{share_values};
+ghost use Rattle.cs_value.specs.Words.{list_of};
+ghost use Rattle.cs_hits.specs.Shares.{SameBut, share_values};
 
 use crate::same::is_same;
 use cs_hits::Share;
@@ -31,21 +32,22 @@ fn settle_at(
     Ok(true)
 }
 
-/// Makes the values of a list those of the shares, of which there are as many: whether one of them
-/// is another tree now. One that is the same stays where it is.
-pub(crate) fn settle_each(
+/// Makes the values of a list those of the shares, which they are but at these places: whether one
+/// of them is another tree now. One that is the same stays where it is.
+pub(crate) fn settle_places(
     alloc: Global,
     list: &mut Vec<Val>,
     shares: &[Share],
+    places: &[usize],
 ) -> Result<bool, NoMemory>
-    requires { length list.old.items ≡ length shares.now }
+    requires { SameBut places.now (map tree list.old.items) (share_values shares.now) }
     ensures values { OnOk result (map tree list.new.items ≡ share_values shares.now) }
-    ensures stale { IfOk result (λ b. b ≡ not (same_trees (trees (share_values shares.now))
-        (trees (map tree list.old.items)))) }
+    ensures stale { IfOk result (λ b. b ≡ not (same_tree (list_of (share_values shares.now))
+        (list_of (map tree list.old.items)))) }
 {
     let mut stale = false;
-    for place in 0..shares.len() {
-        let another = settle_at(alloc, list, place, &shares[place].value)?;
+    for place in places {
+        let another = settle_at(alloc, list, *place, &shares[*place].value)?;
         stale = stale | another;
     }
     Ok(stale)

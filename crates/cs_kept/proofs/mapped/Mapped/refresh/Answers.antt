@@ -1,5 +1,7 @@
-use Rattle.std.proofs.Common.{◌≡◌, ◌∙◌, ap, ℕ, List, Vec, Global, not, false, true, true≢false, refl, sym, subst}
+use Rattle.std.proofs.Common.{◌≡◌, ◌∙◌, [], ap, eqb-true, ℕ, List, Vec, Global, not, false, true, true≢false, refl, sym, subst}
+use Rattle.std.proofs.lemmas.List.{nil_from_length}
 use Rattle.cs_value.specs.Same.{same_tree}
+use Rattle.cs_value.specs.Tree.{Tree}
 use Rattle.cs_value.specs.View.{tree, fields}
 use Rattle.cs_value.specs.Words.{list_of}
 use Rattle.cs_syntax.specs.Queries.{expression_of}
@@ -7,7 +9,8 @@ use Rattle.cs_view.specs.Dataset.{ascending}
 use Rattle.cs_view.specs.Touched.{touched}
 use Rattle.cs_view.specs.View.{edits}
 use Rattle.cs_view.proofs.Booleans.{and-left}
-use Rattle.cs_hits.specs.Shares.{SharesFollow, share_docs, share_values}
+use Rattle.cs_eval.proofs.Sole.{same-elements}
+use Rattle.cs_hits.specs.Shares.{SameBut, SharesFollow, share_docs, share_values}
 use Rattle.cs_kept.specs.Mapped.{mapped_keys}
 use Rattle.cs_kept.specs.declared.kept.Kept.TheVariants.{InShares}
 use Rattle.cs_hits.specs.declared.share.Share.{Share}
@@ -41,18 +44,27 @@ follow-requires-clause-ascending g c =
     let old = c.args.self.now in
     hits-ascend docs cs sorted (expression_of old.query) (fields old.params) (share_docs old.shares.items) c.requires.fits.hits
 
-pub returns-then-not-branch-clause-stale : goal.returns-then-not-branch-clause-stale
-returns-then-not-branch-clause-stale g c = not_another (tree c.args.self.now.last) (tree c.follow.new.self.last) (ap tree (sym c.follow.ensures.kept.last))
+pub settle-requires : goal.settle-requires
+settle-requires g c = λ unshifted ts is.
+    let old = c.args.self.now in let new = c.follow.new.self in
+    let were : ts ≡ share_values old.shares.items
+    = same-elements ts (share_values old.shares.items) (sym is ∙ ap tree c.follow.ensures.kept.last ∙ c.requires.fits.last) in
+    subst (λ (us : List Tree). SameBut c.in_ok-moved.moved.anew.items us (share_values new.shares.items)) (sym were) (c.in_ok-moved.ensures.but unshifted)
 
-pub returns-then-not-branch-clause-refreshed : goal.returns-then-not-branch-clause-refreshed
-returns-then-not-branch-clause-refreshed g c =
+pub returns-then-is_empty-clause-stale : goal.returns-then-is_empty-clause-stale
+returns-then-is_empty-clause-stale g c = not_another (tree c.args.self.now.last) (tree c.follow.new.self.last) (ap tree (sym c.follow.ensures.kept.last))
+
+pub returns-then-is_empty-clause-refreshed : goal.returns-then-is_empty-clause-refreshed
+returns-then-is_empty-clause-refreshed g c =
     let docs = g.V.View.docs c.args.view.now in let cs = edits c.args.changes.now in
     let sorted : ascending docs ≡ true = and-left (ascending docs) _ (g.met.V.View.dataset c.args.view.now) in
     let old = c.args.self.now in let new = c.follow.new.self in let kept = c.follow.ensures.kept in
     let hot : touched (mapped_keys old) cs ≡ true = cc (c.touched.ensures, c.if-not-touched.false) in
-    let same : new.shares.items ≡ old.shares.items = c.in_ok-follow.ensures.same c.if-not-branch.true in
+    let anew = c.in_ok-moved.moved.anew in
+    let none : anew.items ≡ [] = nil_from_length anew.items (sym anew.ok.0 ∙ eqb-true anew.len 0 (sym c.is_empty.ensures ∙ c.if-is_empty.true)) in
+    let same : new.shares.items ≡ old.shares.items = c.in_ok-moved.ensures.same c.if-not-moved.true none in
     mapped-refreshed c.mapped_is_shares_of_hits.ensures c.changes_lead_back_and_on.ensures c.filter_follows_changes.ensures docs cs sorted c.requires.changes c.requires.led old new c.requires.fits
-    (ap expression_of kept.query) (ap fields kept.params) kept.own c.in_ok-follow.ensures.follow
+    (ap expression_of kept.query) (ap fields kept.params) kept.own c.in_ok-moved.ensures.follow
     (ap tree kept.last ∙ c.requires.fits.last ∙ ap (λ (ss : List Share). list_of (share_values ss)) (sym same))
     (λ quiet. absurd (true≢false (sym hot ∙ quiet)))
 
@@ -66,7 +78,7 @@ returns-clause-refreshed g c =
     let shares : new.shares ≡ c.follow.new.self.shares = r.shares ∙ s.shares in
     mapped-refreshed c.mapped_is_shares_of_hits.ensures c.changes_lead_back_and_on.ensures c.filter_follows_changes.ensures docs cs sorted c.requires.changes c.requires.led old new c.requires.fits
     (ap expression_of (r.query ∙ s.query ∙ f.query)) (ap fields (r.params ∙ s.params ∙ f.params)) (r.own ∙ s.own ∙ f.own)
-    (subst (λ (v : Vec Share Global). SharesFollow docs cs (expression_of old.query) (fields old.params) old.shares.items v.items) (sym shares) c.in_ok-follow.ensures.follow)
+    (subst (λ (v : Vec Share Global). SharesFollow docs cs (expression_of old.query) (fields old.params) old.shares.items v.items) (sym shares) c.in_ok-moved.ensures.follow)
     (ap tree r.last ∙ c.in_ok-stale.ensures.settled ∙ ap (λ (v : Vec Share Global). list_of (share_values v.items)) (sym r.shares))
     (λ quiet. absurd (true≢false (sym hot ∙ quiet)))
 
