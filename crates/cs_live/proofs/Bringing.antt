@@ -18,7 +18,7 @@ use Rattle.cs_live.specs.Brought.{AtNumber, Brings, BringsAt, BringsNone, Brings
 use Rattle.cs_live.specs.Entries.{live_query}
 use Rattle.cs_live.specs.Fits.{Refreshes}
 use Rattle.cs_live.specs.Found.{Ascend, IsNumberPlace, numbers}
-use Rattle.cs_live.specs.Lives.{Said, news, news_of}
+use Rattle.cs_live.specs.Lives.{Worded, worded, news, news_of}
 use Rattle.cs_live.specs.declared.entry.Entry.{Entry}
 use Rattle.cs_live.proofs.Found.{not-among, among-at, number-at}
 use Rattle.cs_live.proofs.News.{here-same, rest-same, rest-more, refreshed-more, refreshed-all, lines-more}
@@ -45,11 +45,11 @@ sought-number n es h (Err i) l e =
 
 -- ---- the entries before a place are refreshed, with their lines, and those from there on are as
 -- they were
-pub record Brought (docs : List Tree) (cs : List Edit) (old items : List Entry) (out : List Said) (p : ℕ) : Type 0 where
+pub record Brought (docs : List Tree) (cs : List Edit) (old items : List Entry) (out : List Worded) (p : ℕ) : Type 0 where
   pub within : p ≤ length old
   pub long : length items ≡ length old
   pub same : numbers items ≡ numbers old
-  pub lines : out ≡ news docs (map live_query (take p old))
+  pub lines : out ≡ map worded (news docs (map live_query (take p old)))
   pub refreshed : AllZip (Refreshes docs cs) (take p old) (take p items)
   pub rest : drop p items ≡ drop p old
 
@@ -58,7 +58,7 @@ module _ (docs : List Tree) (cs : List Edit) where
   start old = record { within = omega arith; long = refl; same = refl; lines = refl; refreshed = tt; rest = refl }
 
   -- an entry that stays as it is
-  skip-one : (old items : List Entry) (lines : List Said) (p : ℕ) (d : Entry) → p < length old → Still docs cs (get_or old p d) → Brought docs cs old items lines p → Brought docs cs old items lines (p + 1)
+  skip-one : (old items : List Entry) (lines : List Worded) (p : ℕ) (d : Entry) → p < length old → Still docs cs (get_or old p d) → Brought docs cs old items lines p → Brought docs cs old items lines (p + 1)
   skip-one old items lines p d low still b =
       let within : p < length items = omega (arith, low, b.long) in
       let one : get_or items p d ≡ get_or old p d = here-same items old p d within b.long b.rest in
@@ -68,26 +68,26 @@ module _ (docs : List Tree) (cs : List Edit) where
         within = omega (arith, low);
         long = b.long;
         same = b.same;
-        lines = lines-more docs items old p d lines lines within b.long b.rest b.lines (sym (append-nil lines) ∙ ap (λ l. lines ++ l) (sym silent));
+        lines = lines-more docs items old p d lines lines within b.long b.rest b.lines (sym (append-nil lines) ∙ ap (λ l. lines ++ map worded l) (sym silent));
         refreshed = subst (λ (l : List Entry). AllZip (Refreshes docs cs) (take (p + 1) old) (take (p + 1) l)) (set-get_or items p d)
             (refreshed-more docs cs items old p d (get_or items p d) within b.long b.rest b.refreshed refreshes);
         rest = rest-same items old p d within b.long b.rest;
       }
 
-  skip : (old items : List Entry) (lines : List Said) (p k : ℕ) (d : Entry) → p + k ≤ length old → ((j : ℕ) → p ≤ j → j < p + k → Still docs cs (get_or old j d)) → Brought docs cs old items lines p → Brought docs cs old items lines (p + k)
+  skip : (old items : List Entry) (lines : List Worded) (p k : ℕ) (d : Entry) → p + k ≤ length old → ((j : ℕ) → p ≤ j → j < p + k → Still docs cs (get_or old j d)) → Brought docs cs old items lines p → Brought docs cs old items lines (p + k)
   skip old items lines p zero d low still b = let none : p ≡ p + 0 = omega arith in subst (λ q. Brought docs cs old items lines q) none b
   skip old items lines p (suc k) d low still b =
       let so = skip old items lines p k d (omega (arith, low)) (λ j from to. still j from (omega (arith, to))) b in
       let next : p + k + 1 ≡ p + suc k = omega arith in
       subst (λ q. Brought docs cs old items lines q) next (skip-one old items lines (p + k) d (omega (arith, low)) (still (p + k) (omega arith) (omega arith)) so)
 
-  skip-to : (old items : List Entry) (lines : List Said) (p q : ℕ) (d : Entry) → p ≤ q → q ≤ length old → ((j : ℕ) → p ≤ j → j < q → Still docs cs (get_or old j d)) → Brought docs cs old items lines p → Brought docs cs old items lines q
+  skip-to : (old items : List Entry) (lines : List Worded) (p q : ℕ) (d : Entry) → p ≤ q → q ≤ length old → ((j : ℕ) → p ≤ j → j < q → Still docs cs (get_or old j d)) → Brought docs cs old items lines p → Brought docs cs old items lines q
   skip-to old items lines p q d le low still b =
       let is : p + (q - p) ≡ q = omega (arith, le) in
       subst (λ r. Brought docs cs old items lines r) is (skip old items lines p (q - p) d (omega (arith, low, le)) (λ j from to. still j from (omega (arith, to, le))) b)
 
   -- an entry that is refreshed
-  step-one : (old items new : List Entry) (before after : List Said) (q : ℕ) → q < length old → Brought docs cs old items before q → BringsAt docs cs items new before after q → Brought docs cs old new after (q + 1)
+  step-one : (old items new : List Entry) (before after : List Worded) (q : ℕ) → q < length old → Brought docs cs old items before q → BringsAt docs cs items new before after q → Brought docs cs old new after (q + 1)
   step-one old items new before after q low b brings =
       let e = brings.entry in
       let within : q < length items = omega (arith, low, b.long) in
@@ -101,7 +101,7 @@ module _ (docs : List Tree) (cs : List Edit) where
       })
 
 -- ---- the loop: so many of the numbers are done
-pub record Loop (docs : List Tree) (cs : List Edit) (old items : List Entry) (out : List Said) (ns : List ℕ) (i : ℕ) : Type 0 where
+pub record Loop (docs : List Tree) (cs : List Edit) (old items : List Entry) (out : List Worded) (ns : List ℕ) (i : ℕ) : Type 0 where
   pub p : ℕ
   pub brought : Brought docs cs old items out p
   pub done : (j k x : ℕ) (d : Entry) → p ≤ j → j < length old → k < i → (get_or old j d).number ≢ get_or ns k x
@@ -114,14 +114,14 @@ none-there : (n : ℕ) (ns : List ℕ) → ((k x : ℕ) → k < length ns → n 
 none-there n ns h = list_any_none (λ x. nat_eq n x) ns (λ k d low. ne_eqb n (get_or ns k d) (h k d low))
 
 module _ (docs : List Tree) (cs : List Edit) (old : List Entry) (ns : List ℕ) (sorted : IsStrictlySortedBy nat_cmp ns) (h : Ascend old) (unasked : StillUnasked docs cs old ns) where
-  number-of : (items : List Entry) (lines : List Said) (p j : ℕ) (d : Entry) → j < length old → Brought docs cs old items lines p → (get_or items j d).number ≡ (get_or old j d).number
+  number-of : (items : List Entry) (lines : List Worded) (p j : ℕ) (d : Entry) → j < length old → Brought docs cs old items lines p → (get_or items j d).number ≡ (get_or old j d).number
   number-of items lines p j d low b =
       sym (number-at items j d 0 (omega (arith, low, b.long))) ∙ ap (λ l. get_or l j 0) b.same ∙ number-at old j d 0 low
 
-  step-none : (items new : List Entry) (before after : List Said) (i n x : ℕ) → i < length ns → n ≡ get_or ns i x → Loop docs cs old items before ns i → BringsNone n items new before after → Loop docs cs old new after ns (i + 1)
+  step-none : (items new : List Entry) (before after : List Worded) (i n x : ℕ) → i < length ns → n ≡ get_or ns i x → Loop docs cs old items before ns i → BringsNone n items new before after → Loop docs cs old new after ns (i + 1)
   step-none items new before after i n x low is l brings = record {
     p = l.p;
-    brought = subst (λ (es : List Entry). Brought docs cs old es after l.p) (sym brings.is) (subst (λ (s : List Said). Brought docs cs old items s l.p) (sym brings.lines) l.brought);
+    brought = subst (λ (es : List Entry). Brought docs cs old es after l.p) (sym brings.is) (subst (λ (s : List Worded). Brought docs cs old items s l.p) (sym brings.lines) l.brought);
     done = λ j k y d from under before. ⊎_elim (λ (last : k ≡ i). here j k y d under last) (λ (earlier : k ≢ i). l.done j k y d from under (omega (arith, before, earlier))) (cases_eq k i);
     next = λ j k y d under from within. l.next j k y d under (omega (arith, from)) within;
   } where
@@ -132,7 +132,7 @@ module _ (docs : List Tree) (cs : List Edit) (old : List Entry) (ns : List ℕ) 
     here j k y d under last same =
         true≢false (sym (ap (λ m. is_among m (numbers old)) (sym (there k y last) ∙ sym same) ∙ among-at old j d under) ∙ ap (λ l. is_among n l) (sym l.brought.same) ∙ brings.none)
 
-  step-found : (items new : List Entry) (before after : List Said) (i n x : ℕ) → i < length ns → n ≡ get_or ns i x → Loop docs cs old items before ns i → BringsOne docs cs n items new before after → Loop docs cs old new after ns (i + 1)
+  step-found : (items new : List Entry) (before after : List Worded) (i n x : ℕ) → i < length ns → n ≡ get_or ns i x → Loop docs cs old items before ns i → BringsOne docs cs n items new before after → Loop docs cs old new after ns (i + 1)
   step-found items new before after i n x low is l one = record {
     p = q + 1;
     brought = step-one docs cs old items new before after q there (skip-to docs cs old items before l.p q d from (omega (arith, there)) between l.brought) one.brings;
@@ -179,11 +179,11 @@ module _ (docs : List Tree) (cs : List Edit) (old : List Entry) (ns : List ℕ) 
         let a = rises-to k y (omega (arith, far)) within in
         ⊎_elim (λ (before : j < q). let b = below j f before in omega (arith, a, b)) (λ (at : q ≤ j). let e : j ≡ q = omega (arith, under, at) in let b = number f in let c = ap (λ m. (get_or old m f).number) e in omega (arith, a, b, c)) (cases_lt j q)
 
-  pub loop-step : (items new : List Entry) (before after : List Said) (i n x : ℕ) → i < length ns → n ≡ get_or ns i x → Loop docs cs old items before ns i → Brings docs cs n items new before after → Loop docs cs old new after ns (i + 1)
+  pub loop-step : (items new : List Entry) (before after : List Worded) (i n x : ℕ) → i < length ns → n ≡ get_or ns i x → Loop docs cs old items before ns i → Brings docs cs n items new before after → Loop docs cs old new after ns (i + 1)
   loop-step items new before after i n x low is l brings = ⊎_elim (step-none items new before after i n x low is l) (step-found items new before after i n x low is l) brings
 
   -- what holds of all entries as they were holds of the one that comes next
-  pub loop-next : (P : Entry → Type 0) (items : List Entry) (lines : List Said) (i n x : ℕ) → i < length ns → n ≡ get_or ns i x → Loop docs cs old items lines ns i → All P old → AtNumber n P items
+  pub loop-next : (P : Entry → Type 0) (items : List Entry) (lines : List Worded) (i n x : ℕ) → i < length ns → n ≡ get_or ns i x → Loop docs cs old items lines ns i → All P old → AtNumber n P items
   loop-next P items lines i n x low is l all k d within named =
       let inside : k < length old = let s = l.brought.long in omega (arith, within, s) in
       let number : (get_or old k d).number ≡ n = sym (number-of items lines l.p k d inside l.brought) ∙ named in
@@ -196,7 +196,7 @@ module _ (docs : List Tree) (cs : List Edit) (old : List Entry) (ns : List ℕ) 
           let shift : k ≡ p + (k - p) = omega (arith, from) in
           ap (λ m. get_or items m d) shift ∙ sym (get_or-drop p items (k - p) d) ∙ ap (λ l. get_or l (k - p) d) rest ∙ get_or-drop p old (k - p) d ∙ ap (λ m. get_or old m d) (sym shift)
 
-  to-end : (items : List Entry) (lines : List Said) (i : ℕ) → length ns ≤ i → Loop docs cs old items lines ns i → (d : Entry) → Brought docs cs old items lines (length old)
+  to-end : (items : List Entry) (lines : List Worded) (i : ℕ) → length ns ≤ i → Loop docs cs old items lines ns i → (d : Entry) → Brought docs cs old items lines (length old)
   to-end items lines i past l d =
       skip-to docs cs old items lines l.p (length old) d l.brought.within (omega arith)
       (λ j from low. unasked j d low (none-there _ ns (λ k y within. l.done j k y d from low (omega (arith, within, past))))) l.brought
@@ -206,14 +206,14 @@ none-refreshed docs cs [] h = tt
 none-refreshed docs cs (e ∷ es) h = absurd (omega (arith, h))
 
 module _ (docs : List Tree) (cs : List Edit) (ns : List ℕ) (sorted : IsStrictlySortedBy nat_cmp ns) where
-  pub loop-end : (old items : List Entry) (lines : List Said) (i : ℕ) → Ascend old → StillUnasked docs cs old ns → length ns ≤ i → Loop docs cs old items lines ns i
-      → (lines ≡ news docs (map live_query old)) × AllZip (Refreshes docs cs) old items
+  pub loop-end : (old items : List Entry) (lines : List Worded) (i : ℕ) → Ascend old → StillUnasked docs cs old ns → length ns ≤ i → Loop docs cs old items lines ns i
+      → (lines ≡ map worded (news docs (map live_query old))) × AllZip (Refreshes docs cs) old items
   loop-end [] items lines i h unasked past l =
       let b = l.brought in let none : l.p ≡ 0 = let w = b.within in omega (arith, w) in
       let start : Brought docs cs [] items lines 0 = subst (λ q. Brought docs cs [] items lines q) none b in
       (start.lines, none-refreshed docs cs items start.long)
   loop-end (e ∷ es) items lines i h unasked past l =
       let b = to-end docs cs (e ∷ es) ns sorted h unasked items lines i past l e in (
-        b.lines ∙ ap (λ k. news docs (map live_query k)) (take_all (length (e ∷ es)) (e ∷ es) (omega arith)),
+        b.lines ∙ ap (λ k. map worded (news docs (map live_query k))) (take_all (length (e ∷ es)) (e ∷ es) (omega arith)),
         refreshed-all docs cs items (e ∷ es) (length (e ∷ es)) (let w = b.long in omega (arith, w)) b.long b.refreshed,
       )

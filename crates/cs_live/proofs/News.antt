@@ -7,7 +7,7 @@ use Rattle.std.proofs.lemmas.List.{map-append, take_more, take_more_set, drop_mo
 use Rattle.std.proofs.lemmas.Grind.{common_steps}
 use Rattle.cs_value.specs.Tree.{Tree}
 use Rattle.cs_view.specs.Changes.{Edit}
-use Rattle.cs_live.specs.Lives.{LiveQuery, Said, say, refreshed, all_refreshed, is_stale, news, news_of}
+use Rattle.cs_live.specs.Lives.{LiveQuery, Worded, worded, say, refreshed, all_refreshed, is_stale, news, news_of}
 use Rattle.cs_live.specs.Entries.{live_query}
 use Rattle.cs_kept.specs.Fits.{KeepsRecord, IsQuiet}
 use Rattle.cs_live.specs.Fits.{FitsOne, Refreshes}
@@ -66,13 +66,15 @@ refreshed-more docs cs items old i d e low long h so m =
     rw (take_more old i d (omega arith), take_more_set items i e low)
     (AllZip-push (Refreshes docs cs) (take i old) (take i items) (get_or old i d) e so (subst (λ x. Refreshes docs cs x e) (here-same items old i d low long h) m))
 
-pub lines-more : (docs : List Tree) (items old : List Entry) (i : ℕ) (d : Entry) (before after : List Said) → i < length items → length items ≡ length old → drop i items ≡ drop i old
-    → before ≡ news docs (map live_query (take i old)) → after ≡ before ++ news_of docs (live_query (get_or items i d)) → after ≡ news docs (map live_query (take (i + 1) old))
+pub lines-more : (docs : List Tree) (items old : List Entry) (i : ℕ) (d : Entry) (before after : List Worded) → i < length items → length items ≡ length old → drop i items ≡ drop i old
+    → before ≡ map worded (news docs (map live_query (take i old))) → after ≡ before ++ map worded (news_of docs (live_query (get_or items i d))) → after ≡ map worded (news docs (map live_query (take (i + 1) old)))
 lines-more docs items old i d before after low long h so is =
-    is ∙ ap (λ l. l ++ news_of docs (live_query (get_or items i d))) so
-    ∙ ap (λ x. news docs (map live_query (take i old)) ++ news_of docs (live_query x)) (here-same items old i d low long h)
-    ∙ sym (news-more docs (map live_query (take i old)) (live_query (get_or old i d)))
-    ∙ ap (news docs) (sym (map-append live_query (take i old) (get_or old i d ∷ [])) ∙ ap (map live_query) (sym (take_more old i d (omega arith))))
+    let front = news docs (map live_query (take i old)) in
+    is ∙ ap (λ l. l ++ map worded (news_of docs (live_query (get_or items i d)))) so
+    ∙ ap (λ x. map worded front ++ map worded (news_of docs (live_query x))) (here-same items old i d low long h)
+    ∙ sym (map-append worded front (news_of docs (live_query (get_or old i d))))
+    ∙ ap (map worded) (sym (news-more docs (map live_query (take i old)) (live_query (get_or old i d)))
+    ∙ ap (news docs) (sym (map-append live_query (take i old) (get_or old i d ∷ [])) ∙ ap (map live_query) (sym (take_more old i d (omega arith)))))
 
 pub fits-here : (docs : List Tree) (items old : List Entry) (i : ℕ) (d : Entry) → i < length items → length items ≡ length old → drop i items ≡ drop i old → All (FitsOne docs) old → FitsOne docs (get_or items i d)
 fits-here docs items old i d low long h all = subst (FitsOne docs) (sym (here-same items old i d low long h)) (All-get_or (FitsOne docs) old i d (omega arith) all)

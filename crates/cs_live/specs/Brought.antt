@@ -1,5 +1,5 @@
 -- What it means that entries stay, or are brought behind changes, one by one. For private clauses.
-use Rattle.std.specs.Prelude.{◌≡◌, ◌⊎◌, ℕ, ◌<◌, length, get_or, set, true, false, List, [], ◌++◌}
+use Rattle.std.specs.Prelude.{◌≡◌, ◌⊎◌, ℕ, ◌<◌, length, get_or, set, true, false, List, [], ◌++◌, map}
 use Rattle.std.specs.List.{All}
 use Rattle.cs_value.specs.Tree.{Tree}
 use Rattle.cs_view.specs.Changes.{Edit, are_changes, before_changes, LeadTo}
@@ -9,7 +9,7 @@ use Rattle.cs_interest.specs.Interest.{AreAsked}
 use Rattle.cs_live.specs.Entries.{entries, live_query}
 use Rattle.cs_live.specs.Fits.{Fits, Refreshes}
 use Rattle.cs_live.specs.Found.{numbers}
-use Rattle.cs_live.specs.Lives.{Said, news_of}
+use Rattle.cs_live.specs.Lives.{Worded, worded, news_of}
 use Rattle.cs_live.specs.declared.entry.Entry.{Entry}
 use Rattle.cs_live.specs.declared.live.Live.{Live}
 
@@ -37,27 +37,29 @@ AtNumber number P es = All (λ e. e.number ≡ number → P e) es
 
 -- the entry at the place was refreshed, the others stay, and its line was put last
 pub record BringsAt (docs : List Tree) (cs : List Edit) (old new : List Entry)
-    (before after : List Said) (place : ℕ) : Type 0 where
+    (before after : List Worded) (place : ℕ) : Type 0 where
   pub entry : Entry
   pub is : new ≡ set old place entry
   pub refreshed : (e : Entry) → Refreshes docs cs (get_or old place e) entry
-  pub lines : (e : Entry) → after ≡ before ++ news_of docs (live_query (get_or old place e))
+  pub lines : (e : Entry)
+      → after ≡ before ++ map worded (news_of docs (live_query (get_or old place e)))
 
 -- there is no entry of the number, and all stays
-pub record BringsNone (number : ℕ) (old new : List Entry) (before after : List Said) : Type 0 where
+pub record BringsNone (number : ℕ) (old new : List Entry) (before after : List Worded)
+    : Type 0 where
   pub none : is_among number (numbers old) ≡ false
   pub is : new ≡ old
   pub lines : after ≡ before
 
 -- the entry of the number stands at a place and was refreshed
 pub record BringsOne (docs : List Tree) (cs : List Edit) (number : ℕ) (old new : List Entry)
-    (before after : List Said) : Type 0 where
+    (before after : List Worded) : Type 0 where
   pub place : ℕ
   pub within : place < length old
   pub named : (e : Entry) → (get_or old place e).number ≡ number
   pub brings : BringsAt docs cs old new before after place
 
-abbrev pub Brings : List Tree → List Edit → ℕ → List Entry → List Entry → List Said → List Said
+abbrev pub Brings : List Tree → List Edit → ℕ → List Entry → List Entry → List Worded → List Worded
     → Type 0
 Brings docs cs number old new before after =
     BringsNone number old new before after ⊎ BringsOne docs cs number old new before after

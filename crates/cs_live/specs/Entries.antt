@@ -1,9 +1,8 @@
 -- What contracts see of the entries of live queries, and of their lines.
 use Rattle.std.specs.Prelude.{◌≡◌, ℕ, ◌<◌, length, get_or, true, false, Option, None, Some, List, map}
 use Rattle.std.specs.List.{remove}
-use Rattle.cs_value.specs.View.{tree}
 use Rattle.cs_kept.specs.Kept.{kept_expression, params_of, last_of}
-use Rattle.cs_live.specs.Lives.{LiveQuery, Said, is_named, without_name, answer_of}
+use Rattle.cs_live.specs.Lives.{LiveQuery, Worded, is_named, without_name, answer_of}
 use Rattle.cs_live.specs.declared.entry.Entry.{Entry}
 use Rattle.cs_live.specs.declared.entry.LiveLine.{LiveLine}
 use Rattle.cs_live.specs.declared.live.Live.{Live}
@@ -33,6 +32,6 @@ abbrev pub IsPlace : List ℕ → List Entry → Option ℕ → Type 0
 IsPlace name es None = is_named name (map live_query es) ≡ false
 IsPlace name es (Some i) = IsAt name es i
 
--- what a line says: a name and an answer
-abbrev pub said : LiveLine → Said
-said l = (l.name, tree l.answer)
+-- what a line says: a name and the text of an answer
+abbrev pub said : LiveLine → Worded
+said l = (l.name, l.answer.items)

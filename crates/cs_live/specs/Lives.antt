@@ -3,6 +3,7 @@ use Rattle.std.specs.Prelude.{ℕ, List, [], ◌∷◌, cond, map, filter, Bool,
 use Rattle.std.specs.List.{list_any, list_all}
 use Rattle.std.specs.Str.{bytes_eq}
 use Rattle.cs_value.specs.Tree.{Tree, Pairs}
+use Rattle.cs_json.specs.Text.{json_text}
 use Rattle.cs_syntax.specs.Expression.{Expression}
 use Rattle.cs_plan.specs.Simple.{is_simple}
 use Rattle.cs_meaning.specs.Values.{query_value}
@@ -41,6 +42,13 @@ Said = List ℕ × Tree
 
 abbrev pub say : LiveQuery → Said
 say e = (e.name, e.last)
+
+-- the same with the answer's compact text
+abbrev pub Worded : Type 0
+Worded = List ℕ × List ℕ
+
+abbrev pub worded : Said → Worded
+worded s = (s.0, json_text s.1)
 
 -- one line for each live query whose value over the dataset is another tree than its last answer,
 -- in the order made

@@ -1,5 +1,6 @@
 //! A live query with its last answer, and what is said of it.
-ghost use Rattle.std.specs.Prelude.{◌≡◌, ◌≤◌, ◌+◌, ◌++◌, true, map, IfOk, OnOk};
+ghost use Rattle.std.specs.Prelude.{◌≡◌, ◌≤◌, ◌+◌, ◌++◌, List, true, map, IfOk, OnOk};
+ghost use Rattle.cs_value.specs.Tree.{Tree};
 ghost use Rattle.cs_value.specs.View.{fields};
 ghost use Rattle.cs_syntax.specs.Queries.{expression_of};
 ghost use Rattle.cs_view.specs.Changes.{are_changes, LeadTo, before_changes};
@@ -10,13 +11,13 @@ ghost use Rattle.cs_live.specs.Entries.{live_query, said};
 ghost use Rattle.cs_kept.specs.Fits.{IsQuiet};
 ghost use Rattle.cs_live.specs.Fits.{FitsOne, Refreshes};
 ghost use Rattle.cs_kept.specs.Found.{IsCoded, IsFound, KeepsOthers};
-ghost use Rattle.cs_live.specs.Lives.{has_live_name, is_stale, made, news_of, say};
+ghost use Rattle.cs_live.specs.Lives.{has_live_name, is_stale, made, news_of, say, worded};
 
 use cs_codes::Seed;
 use cs_interest::Interest;
 use cs_kept::Kept;
 use cs_syntax::Query;
-use cs_value::{Fields, NoMemory, Steps, Txt, Val};
+use cs_value::{Fields, NoMemory, Steps, Txt};
 use cs_view::{Change, View};
 use std::alloc::Global;
 use std::sync::ledger::Ledger;
@@ -34,8 +35,8 @@ pub(crate) struct Entry {
 pub struct LiveLine {
     /// The name of the live query.
     pub name: Txt,
-    /// Its answer.
-    pub answer: Val,
+    /// The compact text of its answer.
+    pub answer: Vec<u8>,
 }
 
 impl Entry {
@@ -70,12 +71,13 @@ impl Entry {
         name == self.name.as_str()
     }
 
-    /// A copy of its name and of its answer.
+    /// A copy of its name and the text of its answer, where it fits a dataset.
     pub(crate) fn line(&self, alloc: Global) -> Result<LiveLine, NoMemory>
-        ensures { IfOk result (λ line. said line ≡ say (live_query self.now)) }
+        ensures { (docs : List Tree) → FitsOne docs self.now
+            → IfOk result (λ line. said line ≡ worded (say (live_query self.now))) }
     {
         let name = self.name.copy(alloc)?;
-        let answer = self.kept.last().copy(alloc)?;
+        let answer = self.kept.text(alloc)?;
         Ok(LiveLine { name, answer })
     }
 
@@ -123,8 +125,8 @@ impl Entry {
         requires found { IsFound interest.old self.old.number self.old.kept }
         ensures refreshed { OnOk result
             (Refreshes (V.docs view.now) (edits changes.now) self.old self.new) }
-        ensures lines { OnOk result (map said lines.new.items
-            ≡ map said lines.old.items ++ news_of (V.docs view.now) (live_query self.old)) }
+        ensures lines { OnOk result (map said lines.new.items ≡ map said lines.old.items
+            ++ map worded (news_of (V.docs view.now) (live_query self.old))) }
         ensures quiet { IsQuiet (edits changes.now) self.old.kept → steps.new ≡ steps.old }
         ensures found { OnOk result (IsFound interest.new self.new.number self.new.kept) }
         ensures others { OnOk result (KeepsOthers self.old.number interest.old interest.new) }

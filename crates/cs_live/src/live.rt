@@ -15,7 +15,7 @@ ghost use Rattle.cs_live.specs.Fits.{Fits, FitsOne, IsUntouched, KeepsRecords, H
 ghost use Rattle.cs_kept.specs.Found.{codes_of};
 ghost use Rattle.cs_live.specs.Found.{AreFound, Ascend, IsNumberPlace};
 ghost use Rattle.cs_live.specs.declared.entry.Entry.{Entry};
-ghost use Rattle.cs_live.specs.Lives.{all_refreshed, answer_of, is_named, made, news, say, without_name};
+ghost use Rattle.cs_live.specs.Lives.{all_refreshed, answer_of, is_named, made, news, say, without_name, worded};
 
 use crate::entry::{Entry, LiveLine};
 use crate::laws::unasked_stays;
@@ -156,7 +156,7 @@ impl Live {
         ensures added { OnOk result (lives self.new ≡ lives self.old
             ++ made (V.docs view.now) name (expression_of query) (fields params) ∷ []) }
         ensures line { IfOk result (λ line. said line
-            ≡ say (made (V.docs view.now) name (expression_of query) (fields params))) }
+            ≡ worded (say (made (V.docs view.now) name (expression_of query) (fields params)))) }
         ensures fits { OnOk result (Fits self.old (V.docs view.now)
             → Fits self.new (V.docs view.now)) }
         ensures cause { IfErr result (λ fault. IsCause fault name (lives self.old)) }
@@ -187,7 +187,7 @@ impl Live {
         ensures added { OnOk result (lives self.new ≡ lives self.old
             ++ made (V.docs view.now) name (expression_of query) (fields params) ∷ []) }
         ensures line { IfOk result (λ line. said line
-            ≡ say (made (V.docs view.now) name (expression_of query) (fields params))) }
+            ≡ worded (say (made (V.docs view.now) name (expression_of query) (fields params)))) }
         ensures fits { OnOk result (Fits self.old (V.docs view.now)
             → Fits self.new (V.docs view.now)) }
         ensures unchanged { OnErr result (entries self.new ≡ entries self.old) }
@@ -305,7 +305,7 @@ impl Live {
         requires led { LeadTo (V.docs view.now) (edits changes.now) }
         requires fits { Fits self.old (before_changes (V.docs view.now) (edits changes.now)) }
         ensures lines { IfOk result (λ lines. map said lines.items
-            ≡ news (V.docs view.now) (lives self.old)) }
+            ≡ map worded (news (V.docs view.now) (lives self.old))) }
         ensures lives { OnOk result (lives self.new
             ≡ all_refreshed (V.docs view.now) (lives self.old)) }
         ensures fits { OnOk result (Fits self.new (V.docs view.now)) }

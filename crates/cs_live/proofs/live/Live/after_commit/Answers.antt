@@ -8,7 +8,7 @@ use Rattle.cs_live.specs.Brought.{StillUnasked}
 use Rattle.cs_live.specs.Entries.{said}
 use Rattle.cs_kept.specs.Fits.{IsQuiet}
 use Rattle.cs_live.specs.Fits.{FitsOne}
-use Rattle.cs_live.specs.Lives.{Said}
+use Rattle.cs_live.specs.Lives.{Worded}
 use Rattle.cs_live.proofs.Bringing.{Loop, loop-start, loop-step, loop-next, loop-end}
 use Rattle.cs_live.proofs.News.{refreshed-lives, refreshed-fits, refreshed-records}
 use Rattle.cs_live.proofs.live.Live.after_commit.Goals as goal
@@ -18,7 +18,7 @@ loop-number-init g c =
     let docs = g.V.View.docs c.args.view.now in let cs = edits c.args.changes.now in let old = c.args.self.now.entries.items in
     let ns = c.deref-number-items.result.now in
     record {
-      loop = subst (λ (out : List Said). Loop docs cs old old out ns 0) (sym (ap (map said) c.new-lines.ensures.items)) (loop-start docs cs old ns);
+      loop = subst (λ (out : List Worded). Loop docs cs old old out ns 0) (sym (ap (map said) c.new-lines.ensures.items)) (loop-start docs cs old ns);
       found = c.requires.fits.found;
       quiet = λ quiet. refl;
     }

@@ -4,7 +4,7 @@ use Rattle.cs_view.specs.View.{edits}
 use Rattle.cs_live.specs.Entries.{live_query, said}
 use Rattle.cs_live.specs.Fits.{Refreshes}
 use Rattle.cs_kept.specs.Found.{IsFound, KeepsOthers}
-use Rattle.cs_live.specs.Lives.{news_of}
+use Rattle.cs_live.specs.Lives.{news_of, worded}
 use Rattle.cs_live.specs.declared.entry.Entry.{Entry}
 use Rattle.cs_live.proofs.Found.{found-set}
 use Rattle.cs_live.proofs.live.Live.bring_at.Goals as goal
@@ -28,7 +28,7 @@ returns-clause-brought g c =
       entry = c.refresh_into.new.self;
       is = refl;
       refreshed = λ d. subst (λ (x : Entry). Refreshes docs cs x c.refresh_into.new.self) (here ∙ same-at es q e d c.requires.within) c.in_ok-refresh_into.ensures.refreshed;
-      lines = λ d. c.in_ok-refresh_into.ensures.lines ∙ ap (λ (x : Entry). map said c.args.lines.now.items ++ news_of docs (live_query x)) (here ∙ same-at es q e d c.requires.within);
+      lines = λ d. c.in_ok-refresh_into.ensures.lines ∙ ap (λ (x : Entry). map said c.args.lines.now.items ++ map worded (news_of docs (live_query x))) (here ∙ same-at es q e d c.requires.within);
     }
 
 pub returns-clause-found : goal.returns-clause-found

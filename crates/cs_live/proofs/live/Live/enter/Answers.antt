@@ -1,10 +1,11 @@
-use Rattle.std.proofs.Common.{◌+◌, ℕ, List, sym, subst, arith}
+use Rattle.std.proofs.Common.{◌∙◌, ◌+◌, ℕ, List, ap, sym, subst, arith}
 use Rattle.std.specs.List.{All}
 use Rattle.cs_codes.specs.declared.seed.Seed.{Seed}
 use Rattle.cs_interest.specs.Interest.{Left}
 use Rattle.cs_live.specs.Fits.{FitsOne}
 use Rattle.cs_kept.specs.Found.{IsCoded, codes_of}
 use Rattle.cs_live.specs.Found.{AreFoundBy}
+use Rattle.cs_live.specs.Lives.{LiveQuery, say, worded}
 use Rattle.cs_live.specs.declared.entry.Entry.{Entry}
 use Rattle.cs_live.proofs.Found.{found-left, found-pushed, on_err}
 use Rattle.cs_live.proofs.News.{fits-entered}
@@ -21,6 +22,10 @@ returns-clause-fits g c = λ h.
           (subst (λ (s : Seed). IsCoded s e.kept) c.seed-seed.ensures c.in_ok-entry.ensures.coded)
           c.in_ok-push.ensures.entered c.push.ensures.seed (omega arith) h.found);
     }
+
+pub returns-clause-line : goal.returns-clause-line
+returns-clause-line g c =
+    c.in_ok-line.ensures (g.V.View.docs c.args.view.now) c.in_ok-entry.ensures.fits ∙ ap (λ (q : LiveQuery). worded (say q)) c.in_ok-entry.ensures.made
 
 pub returns-in_err-push-clause-fits_still : goal.returns-in_err-push-clause-fits_still
 returns-in_err-push-clause-fits_still g c = on_err c.from_residual-in_err-push.result (λ docs h.
