@@ -1,12 +1,14 @@
 -- The names of live queries and listeners.
-use Rattle.std.proofs.Common.{◌≡◌, refl, sym, ap, ◌∙◌, ℕ, List, [], ◌∷◌, ◌++◌, Bool, true, false, ◌||◌}
+use Rattle.std.proofs.Common.{◌≡◌, refl, sym, ap, ◌∙◌, ℕ, ◌<◌, List, [], ◌∷◌, ◌++◌, length, Bool, true, false, cond, ◌||◌, leb-true, arith}
+use Rattle.std.specs.Bool.{nat_le}
 use Rattle.std.proofs.lemmas.Slice.Eq.{bytes_eq-Decides}
 use Rattle.cs_view.proofs.Booleans.{or-left, or-right}
 use Rattle.cs_live.specs.Fits.{HasRoom}
 use Rattle.cs_live.specs.Lives.{LiveQuery, has_live_name, is_named, made, without_name}
 use Rattle.cs_value.specs.Tree.{Pairs}
 use Rattle.cs_syntax.specs.Expression.{Expression}
-use Rattle.cs_reply.specs.Refusal.{name_used}
+use Rattle.cs_interest.specs.Limits.{most_subscriptions}
+use Rattle.cs_reply.specs.Refusal.{full_subscriptions, name_used}
 use Rattle.cs_machine.specs.Fold.{Stepped}
 use Rattle.cs_machine.specs.Refused.{refuse}
 use Rattle.cs_machine.specs.Rows.{subscribing}
@@ -53,6 +55,28 @@ taken_by_listener s name text count next same has =
     let taken : is_taken text s ≡ true =
     ap (λ b. is_named text s.lives || b) has ∙ or-true (is_named text s.lives) in
     ap (λ n. subscribing s n count next) (sym same) ∙ rw taken refl
+
+not_full : (count : ℕ) → count < most_subscriptions → nat_le most_subscriptions count ≡ false
+not_full count low = by (nat_le most_subscriptions count) refl where
+  by : (b : Bool) → nat_le most_subscriptions count ≡ b
+      → nat_le most_subscriptions count ≡ false
+  by true h = let le = leb-true most_subscriptions count h in absurd (omega (arith, low, le))
+  by false h = h
+
+-- where none has the name and there is room, one more is made
+pub made_with_room : (s : State) (name text : List ℕ) (next : Stepped State)
+    → text ≡ name
+    → is_listening text s.listeners ≡ false
+    → HasRoom name s.lives
+    → subscribing s name (length s.lives) next ≡ next
+made_with_room s name text next same none room =
+    let full = refuse s (full_subscriptions most_subscriptions) in
+    let free : is_taken name s ≡ false =
+    ap (λ b. b || is_listening name s.listeners) room.0
+    ∙ ap (λ n. is_listening n s.listeners) (sym same) ∙ none in
+    ap (λ b. cond b (refuse s (name_used name))
+    (cond (nat_le most_subscriptions (length s.lives)) full next)) free
+    ∙ ap (λ b. cond b full next) (not_full (length s.lives) room.1)
 
 -- a live query that was made last is taken back
 pub taken_back : (s t : State) (name text : List ℕ) (q : Expression) (params : Pairs)

@@ -4,7 +4,7 @@ ghost use Rattle.cs_value.specs.View.{fields};
 ghost use Rattle.cs_syntax.specs.Queries.{expression_of};
 ghost use Rattle.cs_live.specs.Entries.{said};
 ghost use Rattle.cs_live.specs.Fits.{HasRoom, IsCause};
-ghost use Rattle.cs_live.specs.Lives.{made, say, without_name};
+ghost use Rattle.cs_live.specs.Lives.{made, say, without_name, worded};
 ghost use Rattle.cs_meaning.specs.Hits.{cost};
 ghost use Rattle.cs_parse.specs.Verdict.{verdict};
 ghost use Rattle.cs_plan.specs.Simple.{is_simple};
@@ -112,8 +112,8 @@ impl Core {
         ensures state { OnOk result (state self.new ≡ with_one_live
             (made (state self.old).docs name (expression_of query) (fields params))
             (state self.old)) }
-        ensures line { IfOk result (λ line. said line ≡ say
-            (made (state self.old).docs name (expression_of query) (fields params))) }
+        ensures line { IfOk result (λ line. said line ≡ worded (say
+            (made (state self.old).docs name (expression_of query) (fields params)))) }
         ensures cause { IfErr result (λ fault. IsCause fault name (state self.old).lives) }
         ensures kept { OnErr result (state self.new ≡ state self.old) }
         ensures usable { IsUsable self.new }

@@ -1,10 +1,12 @@
 -- What an accepted transaction has written.
-use Rattle.std.proofs.Common.{◌≡◌, refl, ap, ◌∙◌, sym, arith, ◌<◌, ℕ, List, [], ◌∷◌, ◌++◌, length, map, suc, ◌+◌, get_or, drop, drop-cons}
-use Rattle.std.proofs.lemmas.List.{append_assoc}
-use Rattle.cs_value.specs.Tree.{Tree}
+use Rattle.std.proofs.Common.{◌≡◌, refl, ap, ◌∙◌, sym, arith, ◌<◌, ℕ, List, [], ◌∷◌, ◌++◌, length, map, suc, ◌+◌, ◌≤◌, get_or, drop, drop-cons}
+use Rattle.std.proofs.lemmas.List.{append_assoc, append-nil, drop_all, drop_more, get_or-map, length-map}
+use Rattle.cs_value.specs.Tree.{Tree, null}
 use Rattle.cs_view.specs.Changes.{Edit}
 use Rattle.cs_gen.specs.declared.tally.Tally.{Tally}
-use Rattle.cs_live.specs.Lives.{news}
+use Rattle.cs_live.specs.Entries.{said}
+use Rattle.cs_live.specs.Lives.{Said, news, worded}
+use Rattle.cs_live.specs.declared.entry.LiveLine.{LiveLine}
 use Rattle.cs_reply.specs.Reply as plain
 use Rattle.cs_reply.specs.View.{Appended}
 use Rattle.cs_listen.specs.Events.{events}
@@ -36,6 +38,45 @@ told_one seen reply n before now xs i x inside is more =
     ap (λ v. v ++ rest) more
     ∙ (append_assoc before line rest
     ∙ ap (λ v. before ++ lines_of n (map reply (map seen v))) (sym (next xs i x inside is)))
+
+-- the answer of one live query more was written
+pub told_more : (n : ℕ) (before now : List ℕ) (answers : List LiveLine) (told : List Said)
+    (i : ℕ) (x : LiveLine)
+    → i < length answers
+    → map said answers ≡ map worded told
+    → x ≡ get_or answers i x
+    → ((s : Said) → said x ≡ worded s → Appended before now (plain.reply_tree n (live_reply s)))
+    → now ++ live_lines n (drop (i + 1) told) ≡ before ++ live_lines n (drop i told)
+told_more n before now answers told i x inside are is more =
+    let none : Said = ([], null) in
+    let one = get_or told i none in
+    let long : length answers ≡ length told
+    = sym (length-map answers said) ∙ ap length are ∙ length-map told worded in
+    let there : i < length told = omega (arith, inside, long) in
+    let seen : said x ≡ worded one
+    = ap said is ∙ sym (get_or-map said answers i x (said x) inside)
+    ∙ ap (λ l. get_or l i (said x)) are ∙ get_or-map worded told i none (said x) there in
+    let rest = live_lines n (drop (i + 1) told) in
+    let line = plain.written_line (plain.reply_tree n (live_reply one)) in
+    ap (λ v. v ++ rest) (more one seen)
+    ∙ (append_assoc before line rest
+    ∙ ap (λ v. before ++ live_lines n v) (sym (drop_more told i none there)))
+
+-- all were written
+pub all_told : (n : ℕ) (out : List ℕ) (answers : List LiveLine) (told : List Said) (i : ℕ)
+    → length answers ≤ i
+    → map said answers ≡ map worded told
+    → out ++ live_lines n (drop i told) ≡ out
+all_told n out answers told i past are =
+    let long : length answers ≡ length told
+    = sym (length-map answers said) ∙ ap length are ∙ length-map told worded in
+    ap (λ v. out ++ live_lines n v) (drop_all i told (omega (arith, past, long))) ∙ append-nil out
+
+-- there are as many of them as there is to tell
+pub told_many : (answers : List LiveLine) (told : List Said)
+    → map said answers ≡ map worded told → length told ≡ length answers
+told_many answers told are =
+    sym (length-map told worded) ∙ ap length (sym are) ∙ length-map answers said
 
 lines-append : (n : ℕ) (rs qs : List plain.Reply)
     → lines_of n (rs ++ qs) ≡ lines_of n rs ++ lines_of n qs

@@ -1,13 +1,13 @@
 //! The line with an answer of a live query.
-ghost use Rattle.std.specs.Prelude.{OnOk};
+ghost use Rattle.std.specs.Prelude.{◌≡◌, OnOk};
 ghost use Rattle.cs_live.specs.Entries.{said};
+ghost use Rattle.cs_live.specs.Lives.{Said, worded};
 ghost use Rattle.cs_reply.specs.Reply.{reply_tree};
 ghost use Rattle.cs_reply.specs.View.{Appended};
 ghost use Rattle.cs_machine.specs.Rows.{live_reply};
 
-use cs_json::Node;
 use cs_live::LiveLine;
-use cs_reply::Reply;
+use cs_reply::write_live;
 use cs_value::NoMemory;
 use std::alloc::Global;
 
@@ -19,10 +19,8 @@ pub fn write_answer(
     line: u32,
     out: &mut Vec<u8>,
 ) -> Result<(), NoMemory>
-    ensures { OnOk result (Appended out.old.items out.new.items (reply_tree line
-        (live_reply (said answer.now)))) }
+    ensures { (s : Said) → said answer.now ≡ worded s → OnOk result
+        (Appended out.old.items out.new.items (reply_tree line (live_reply s))) }
 {
-    let name = answer.name.as_str();
-    let node = Node::Value(&answer.answer);
-    Reply::Live { name, answer: node }.write(alloc, line, out)
+    write_live(alloc, answer.name.as_str(), &answer.answer, line, out)
 }

@@ -1,7 +1,7 @@
 //! The row of `mutate`: a transaction, in three parts. What reads and prepares it changes nothing.
 //! Then all is made that needs memory before the documents are installed. Last come the answers of
 //! live queries: where there is no memory for these, the state is spent.
-ghost use Rattle.std.specs.Prelude.{◌≡◌, ◌++◌, ◌<◌, ◌≤◌, ◌+◌, ◌^◌, OnOk, OnErr, IfOk, IfErr, Ok, length, map, string_bytes, false, true};
+ghost use Rattle.std.specs.Prelude.{◌≡◌, ◌++◌, ◌<◌, ◌≤◌, ◌+◌, ◌^◌, OnOk, OnErr, IfOk, IfErr, List, Ok, length, map, string_bytes, false, true};
 ghost use Rattle.indexmap.specs.IndexSet.{contains_text, spare};
 ghost use Rattle.cs_value.specs.Tree.{widest};
 ghost use Rattle.cs_value.specs.View.{tree};
@@ -11,10 +11,10 @@ ghost use Rattle.cs_docs.specs.Store.{docs as docs_of, prepared as changes_of};
 ghost use Rattle.cs_docs.specs.Verdict.{AreTaken};
 ghost use Rattle.cs_io.specs.Lines.{longest_line};
 ghost use Rattle.cs_body.specs.Body.{body_of};
-ghost use Rattle.cs_body.specs.View.{txn as plain};
+ghost use Rattle.cs_body.specs.View.{action, txn as plain};
 ghost use Rattle.cs_live.specs.Entries.{lives, said};
 ghost use Rattle.cs_live.specs.Fits.{Fits, IsUntouched};
-ghost use Rattle.cs_live.specs.Lives.{all_refreshed, news};
+ghost use Rattle.cs_live.specs.Lives.{all_refreshed, news, worded, Said};
 ghost use Rattle.cs_reply.specs.Reply.{reply_tree, committed};
 ghost use Rattle.cs_reply.specs.View.{Appended, event, outcome as outcome_seen};
 ghost use Rattle.cs_listen.specs.Events.{events};
@@ -22,7 +22,7 @@ ghost use Rattle.cs_listen.specs.Listeners.{listeners};
 ghost use Rattle.cs_machine.specs.Rows.{row_mutate, by_transaction, installed, outcome};
 ghost use Rattle.cs_machine.specs.State.{with_lives, with_used};
 ghost use Rattle.cs_txn.specs.Commit.{commit};
-ghost use Rattle.cs_txn.specs.View.{IsRefusal};
+ghost use Rattle.cs_txn.specs.View.{IsRefusal, transaction};
 ghost use Rattle.cs_txn.specs.Visits.{are_simple, costs};
 ghost use Rattle.cs_txn.specs.Within.{AreShort};
 ghost use Rattle.cs_state.specs.State.{state, IsUsable};
@@ -32,7 +32,7 @@ ghost use Rattle.cs_state.specs.Does.{Does, Leaves, IsTallyOf, AllButStore, hear
 
 use crate::answer::write_answer;
 use crate::state::{ONE_REFUSAL, State};
-use cs_body::{Txn, TxnFault, transactions_are_within};
+use cs_body::{Mutation, Txn, TxnFault, transactions_are_within};
 use cs_docs::Prepared;
 use cs_gen::Tally;
 use cs_index::{Indexed, InstallFault, install};
@@ -97,8 +97,8 @@ fn write_answers(
     line: u32,
     out: &mut Vec<u8>,
 ) -> Result<(), NoMemory>
-    ensures { OnOk result (out.new.items ≡ out.old.items ++ live_lines line
-        (map said answers.now)) }
+    ensures { (told : List Said) → map said answers.now ≡ map worded told → OnOk result
+        (out.new.items ≡ out.old.items ++ live_lines line told) }
 {
     for answer in answers {
         write_answer(alloc, answer, line, out)?;
@@ -157,7 +157,7 @@ impl State {
         transactions_are_within();
         within_are_short();
         match Txn::read(self.alloc, body, line) {
-            Ok(txn) => self.transact(&txn, line, steps, out),
+            Ok(txn) => self.transact(txn, line, steps, out),
             Err(TxnFault::BadCommand) => self.refuse(Refusal::BadCommand, line, out),
             Err(TxnFault::BadTx) => self.refuse(Refusal::BadTx, line, out),
             Err(TxnFault::NoMemory) => Err(NoMemory),
@@ -167,31 +167,32 @@ impl State {
     // A transaction that was read.
     fn transact<L: Ledger>(
         &mut self,
-        txn: &Txn,
+        txn: Txn,
         line: u32,
         steps: &mut Steps<L>,
         out: &mut Vec<u8>,
     ) -> Result<Tally, NoMemory>
-        requires few { length txn.now.mutations.items < 2 ^ 31 }
-        requires short { AreShort (plain txn.now).actions }
+        requires few { length txn.mutations.items < 2 ^ 31 }
+        requires short { AreShort (plain txn).actions }
         requires usable { IsUsable self.old }
         ensures does { IfOk result (λ tally. Does out.old.items out.new.items tally self.new line
-            (by_transaction (state self.old) (plain txn.now))) }
+            (by_transaction (state self.old) (plain txn))) }
         ensures leaves { OnErr result (Leaves self.old self.new
-            (by_transaction (state self.old) (plain txn.now))) }
-        ensures visits { VisitsFew (are_simple (plain txn.now).actions)
-            (transaction_cost (state self.old) (plain txn.now)) self.old
-            (by_transaction (state self.old) (plain txn.now)) steps.old steps.new }
+            (by_transaction (state self.old) (plain txn))) }
+        ensures visits { VisitsFew (are_simple (plain txn).actions)
+            (transaction_cost (state self.old) (plain txn)) self.old
+            (by_transaction (state self.old) (plain txn)) steps.old steps.new }
     {
         commits_keep_datasets();
         changes_are_computed();
         changes_are_one_list();
-        let id = txn.id.as_str();
+        let Txn { id: tx, mutations } = txn;
+        let id = tx.as_str();
         if self.used.contains(id) {
             return self.refuse(Refusal::TxUsed { id }, line, out);
         }
-        match self.prepare(txn, steps) {
-            Ok(prepared) => self.accept(&txn.id, &prepared, line, steps, out),
+        match self.prepare(&tx, mutations, steps) {
+            Ok(prepared) => self.accept(&tx, &prepared, line, steps, out),
             Err(refusal) => {
                 write_refused(self.alloc, &refusal, line, out)?;
                 Ok(ONE_REFUSAL)
@@ -200,22 +201,37 @@ impl State {
     }
 
     // What a transaction comes to over the documents.
-    fn prepare<L: Ledger>(&self, txn: &Txn, steps: &mut Steps<L>) -> Result<Prepared, TxnRefusal>
-        requires few { length txn.now.mutations.items < 2 ^ 31 }
-        requires short { AreShort (plain txn.now).actions }
+    fn prepare<L: Ledger>(
+        &self,
+        tx: &Txt,
+        mutations: Vec<Mutation>,
+        steps: &mut Steps<L>,
+    ) -> Result<Prepared, TxnRefusal>
+        requires few { length mutations.items < 2 ^ 31 }
+        requires short { AreShort (map action mutations.items) }
         requires usable { IsUsable self.now }
-        ensures accepted { IfOk result (λ p. commit (plain txn.now) self.now.moment
-            (docs_of self.now.docs) ≡ Ok (after_changes (docs_of self.now.docs) (changes_of p))) }
+        ensures accepted { IfOk result (λ p. commit (transaction tx.now mutations.items)
+            self.now.moment (docs_of self.now.docs)
+            ≡ Ok (after_changes (docs_of self.now.docs) (changes_of p))) }
         ensures changes { IfOk result (λ p. AreChangesBetween (docs_of self.now.docs)
             (after_changes (docs_of self.now.docs) (changes_of p)) (changes_of p)) }
         ensures taken { IfOk result (λ p. AreTaken (docs_of self.now.docs) (changes_of p)) }
         ensures refused { IfErr result (λ r. IsRefusal r
-            (commit (plain txn.now) self.now.moment (docs_of self.now.docs))) }
-        ensures visits { are_simple (plain txn.now).actions ≡ true → steps.new ≤ steps.old + costs
-            (plain txn.now).id self.now.moment 0 (plain txn.now).actions (docs_of self.now.docs) }
+            (commit (transaction tx.now mutations.items) self.now.moment (docs_of self.now.docs))) }
+        ensures visits { are_simple (map action mutations.items) ≡ true → steps.new ≤ steps.old
+            + costs tx.now self.now.moment 0 (map action mutations.items)
+            (docs_of self.now.docs) }
     {
         let store = self.store();
-        let prepared = prepare(self.alloc, store, &store, txn, &self.moment, steps)?;
+        let prepared = prepare(
+            self.alloc,
+            store,
+            &store,
+            tx,
+            mutations,
+            &self.moment,
+            steps,
+        )?;
         Ok(prepared)
     }
 

@@ -1,11 +1,18 @@
--- What contracts see of a refusal: Sanity's HTTP documentation, "Mutations", in this project's
--- profile.
-use Rattle.std.specs.Prelude.{◌≡◌, ⊤, Option, Some, None, Err}
+-- What contracts see of mutations and of a refusal: Sanity's HTTP documentation, "Mutations", in
+-- this project's profile.
+use Rattle.std.specs.Prelude.{◌≡◌, ⊤, ℕ, List, map, Option, Some, None, Err}
+use Rattle.cs_body.specs.Transaction.{Transaction}
+use Rattle.cs_body.specs.View.{action}
+use Rattle.cs_body.specs.declared.txn.Mutation.{Mutation}
 use Rattle.cs_parse.specs.Verdict.{Reading, reading_of}
 use Rattle.cs_txn.specs.Refused.{Cause, bad_document, deep_document, exists, diff, bad_path, no_query, not_documents, missing, revision, immutable, not_number, overflow, not_array, full_documents, dangling, Outcome}
 use Rattle.cs_txn.specs.declared.why.Why.{Why}
 use Rattle.cs_txn.specs.declared.why.Why.TheVariants as why
 use Rattle.cs_txn.specs.declared.why.Refusal.{Refusal}
+
+-- the transaction of an id and of mutations
+abbrev pub transaction : List ℕ → List Mutation → Transaction
+transaction id ms = record { id = id; actions = map action ms }
 
 -- there is a reading, and it is as said
 abbrev pub IsReadSo : (Reading → Type 0) → Option Reading → Type 0

@@ -93,18 +93,18 @@ fn install_new(
 fn create(
     alloc: Global,
     working: &mut Working<'_>,
-    body: &Val,
+    body: Val,
     tx: &Txt,
     moment: &Txt,
     index: u32,
 ) -> Result<(), Why>
     ensures store { base working.new ≡ base working.old }
     ensures done { OnOk result (installed (created tx.now moment.now (docs_of working.old))
-        (with_made_id tx.now index (tree body.now)) ≡ Ok (docs_of working.new)) }
+        (with_made_id tx.now index (tree body)) ≡ Ok (docs_of working.new)) }
     ensures refused { IfErr result (IsTold (λ c. installed (created tx.now moment.now
-        (docs_of working.old)) (with_made_id tx.now index (tree body.now)) ≡ Err c)) }
+        (docs_of working.old)) (with_made_id tx.now index (tree body)) ≡ Err c)) }
 {
-    let body = with_made_id(alloc, body.copy(alloc)?, tx.as_str(), index)?;
+    let body = with_made_id(alloc, body, tx.as_str(), index)?;
     install_new(alloc, working, body, tx, moment)
 }
 
@@ -112,21 +112,21 @@ fn create(
 fn replace(
     alloc: Global,
     working: &mut Working<'_>,
-    body: &Val,
+    body: Val,
     tx: &Txt,
     moment: &Txt,
 ) -> Result<(), Why>
     ensures store { base working.new ≡ base working.old }
     ensures done { OnOk result (installed (replaced tx.now moment.now (docs_of working.old))
-        (tree body.now) ≡ Ok (docs_of working.new)) }
+        (tree body) ≡ Ok (docs_of working.new)) }
     ensures refused { IfErr result (IsTold (λ c. installed (replaced tx.now moment.now
-        (docs_of working.old)) (tree body.now) ≡ Err c)) }
+        (docs_of working.old)) (tree body) ≡ Err c)) }
 {
-    match checked(body) {
+    match checked(&body) {
         Ok(_id) => {}
         Err(why) => return Err(why),
     }
-    install(alloc, working, body.copy(alloc)?, tx, moment)?;
+    install(alloc, working, body, tx, moment)?;
     Ok(())
 }
 
@@ -134,24 +134,24 @@ fn replace(
 fn create_if_none(
     alloc: Global,
     working: &mut Working<'_>,
-    body: &Val,
+    body: Val,
     tx: &Txt,
     moment: &Txt,
 ) -> Result<(), Why>
     ensures store { base working.new ≡ base working.old }
     ensures done { OnOk result (installed (kept_or_created tx.now moment.now
-        (docs_of working.old)) (tree body.now) ≡ Ok (docs_of working.new)) }
+        (docs_of working.old)) (tree body) ≡ Ok (docs_of working.new)) }
     ensures refused { IfErr result (IsTold (λ c. installed (kept_or_created tx.now moment.now
-        (docs_of working.old)) (tree body.now) ≡ Err c)) }
+        (docs_of working.old)) (tree body) ≡ Err c)) }
 {
-    let id = match checked(body) {
+    let id = match checked(&body) {
         Ok(id) => id,
         Err(why) => return Err(why),
     };
     if working.stands(id) {
         return Ok(());
     }
-    install(alloc, working, body.copy(alloc)?, tx, moment)?;
+    install(alloc, working, body, tx, moment)?;
     Ok(())
 }
 
@@ -160,30 +160,30 @@ fn create_if_none(
 pub(crate) fn mutate<L: Ledger>(
     alloc: Global,
     working: &mut Working<'_>,
-    mutation: &Mutation,
+    mutation: Mutation,
     tx: &Txt,
     moment: &Txt,
     index: u32,
     steps: &mut Steps<L>,
 ) -> Result<(), Why>
-    requires short { IsShort (action mutation.now) }
+    requires short { IsShort (action mutation) }
     ensures store { base working.new ≡ base working.old }
     ensures done { OnOk result (done tx.now moment.now index (docs_of working.old)
-        (action mutation.now) ≡ Ok (docs_of working.new)) }
+        (action mutation) ≡ Ok (docs_of working.new)) }
     ensures refused { IfErr result (IsTold (λ c. done tx.now moment.now index
-        (docs_of working.old) (action mutation.now) ≡ Err c)) }
-    ensures visits { is_simple_action (action mutation.now) ≡ true → steps.new
-        ≤ steps.old + action_cost (docs_of working.old) (action mutation.now) }
+        (docs_of working.old) (action mutation) ≡ Err c)) }
+    ensures visits { is_simple_action (action mutation) ≡ true → steps.new
+        ≤ steps.old + action_cost (docs_of working.old) (action mutation) }
 {
     match mutation {
         Mutation::Create(body) => create(alloc, working, body, tx, moment, index),
         Mutation::Replace(body) => replace(alloc, working, body, tx, moment),
         Mutation::IfNone(body) => create_if_none(alloc, working, body, tx, moment),
-        Mutation::Delete(target) => delete(alloc, working, target, steps),
+        Mutation::Delete(target) => delete(alloc, working, &target, steps),
         Mutation::Change {
             target,
             patch,
             diff,
-        } => change(alloc, working, target, patch, *diff, tx, moment, steps),
+        } => change(alloc, working, &target, &patch, diff, tx, moment, steps),
     }
 }

@@ -1,4 +1,5 @@
-use Rattle.std.proofs.Common.{◌≡◌, ◌+◌, ◌≤◌, drop, map, true}
+use Rattle.std.proofs.Common.{◌≡◌, ◌+◌, ◌≤◌, length, map, true}
+use Rattle.std.specs.Vec.Iter.{into_iter_items}
 use Rattle.cs_body.specs.View.{action}
 use Rattle.cs_working.specs.Working.{base, working}
 use Rattle.cs_txn.specs.Commit.{folded}
@@ -8,16 +9,16 @@ use Rattle.cs_txn.proofs.commit.fold.Given as goal
 
 abbrev pub invariant-loop-mutation : goal.invariant-loop-mutation
 invariant-loop-mutation g l =
-    let left = map action (drop l.mutation-index l.mutation-items) in
-    let all = map action l.txn.mutations.items in
+    let left = map action (into_iter_items l.mutation-iterator) in
+    let all = map action l.fn.mutations.items in
     record {
-      at : l.index ≡ l.mutation-index;
+      at : l.index + length (into_iter_items l.mutation-iterator) ≡ length l.fn.mutations.items;
       store : base l.working ≡ base l.fn.working;
       short : AreShort left;
-      to_come : folded l.txn.id l.moment l.index left (working l.working)
-          ≡ folded l.txn.id l.moment 0 all (working l.fn.working);
+      to_come : folded l.tx l.moment l.index left (working l.working)
+          ≡ folded l.tx l.moment 0 all (working l.fn.working);
       simple : are_simple all ≡ true → are_simple left ≡ true;
       visits : are_simple all ≡ true
-          → l.steps + costs l.txn.id l.moment l.index left (working l.working)
-          ≤ l.fn.steps + costs l.txn.id l.moment 0 all (working l.fn.working);
+          → l.steps + costs l.tx l.moment l.index left (working l.working)
+          ≤ l.fn.steps + costs l.tx l.moment 0 all (working l.fn.working);
     }

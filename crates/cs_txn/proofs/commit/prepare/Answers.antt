@@ -7,9 +7,9 @@ use Rattle.cs_docs.specs.Store.{docs, prepared}
 use Rattle.cs_docs.specs.Verdict.{verdict, AreTaken}
 use Rattle.cs_docs.specs.declared.docs.Docs.{Docs}
 use Rattle.cs_index.specs.View.{store_of}
-use Rattle.cs_body.specs.View.{txn}
 use Rattle.cs_working.specs.Working.{working}
 use Rattle.cs_txn.specs.Commit.{folded}
+use Rattle.cs_txn.specs.View.{transaction}
 use Rattle.cs_txn.proofs.Committing.{accepted, led, between_again, judged_fits, judged_refused}
 use Rattle.cs_txn.proofs.commit.prepare.Goals as goal
 
@@ -28,7 +28,7 @@ make-requires-clause-leads g c =
 pub returns-in-Ok-make-clause-accepted : goal.returns-in-Ok-make-clause-accepted
 returns-in-Ok-make-clause-accepted g c =
     let store = store_of c.args.store in
-    let t = txn c.args.txn.now in
+    let t = transaction c.args.tx.now c.args.mutations.items in
     let w = c.fold.new.working in
     let facts = led store w (edits c.in-Ok.changes.items)
     (c.in_ok-fold.ensures.store ∙ c.of-working.ensures.store) c.in-Ok.ensures in
@@ -48,7 +48,7 @@ returns-in-Ok-make-clause-changes g c =
 pub returns-clause-refused : goal.returns-clause-refused
 returns-clause-refused g c =
     let store = store_of c.args.store in
-    let t = txn c.args.txn.now in
+    let t = transaction c.args.tx.now c.args.mutations.items in
     let w = c.fold.new.working in
     let cs = edits c.in-Ok.changes.items in
     let facts = led store w cs (c.in_ok-fold.ensures.store ∙ c.of-working.ensures.store)

@@ -19,7 +19,7 @@ pub returns-in-Ok-clause-does : goal.returns-in-Ok-clause-does
 returns-in-Ok-clause-does g c =
     let held = c.args.self.now in
     let row = row_known c.commits_keep_datasets.ensures c.changes_are_computed.ensures
-    c.changes_are_one_list.ensures (state held) (txn c.args.txn.now) (prepared c.in-Ok.prepared)
+    c.changes_are_one_list.ensures (state held) (txn c.args.txn) (prepared c.in-Ok.prepared)
     (is_dataset_of held.docs) (search rules) c.in-Ok.ensures.accepted c.in-Ok.ensures.changes in
     IfOk-weaker c.accept.result _ _ (λ t h. does_as _ _ t c.accept.new.self c.args.line _ _ row h)
     c.accept.ensures.does
@@ -28,21 +28,21 @@ pub returns-in-Ok-clause-leaves : goal.returns-in-Ok-clause-leaves
 returns-in-Ok-clause-leaves g c =
     let held = c.args.self.now in
     let row = row_known c.commits_keep_datasets.ensures c.changes_are_computed.ensures
-    c.changes_are_one_list.ensures (state held) (txn c.args.txn.now) (prepared c.in-Ok.prepared)
+    c.changes_are_one_list.ensures (state held) (txn c.args.txn) (prepared c.in-Ok.prepared)
     (is_dataset_of held.docs) (search rules) c.in-Ok.ensures.accepted c.in-Ok.ensures.changes in
     on_err_weaker c.accept.result (λ h. leaves_as held c.accept.new.self _ _ row h)
     c.accept.ensures.leaves
 
-pub returns-in_ok-write_refused-in-Err-clause-does : goal.returns-in_ok-write_refused-in-Err-clause-does
-returns-in_ok-write_refused-in-Err-clause-does g c =
+pub returns-clause-does : goal.returns-clause-does
+returns-clause-does g c =
     let held = c.args.self.now in
     let s = state held in
-    let x = txn c.args.txn.now in
+    let x = txn c.args.txn in
     let n = c.args.line in
     let r = c.in-Err.refusal in
     let from = c.args.out.now.items in
     let to = c.write_refused.new.out.items in
-    let unused : contains_text held.used c.args.txn.now.id ≡ false =
+    let unused : contains_text held.used c.args.txn.id ≡ false =
     ap (contains_text held.used) (sym c.as_str-id.ensures) ∙ sym c.contains.ensures
     ∙ c.if-contains.false in
     let written = c.in_ok-write_refused-in-Err.ensures in
@@ -65,7 +65,7 @@ pub returns-in-Ok-clause-visits : goal.returns-in-Ok-clause-visits
 returns-in-Ok-clause-visits g c =
     let held = c.args.self.now in
     let s = state held in
-    let x = txn c.args.txn.now in
+    let x = txn c.args.txn in
     let cs = prepared c.in-Ok.prepared in
     let row = row_known c.commits_keep_datasets.ensures c.changes_are_computed.ensures
     c.changes_are_one_list.ensures s x cs (is_dataset_of held.docs) (search rules)
@@ -76,18 +76,18 @@ returns-in-Ok-clause-visits g c =
     few_accepted held x cs c.args.steps.now c.prepare.new.steps c.accept.new.steps (search rules)
     row are c.prepare.ensures.visits c.accept.ensures.quiet
 
-pub returns-in_ok-write_refused-in-Err-clause-visits : goal.returns-in_ok-write_refused-in-Err-clause-visits
-returns-in_ok-write_refused-in-Err-clause-visits g c =
-    let unused : contains_text c.args.self.now.used c.args.txn.now.id ≡ false =
+pub returns-clause-visits : goal.returns-clause-visits
+returns-clause-visits g c =
+    let unused : contains_text c.args.self.now.used c.args.txn.id ≡ false =
     ap (contains_text c.args.self.now.used) (sym c.as_str-id.ensures) ∙ sym c.contains.ensures
     ∙ c.if-contains.false in
-    few_refused c.args.self.now (txn c.args.txn.now) c.args.steps.now c.prepare.new.steps unused
+    few_refused c.args.self.now (txn c.args.txn) c.args.steps.now c.prepare.new.steps unused
     c.prepare.ensures.visits
 
 pub returns-in_err-write_refused-in-Err-clause-visits : goal.returns-in_err-write_refused-in-Err-clause-visits
 returns-in_err-write_refused-in-Err-clause-visits g c =
-    let unused : contains_text c.args.self.now.used c.args.txn.now.id ≡ false =
+    let unused : contains_text c.args.self.now.used c.args.txn.id ≡ false =
     ap (contains_text c.args.self.now.used) (sym c.as_str-id.ensures) ∙ sym c.contains.ensures
     ∙ c.if-contains.false in
-    few_refused c.args.self.now (txn c.args.txn.now) c.args.steps.now c.prepare.new.steps unused
+    few_refused c.args.self.now (txn c.args.txn) c.args.steps.now c.prepare.new.steps unused
     c.prepare.ensures.visits
