@@ -5,4 +5,3 @@ pub mod Newly
 pub mod Places
 mod Renewing
 pub mod Sharing
-pub mod Sides

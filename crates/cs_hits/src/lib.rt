@@ -8,7 +8,6 @@ mod hits;
 mod near;
 mod share;
 mod shares;
-mod touching;
 
 pub use behind::Behind;
 pub use hits::Hits;
@@ -16,4 +15,3 @@ pub use share::Share;
 pub use shares::{
     answer_of, codes_of, find_shares, follow_shares, renew_shares, shares_touched, text_of,
 };
-pub use touching::stands;

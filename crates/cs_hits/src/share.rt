@@ -9,13 +9,12 @@ ghost use Rattle.cs_window.specs.Mapped.{is_mapped};
 ghost use Rattle.cs_hits.specs.Shares.{IsShare, share_doc};
 
 use crate::held::Held;
-use crate::touching::some_touched;
 use cs_eval::share;
 use cs_json::write;
 use cs_syntax::Query;
 use cs_value::{Fields, NoMemory, Steps, Val};
 use cs_view::laws::{changes_lead_back_and_on, untouched_selects_the_same};
-use cs_view::{Change, Doc, Record, View};
+use cs_view::{Change, Doc, Record, View, some_touched};
 use cs_window::looked_settles_share;
 use std::alloc::Global;
 use std::sync::ledger::Ledger;

@@ -18,7 +18,7 @@ use Rattle.cs_view.specs.declared.key.Key.{Key}
 use Rattle.cs_view.specs.declared.key.Key.TheVariants.{Id}
 use Rattle.cs_view.specs.View.{edit, edits}
 use Rattle.cs_view.specs.declared.change.Change.{Change}
-use Rattle.cs_hits.proofs.Sides.{sides, touches-id}
+use Rattle.cs_view.proofs.Sides.{sides, touches-id}
 use Rattle.cs_kept.specs.Fits.{SameKeys}
 
 -- ---- the same keys, order and repeats aside

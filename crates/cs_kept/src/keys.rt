@@ -9,7 +9,6 @@ ghost use Rattle.cs_kept.specs.Fits.{SameKeys};
 ghost use Rattle.cs_kept.specs.Keys.{ids_of, all_keys, rest_of};
 
 use cs_codes::Seed;
-use cs_hits::stands;
 use cs_interest::interest_code;
 use cs_value::{NoMemory, OrderedMap};
 use cs_view::{Change, Key, Record};
@@ -127,6 +126,6 @@ impl Keys {
         requires after { is_of_id (edit change.now).0 (edit change.now).1.1 ≡ true }
         ensures { result ≡ list_any (λ key. touches key (edit change.now)) (ids_of self.now) }
     {
-        stands(change) && self.ids.get(change.id.as_str()).is_some()
+        change.stands() && self.ids.get(change.id.as_str()).is_some()
     }
 }

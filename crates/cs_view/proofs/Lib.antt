@@ -6,5 +6,6 @@ pub mod Documents
 pub mod Kept
 pub mod Looking
 pub mod Sames
+pub mod Sides
 pub mod Typed
 pub mod Untouched

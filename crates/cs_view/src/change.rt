@@ -1,4 +1,6 @@
 //! Changes of a dataset.
+ghost use Rattle.std.specs.Prelude.{◌≡◌, ◌||◌, is_some};
+
 use crate::doc::Doc;
 use cs_value::Txt;
 
@@ -11,4 +13,13 @@ pub struct Change {
     pub id: Txt,
     pub before: Option<Doc>,
     pub after: Option<Doc>,
+}
+
+impl Change {
+    /// Whether a document stands before the change or after it.
+    pub fn stands(&self) -> bool
+        ensures { result ≡ (is_some self.now.before || is_some self.now.after) }
+    {
+        self.before.is_some() || self.after.is_some()
+    }
 }

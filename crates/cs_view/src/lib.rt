@@ -8,6 +8,7 @@ pub mod laws;
 mod lookup;
 mod record;
 mod scope;
+mod touching;
 mod view;
 
 pub use change::Change;
@@ -16,6 +17,7 @@ pub use key::{Key, Names, Scalar};
 pub use lookup::{has, has_all, has_ref};
 pub use record::{Record, is_touched};
 pub use scope::Scope;
+pub use touching::some_touched;
 pub use view::View;
 
 #[cfg(test)]

@@ -5,7 +5,7 @@ use Rattle.cs_view.specs.View.{edit, edits}
 use Rattle.cs_view.specs.declared.change.Change.{Change}
 use Rattle.cs_view.proofs.Changed.{own_ids}
 use Rattle.cs_kept.specs.Keys.{ids_of}
-use Rattle.cs_hits.proofs.Sides.{own-more}
+use Rattle.cs_view.proofs.Sides.{own-more}
 use Rattle.cs_kept.proofs.Keyed.{touched-here, touched-end}
 use Rattle.cs_kept.proofs.keys.Keys.has_some_id.Goals as goal
 

@@ -1,7 +1,7 @@
 use Rattle.std.proofs.Common.{◌∙◌, bytes_eq, sym}
 use Rattle.std.proofs.lemmas.Map.Text.{is_eq-slice_cmp}
-use Rattle.cs_hits.proofs.Sides.{id-stands, id-stands-not}
-use Rattle.cs_hits.proofs.touching.is_of.Goals as goal
+use Rattle.cs_view.proofs.Sides.{id-stands, id-stands-not}
+use Rattle.cs_view.proofs.touching.is_of.Goals as goal
 
 pub returns-then-stands : goal.returns-then-stands
 returns-then-stands c =

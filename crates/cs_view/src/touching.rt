@@ -1,15 +1,21 @@
 //! Whether changes touch keys. The documents of a change have its id, so that none is asked for its
 //! own.
-ghost use Rattle.std.specs.Prelude.{◌≡◌, ◌||◌, true, is_some};
+ghost use Rattle.std.specs.Prelude.{◌≡◌, true};
 ghost use Rattle.cs_view.specs.Changes.{are_changes, is_of_id};
 ghost use Rattle.cs_view.specs.Touched.{is_touched, touched, touches};
 ghost use Rattle.cs_view.specs.View.{edit, edits};
 
+use crate::change::Change;
+use crate::key::Key;
+use crate::record::is_touched;
 use cs_value::Txt;
-use cs_view::{Change, Key, is_touched};
 
-/// Whether some key is had by the document before or after some change. It takes no memory.
-pub(crate) fn some_touched(keys: &[Key], changes: &[Change]) -> bool
+/// Whether some key is had by the document before or after some change, as [`Record::touched`] says
+/// it of any keys, where the changes are such of a dataset: then no document is asked for its id. It
+/// takes no memory.
+///
+/// [`Record::touched`]: crate::Record::touched
+pub fn some_touched(keys: &[Key], changes: &[Change]) -> bool
     requires { are_changes (edits changes.now) ≡ true }
     ensures { result ≡ touched keys.now (edits changes.now) }
 {
@@ -51,12 +57,5 @@ fn is_of(id: &Txt, change: &Change) -> bool
     requires after { is_of_id (edit change.now).0 (edit change.now).1.1 ≡ true }
     ensures { result ≡ touches (Key.Id id.now) (edit change.now) }
 {
-    stands(change) && change.id.as_str() == id.as_str()
-}
-
-/// Whether a document stands before the change or after it.
-pub fn stands(change: &Change) -> bool
-    ensures { result ≡ (is_some change.now.before || is_some change.now.after) }
-{
-    change.before.is_some() || change.after.is_some()
+    change.stands() && change.id.as_str() == id.as_str()
 }

@@ -7,8 +7,8 @@ use Rattle.cs_view.specs.declared.change.Change.{Change}
 use Rattle.cs_view.specs.declared.key.Key.{Key}
 use Rattle.cs_view.specs.declared.key.Key.TheVariants.{Id}
 use Rattle.cs_view.proofs.Changed.{own_ids}
-use Rattle.cs_hits.proofs.Sides.{own-more}
-use Rattle.cs_hits.proofs.touching.id_touched.Goals as goal
+use Rattle.cs_view.proofs.Sides.{own-more}
+use Rattle.cs_view.proofs.touching.id_touched.Goals as goal
 
 pub loop-change-init : goal.loop-change-init
 loop-change-init c = record { left = refl; own = own_ids (edits c.args.changes.now) c.requires }
