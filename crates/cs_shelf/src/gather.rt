@@ -6,6 +6,7 @@ ghost use Rattle.cs_view.specs.View.{document_of};
 ghost use Rattle.cs_shelf.specs.Gathering.{IsPutNext, AreListed};
 ghost use Rattle.cs_shelf.specs.View.{documents as dataset};
 
+use crate::hints::Hints;
 use crate::shelf::Shelf;
 use crate::write::{fill, next_place};
 use cs_value::{NoMemory, Txt};
@@ -71,9 +72,11 @@ impl Shelf {
     {
         let Listed { store, places } = put_all(alloc, documents)?;
         let order = ordered(alloc, places)?;
+        let hints = Hints::of(alloc, &order)?;
         Ok(Shelf {
             store,
             order,
+            hints,
             alloc,
         })
     }

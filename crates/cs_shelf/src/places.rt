@@ -1,10 +1,11 @@
 //! Looking documents up.
-ghost use Rattle.std.specs.Prelude.{◌≡◌, ◌<◌, ◌≤◌, length, [], Some, option_map, IsSome, IfSome};
+ghost use Rattle.std.specs.Prelude.{◌≡◌, ◌<◌, ◌≤◌, length, [], true, Some, option_map, IsSome, IfSome};
 ghost use Rattle.cs_view.specs.Dataset.{standing};
 ghost use Rattle.cs_view.specs.View.{document_of};
 ghost use Rattle.cs_shelf.specs.Places.{most_places};
 ghost use Rattle.cs_shelf.specs.View.{documents, doc_at, place_at};
 
+use crate::hints::{BLANK, Hints};
 use crate::shelf::Shelf;
 use cs_value::Txt;
 use cs_view::Doc;
@@ -20,6 +21,7 @@ impl Shelf {
         Shelf {
             store: Slab::new(alloc),
             order: BTreeMap::new(alloc),
+            hints: Hints::new(alloc),
             alloc,
         }
     }
@@ -37,6 +39,31 @@ impl Shelf {
         self.order.len()
     }
 
+    // Whether the document with the id stands at the place.
+    fn is_at(&self, place: u32, id: &Txt) -> bool
+        ensures { result ≡ true → Some place ≡ place_at self.now id.now }
+    {
+        match self.found(place) {
+            Some(doc) => doc.id().as_str() == id.as_str(),
+            None => false,
+        }
+    }
+
+    // The place of the id, by a search where the hint does not tell.
+    pub(crate) fn place_of(&self, id: &Txt) -> Option<u32>
+        ensures { result ≡ place_at self.now id.now }
+    {
+        if let Some(hint) = self.hints.hint(id) {
+            if hint == BLANK {
+                return None;
+            }
+            if self.is_at(hint, id) {
+                return Some(hint);
+            }
+        }
+        self.order.get(id).copied()
+    }
+
     /// The place of the document with the id, which it keeps while it stands: `None` exactly where
     /// there is none.
     #[tactic(auto, using(crate::proofs::Standing::place_of, crate::proofs::Few::low_place))]
@@ -46,7 +73,7 @@ impl Shelf {
             ≡ option_map Some (standing id.now (documents self.now)) }
         ensures low { IfSome result (λ p. p < most_places) }
     {
-        self.order.get(id).copied()
+        self.place_of(id)
     }
 
     /// What stands at a place, if a document does.

@@ -1,8 +1,8 @@
 //! Writing documents.
-ghost use Rattle.std.specs.Prelude.{◌≡◌, ◌==◌, ◌<◌, ℕ, Some, None, true, false, cond, IsSome, IfSome, OnOk, OnErr};
+ghost use Rattle.std.specs.Prelude.{◌≡◌, ◌==◌, ◌<◌, ℕ, List, Some, None, true, false, cond, IsSome, IfSome, OnOk, OnErr};
 ghost use Rattle.std.specs.BTreeMap.{IsOrdered, get};
 ghost use Rattle.slab.specs.Slab.{HasRoomFor};
-ghost use Rattle.cs_view.specs.Dataset.{id_cmp, stands, with_doc, without};
+ghost use Rattle.cs_view.specs.Dataset.{id_cmp, same_id, stands, with_doc, without};
 ghost use Rattle.cs_view.specs.Document.{id_of};
 ghost use Rattle.cs_view.specs.View.{document_of};
 ghost use Rattle.cs_shelf.specs.Places.{IsSound, IsEntered, AreLow, StandIn, most_places, tree_at, trees_at};
@@ -59,13 +59,13 @@ pub(crate) fn fill(store: &mut Slab<Doc>, place: u32, doc: Doc)
     let _key = store.insert_reserved(doc);
 }
 
-// Puts a document of a new id at a new place.
+// Puts a document of a new id at a new place, and gives the place.
 fn put_new(
     alloc: Global,
     store: &mut Slab<Doc>,
     order: &mut BTreeMap<Txt, u32>,
     doc: Doc,
-) -> Result<(), NoMemory>
+) -> Result<u32, NoMemory>
     requires fresh { get id_cmp order.old (id_of (document_of doc)) ≡ None }
     requires sound { IsSound store.old order.old }
     requires entered { IsEntered store.old order.old }
@@ -79,6 +79,10 @@ fn put_new(
     ensures kept { OnErr result (trees_at store.new order.new.entries
         ≡ trees_at store.old order.old.entries) }
     ensures stay { StandIn order.old order.new }
+    ensures only { OnOk result ((x : List ℕ) (p : ℕ) → get id_cmp order.new x ≡ Some p
+        → same_id (id_of (document_of doc)) x ≡ false → get id_cmp order.old x ≡ Some p) }
+    ensures as_before { OnErr result ((x : List ℕ)
+        → get id_cmp order.new x ≡ get id_cmp order.old x) }
 {
     let _len = order.len();
     let Some(place) = next_place(store) else {
@@ -88,14 +92,7 @@ fn put_new(
     store.reserve(1)?;
     drop(order.insert(id, place)?);
     fill(store, place, doc);
-    Ok(())
-}
-
-// The place of the id.
-fn place_of(order: &BTreeMap<Txt, u32>, id: &Txt) -> Option<u32>
-    ensures { result ≡ get id_cmp order.now id.now }
-{
-    order.get(id).copied()
+    Ok(place)
 }
 
 impl Shelf {
@@ -108,7 +105,11 @@ impl Shelf {
         ensures kept { OnErr result (documents self.new ≡ documents self.old) }
         ensures stay { StayIn self.old self.new }
     {
-        put_new(self.alloc, &mut self.store, &mut self.order, doc)
+        self.hints.grow(self.alloc, &self.order);
+        let id = doc.id().copy(self.alloc)?;
+        let place = put_new(self.alloc, &mut self.store, &mut self.order, doc)?;
+        self.hints.note(&id, place);
+        Ok(())
     }
 
     /// Puts a document in the place of the one of its id. It takes no memory.
@@ -117,7 +118,7 @@ impl Shelf {
         ensures put { documents self.new ≡ with_doc (document_of doc) (documents self.old) }
         ensures stay { StayIn self.old self.new }
     {
-        match place_of(&self.order, doc.id()) {
+        match self.place_of(doc.id()) {
             Some(place) => replace_at(&mut self.store, place, doc),
             None => unreachable!(),
         }

@@ -11,6 +11,7 @@ invariant_of-result c =
       sound = sound_made l.store l.places.items docs c.in_ok-order.order c.in_ok-store.ensures c.in_ok-order.ensures;
       entered = entered_made l.store l.places.items docs c.in_ok-order.order c.in_ok-store.ensures c.in_ok-order.ensures;
       low = low_made l.store l.places.items docs c.in_ok-order.order c.in_ok-store.ensures c.in_ok-order.ensures;
+      hinted = c.in_ok-hints.ensures;
       ordered = c.in_ok-order.ensures.1;
     }
 
