@@ -1,6 +1,7 @@
 //! The dataset that a transaction works on.
-ghost use Rattle.std.specs.Prelude.{◌≡◌, option_map, OnOk, OnErr};
+ghost use Rattle.std.specs.Prelude.{◌≡◌, true, false, option_map, OnOk, OnErr};
 ghost use Rattle.cs_view.specs.Dataset.{standing, stands, with_doc, without};
+ghost use Rattle.cs_view.specs.Document.{id_of};
 ghost use Rattle.cs_view.specs.View.{document_of};
 ghost use Rattle.cs_shelf.specs.View.{documents};
 ghost use Rattle.cs_index.specs.View.{indexed};
@@ -24,13 +25,14 @@ pub struct Working<'d> {
     ghost noted: { AreNoted (documents put) touched },
 }
 
-// Puts a document in the place of its id.
-fn put_in(shelf: &mut Shelf, doc: Doc) -> Result<(), NoMemory>
+// Puts a document in the place of its id. Where this is told to be new, none is sought there.
+fn put_in(shelf: &mut Shelf, doc: Doc, new: bool) -> Result<(), NoMemory>
+    requires { new ≡ true → stands (id_of (document_of doc)) (documents shelf.old) ≡ false }
     ensures put { OnOk result (documents shelf.new
         ≡ with_doc (document_of doc) (documents shelf.old)) }
     ensures kept { OnErr result (documents shelf.new ≡ documents shelf.old) }
 {
-    if shelf.get(doc.id()).is_some() {
+    if !new && shelf.get(doc.id()).is_some() {
         shelf.replace(doc);
         Ok(())
     } else {
@@ -86,8 +88,8 @@ impl<'d> Working<'d> {
             ≡ with_doc (document_of doc) (working self.old)) }
     {
         let id = doc.id().copy(self.alloc)?;
-        drop(self.touched.insert(id)?);
-        put_in(&mut self.put, doc)
+        let new = self.touched.insert(id)?;
+        put_in(&mut self.put, doc, new)
     }
 
     /// Takes out the document of the id, where one stands. After `NoMemory` it is of no more use.
