@@ -34,7 +34,7 @@ fn seek<T: Held>(all: &[T], id: &Txt) -> Result<usize, usize>
 }
 
 /// Puts one in the place of its document's id. The place is told where one stood there; `None` says
-/// that it stands between others now, or at an end.
+/// that it stands between others now, or at an end. `NoMemory` where the list cannot grow.
 pub fn put<T: Held + Drop>(all: &mut Vec<T>, one: T) -> Result<Option<usize>, NoMemory>
     requires { ascending (map T.held all.old.items) ≡ true }
     ensures put { OnOk result (map T.held all.new.items

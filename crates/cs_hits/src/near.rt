@@ -60,6 +60,7 @@ fn copies(
 impl Near {
     /// Those of the documents that stand near the window of the query. `None` where it has none,
     /// and where it is not worth the while: the documents are few, or most of them are near.
+    /// `NoMemory` where the allocator has no room for them.
     pub fn among(
         alloc: Global,
         query: &Query,
@@ -74,22 +75,23 @@ impl Near {
         let Some(many) = window(query) else {
             return Ok(None);
         };
-        if docs.len() <= 2 * many + 16 {
+        let place = many + many / 2 + 4;
+        if docs.len() <= place + place / 2 {
             return Ok(None);
         }
-        let place = many + many / 2 + 4;
         let Some(bound) = keys_at(alloc, query, params, docs, place)? else {
             return Ok(None);
         };
         let near = copies(alloc, query, params, &bound, docs)?;
-        if near.len() > docs.len() / 2 {
+        if near.len() > docs.len() / 4 * 3 {
             return Ok(None);
         }
         Ok(Some(Near { bound, docs: near }))
     }
 
     /// Puts a copy of the document in the place of its id where it does not stand behind the
-    /// bound, and else takes out the one of its id: whether a document is or was there.
+    /// bound, and else takes out the one of its id: whether a document is or was there. `NoMemory`
+    /// where the allocator has no room for it.
     pub fn put(
         &mut self,
         alloc: Global,
@@ -113,7 +115,7 @@ impl Near {
     }
 
     /// Brings them behind one change, where they are those of hits. `false` says that they are as
-    /// before.
+    /// before. `NoMemory` where the allocator has no room for what is put.
     pub fn place(
         &mut self,
         alloc: Global,
