@@ -1,6 +1,7 @@
 -- The names of live queries and listeners.
-use Rattle.std.proofs.Common.{◌≡◌, refl, sym, ap, ◌∙◌, ℕ, ◌<◌, List, [], ◌∷◌, ◌++◌, length, Bool, true, false, cond, ◌||◌, leb-true, arith}
+use Rattle.std.proofs.Common.{◌≡◌, refl, sym, ap, ◌∙◌, ℕ, List, [], ◌∷◌, ◌++◌, length, Bool, true, false, cond, ◌||◌}
 use Rattle.std.specs.Bool.{nat_le}
+use Rattle.std.proofs.lemmas.Bool.{lt-leb}
 use Rattle.std.proofs.lemmas.Slice.Eq.{bytes_eq-Decides}
 use Rattle.cs_view.proofs.Booleans.{or-left, or-right}
 use Rattle.cs_live.specs.Fits.{HasRoom}
@@ -56,13 +57,6 @@ taken_by_listener s name text count next same has =
     ap (λ b. is_named text s.lives || b) has ∙ or-true (is_named text s.lives) in
     ap (λ n. subscribing s n count next) (sym same) ∙ rw taken refl
 
-not_full : (count : ℕ) → count < most_subscriptions → nat_le most_subscriptions count ≡ false
-not_full count low = by (nat_le most_subscriptions count) refl where
-  by : (b : Bool) → nat_le most_subscriptions count ≡ b
-      → nat_le most_subscriptions count ≡ false
-  by true h = let le = leb-true most_subscriptions count h in absurd (omega (arith, low, le))
-  by false h = h
-
 -- where none has the name and there is room, one more is made
 pub made_with_room : (s : State) (name text : List ℕ) (next : Stepped State)
     → text ≡ name
@@ -76,7 +70,7 @@ made_with_room s name text next same none room =
     ∙ ap (λ n. is_listening n s.listeners) (sym same) ∙ none in
     ap (λ b. cond b (refuse s (name_used name))
     (cond (nat_le most_subscriptions (length s.lives)) full next)) free
-    ∙ ap (λ b. cond b full next) (not_full (length s.lives) room.1)
+    ∙ ap (λ b. cond b full next) (lt-leb most_subscriptions (length s.lives) room.1)
 
 -- a live query that was made last is taken back
 pub taken_back : (s t : State) (name text : List ℕ) (q : Expression) (params : Pairs)

@@ -104,6 +104,7 @@ pub struct Core {
 impl Core {
     /// A machine with these documents, at the first moment, and with nothing else. Which keys share
     /// a code in its index depends on the seed, which no one who chooses documents knows.
+    /// `NoMemory` where the allocator has no room for the index.
     pub fn new(alloc: Global, seed: RandomState, docs: Docs) -> Result<Core, NoMemory>
         ensures begun { IfOk result (λ core. state core ≡ begun (docs_of docs)) }
         ensures usable { IfOk result (λ core. IsUsable core) }

@@ -1,6 +1,6 @@
 -- The replies to the lines of a script: what each says, the object that it is written as, and its
 -- line (RFC 8259, and a newline): this project's profile.
-use Rattle.std.specs.Prelude.{ℕ, List, [], ◌∷◌, ◌++◌, map, flat_map, Option, Some, None, codes}
+use Rattle.std.specs.Prelude.{ℕ, List, [], ◌∷◌, ◌++◌, map, Option, Some, None, codes}
 use Rattle.cs_value.specs.Tree.{Tree, text, list, trees}
 use Rattle.cs_json.specs.Text.{json_text}
 use Rattle.cs_reply.specs.Fields.{Fields, object_of, number}
@@ -102,14 +102,3 @@ reply_tree line r = object_of ((codes "line", number line) ∷ fields_of r)
 -- a value as a line of its own
 abbrev pub written_line : Tree → List ℕ
 written_line t = json_text t ++ 10 ∷ []
-
-abbrev pub reply_line : ℕ × Reply → List ℕ
-reply_line r = written_line (reply_tree r.0 r.1)
-
--- the text of replies, each with the number of its line
-abbrev pub reply_lines : List (ℕ × Reply) → List ℕ
-reply_lines rs = flat_map reply_line rs
-
--- replies to one line
-abbrev pub numbered : ℕ → List Reply → List (ℕ × Reply)
-numbered n rs = map (λ r. (n, r)) rs

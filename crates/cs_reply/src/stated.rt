@@ -145,7 +145,8 @@ impl Stop<'_> {
         }
     }
 
-    /// The line that says what stopped the run, with its newline.
+    /// The line that says what stopped the run, with its newline. `NoMemory` where the allocator
+    /// has no room for it.
     pub fn line(&self, alloc: Global) -> Result<Vec<u8>, NoMemory>
         ensures { IfOk result (λ bytes. bytes.items ≡ stated_line (stop self.now)) }
     {

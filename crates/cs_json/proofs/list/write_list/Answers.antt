@@ -1,4 +1,4 @@
-use Rattle.std.proofs.Common.{◌≡◌, ◌∙◌, ◌++◌, ◌∷◌, [], ap, map, false}
+use Rattle.std.proofs.Common.{◌∙◌, ◌++◌, ◌∷◌, [], ap, map, false}
 use Rattle.cs_json.specs.Text.{items_joined, json_text}
 use Rattle.cs_json.proofs.Joined.{joined-texts}
 use Rattle.cs_json.proofs.list.write_list.Goals as goal
