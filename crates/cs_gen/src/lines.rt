@@ -51,7 +51,7 @@ fn planned(n: u32, number: u32) -> Option<Line>
 }
 
 /// The line of the number, counted from one, of the script of so many documents, without its
-/// newline: `None` exactly past the end.
+/// newline: `None` exactly past the end. `NoMemory` where the allocator has no room for it.
 pub fn gen_line(alloc: Global, n: u32, number: u32) -> Result<Option<Vec<u8>>, NoMemory>
     requires counted { 1 ≤ number }
     requires few { n ≤ 100000 }

@@ -69,7 +69,7 @@ impl Interest {
 
     /// The numbers that the changes concern, ascending: each that stands under a code that a
     /// document has before or after a change, under the code of a change's id, or under the code of
-    /// every document; and no other.
+    /// every document; and no other. `NoMemory` where the allocator has no room for them.
     pub fn asked(&self, alloc: Global, changes: &[Change]) -> Result<Vec<u64>, NoMemory>
         ensures { IfOk result
             (λ ns. AreAsked self.now (edits changes.now) ns.items) }

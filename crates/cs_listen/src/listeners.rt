@@ -170,7 +170,8 @@ impl Listeners {
     }
 
     /// What the listeners hear of the changes of the transaction at the moment: by listener in the
-    /// order made, and then by the order of the changes.
+    /// order made, and then by the order of the changes. `NoMemory` where the allocator has no room
+    /// for them.
     pub fn events<'a>(
         &'a self,
         alloc: Global,

@@ -58,6 +58,7 @@ pub struct State {
 impl State {
     /// The state with these documents, at the first moment, and with nothing else. Which keys share
     /// a code in its index depends on the seed, which no one who chooses documents knows.
+    /// `NoMemory` where the allocator has no room for the index.
     pub fn new(alloc: Global, seed: RandomState, docs: Docs) -> Result<State, NoMemory>
         ensures begun { IfOk result (λ held. state held ≡ begun (docs_of docs)) }
         ensures usable { IfOk result (λ held. IsUsable held) }
