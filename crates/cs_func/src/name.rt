@@ -51,8 +51,7 @@ static NAMES: [Name; 16] = names!(
 pub fn named(name: &str) -> Option<Function>
     ensures { result ≡ named name.now }
 {
-    let table = Table::over(&NAMES);
-    match table.find(name) {
+    match NAMES.iter().find(|row| row.name == name) {
         Some(row) => Some(row.function),
         None => None,
     }
