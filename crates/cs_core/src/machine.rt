@@ -112,7 +112,7 @@ impl Core {
         Ok(Core {
             alloc,
             reader: ValueReader::new(alloc),
-            recent: Recent::new(alloc, seed)?,
+            recent: Recent::new(alloc)?,
             state: State::new(alloc, seed, docs)?,
         })
     }

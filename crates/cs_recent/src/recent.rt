@@ -7,7 +7,6 @@ use cs_syntax::Query;
 use cs_value::NoMemory;
 use lru::LruCache;
 use std::alloc::Global;
-use std::hash::RandomState;
 use std::marker::Model;
 use std::num::NonZeroUsize;
 
@@ -18,12 +17,13 @@ const MOST_KEPT: usize = 64;
 const LONGEST_KEPT: usize = 1_024;
 
 /// The queries of texts that were read before, at most 64 of them: those that were asked for last.
-/// A text of more than 1,024 bytes is not kept. Contracts see how many they are, and that each is
-/// what its text is read as.
+/// A text of more than 1,024 bytes is not kept. Whoever chooses texts that meet in memory makes a
+/// look at one a look at 64 at most, so they are spread by a hash without a seed. Contracts see how
+/// many they are, and that each is what its text is read as.
 #[derive(Drop)]
 pub struct Recent {
     alloc: Global,
-    queries: LruCache<String, Query, RandomState>,
+    queries: LruCache<String, Query>,
 }
 
 impl Model for Recent {
@@ -38,16 +38,14 @@ impl Model for Recent {
 }
 
 impl Recent {
-    /// None yet. The seed spreads the texts in memory, so that no one who chooses them can choose
-    /// where they meet; what is recalled does not depend on it. `NoMemory` where the allocator has
-    /// no room.
-    pub fn new(alloc: Global, seed: RandomState) -> Result<Recent, NoMemory>
+    /// None yet. `NoMemory` where the allocator has no room.
+    pub fn new(alloc: Global) -> Result<Recent, NoMemory>
         ensures { IfOk result (λ recent. recent ≡ 0) }
     {
         let Some(most) = NonZeroUsize::new(MOST_KEPT) else {
             unreachable!();
         };
-        let queries = LruCache::with_hasher(alloc, most, seed)?;
+        let queries = LruCache::new(alloc, most)?;
         Ok(Recent { alloc, queries })
     }
 

@@ -2,7 +2,6 @@
 use super::*;
 use cs_parse::parse;
 use std::alloc::Global;
-use std::hash::RandomState;
 use std::test::Fail;
 
 // Keeps the query that the text is, where it is one.
@@ -21,10 +20,7 @@ fn is_kept(recent: &mut Recent, text: &str) -> bool {
 
 #[test]
 fn the_queries_that_were_asked_last_are_kept(rt: HostRuntime) -> Result<(), Fail> {
-    let Ok(seed) = RandomState::new(&rt) else {
-        return Err(Fail::new("no random words"));
-    };
-    let mut recent = Recent::new(rt.alloc(), seed)?;
+    let mut recent = Recent::new(rt.alloc())?;
     keep(rt.alloc(), &mut recent, "first");
     for number in 0..63u32 {
         let text = format!(in rt.alloc(); "{number}")?;
@@ -42,10 +38,7 @@ fn the_queries_that_were_asked_last_are_kept(rt: HostRuntime) -> Result<(), Fail
 
 #[test]
 fn a_long_text_is_not_kept(rt: HostRuntime) -> Result<(), Fail> {
-    let Ok(seed) = RandomState::new(&rt) else {
-        return Err(Fail::new("no random words"));
-    };
-    let mut recent = Recent::new(rt.alloc(), seed)?;
+    let mut recent = Recent::new(rt.alloc())?;
     let mut text = String::from_str(rt.alloc(), "1")?;
     for _ in 1..1_024u32 {
         text.push_str(" ")?;
