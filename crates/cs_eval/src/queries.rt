@@ -197,7 +197,7 @@ pub fn tail<'s>(
 pub(crate) fn vals_of<'d>(alloc: Global, docs: &'d [Doc]) -> Result<Vec<&'d Val>, NoMemory>
     ensures { IfOk result (λ v. map (λ r. tree r.now) v.items ≡ map document_of docs.now) }
 {
-    let mut vals = Vec::new(alloc);
+    let mut vals = Vec::with_capacity(alloc, docs.len())?;
     for doc in docs {
         push(&mut vals, doc.val())?;
     }

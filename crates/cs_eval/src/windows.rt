@@ -95,7 +95,7 @@ pub fn windowed(query: &Query) -> bool
 fn lent_docs<'d>(alloc: Global, docs: &'d [Doc]) -> Result<Vec<Item<'d>>, NoMemory>
     ensures { IfOk result (λ v. map item v.items ≡ map document_of docs.now) }
 {
-    let mut items = Vec::new(alloc);
+    let mut items = Vec::with_capacity(alloc, docs.len())?;
     for doc in docs {
         push(&mut items, Item::Lent(doc.val()))?;
     }
@@ -106,7 +106,7 @@ fn lent_docs<'d>(alloc: Global, docs: &'d [Doc]) -> Result<Vec<Item<'d>>, NoMemo
 fn copies(alloc: Global, items: &[Item<'_>]) -> Result<Vec<Val>, NoMemory>
     ensures { IfOk result (λ v. map tree v.items ≡ map item items.now) }
 {
-    let mut vals = Vec::new(alloc);
+    let mut vals = Vec::with_capacity(alloc, items.len())?;
     for one in items {
         push(&mut vals, one.val().copy(alloc)?)?;
     }

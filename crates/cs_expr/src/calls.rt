@@ -151,7 +151,7 @@ pub(crate) fn arguments<'s, S: Source<C>, C>(
     ensures keys { OnOk result (keys.new ≡ keys.old ++ arguments_looked (S.docs source.now)
         (fields params.now) (arguments_of (map argument_of args.now)) (scope_of frame.now)) }
 {
-    let mut out = Vec::new(alloc);
+    let mut out = Vec::with_capacity(alloc, args.len())?;
     let mut behind = args;
     while let Some((first, later)) = behind.split_first() {
         push(

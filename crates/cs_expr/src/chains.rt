@@ -286,7 +286,7 @@ fn step_of_each<'s, S: Source<C>, C>(
     ensures keys { OnOk result (keys.new ≡ keys.old ++ flat_map (step_looked (S.docs source.now)
         (fields params.now) (step_of step.now) (scope_of frame.now)) (map item items.entry.items)) }
 {
-    let mut out = Vec::new(alloc);
+    let mut out = Vec::with_capacity(alloc, items.len())?;
     for i in items {
         let given = one_step(
             alloc,

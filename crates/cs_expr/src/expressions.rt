@@ -274,7 +274,7 @@ fn array<'s, S: Source<C>, C>(
     ensures keys { OnOk result (keys.new ≡ keys.old ++ elements_looked (S.docs source.now) (fields
         params.now) (elements_of (map element_of list.now)) (scope_of frame.now)) }
 {
-    let mut items = Vec::new(alloc);
+    let mut items = Vec::with_capacity(alloc, list.len())?;
     let mut behind = list;
     while let Some((first, later)) = behind.split_first() {
         let expr = element_expr(first);

@@ -134,7 +134,7 @@ pub fn keep_lent<'s, S: Source<C>, C>(
         (fields params.now) (expression inner.now) (x ∷ (scope_of frame.now)))
         (map (λ r. tree r.now) parts.entry.items)) }
 {
-    let mut out = Vec::new(alloc);
+    let mut out = Vec::with_capacity(alloc, parts.len())?;
     for part in parts {
         if holds(alloc, inner, frame, params, source, part, keys, count)? {
             push(&mut out, part)?;

@@ -97,7 +97,7 @@ fn hits_under<'d>(
 fn second_of(alloc: Global, hits: &Vec<(&Txt, u32)>) -> Result<Vec<u32>, NoMemory>
     ensures { IfOk result (λ places. places.items ≡ map (λ h. h.1) hits.now.items) }
 {
-    let mut out = Vec::new(alloc);
+    let mut out = Vec::with_capacity(alloc, hits.len())?;
     for hit in hits {
         out.push(hit.1)?;
     }

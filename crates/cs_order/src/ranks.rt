@@ -119,7 +119,7 @@ pub fn items_of<'s>(alloc: Global, list: Vec<Ranked<'_, 's>>) -> Result<Vec<Item
     ensures { IfOk result (λ v. map item v.items
         ≡ map (λ x. x.item) (map ranked list.entry.items)) }
 {
-    let mut out = Vec::new(alloc);
+    let mut out = Vec::with_capacity(alloc, list.len())?;
     for one in list {
         let Ranked { by: _keys, item } = one;
         push(&mut out, item)?;
@@ -131,7 +131,7 @@ pub fn items_of<'s>(alloc: Global, list: Vec<Ranked<'_, 's>>) -> Result<Vec<Item
 pub fn owned<'k>(alloc: Global, keys: Vec<Item<'_>>) -> Result<Vec<Item<'k>>, NoMemory>
     ensures { IfOk result (λ v. map item v.items ≡ map item keys.entry.items) }
 {
-    let mut out = Vec::new(alloc);
+    let mut out = Vec::with_capacity(alloc, keys.len())?;
     for key in keys {
         push(&mut out, Item::Made(key.into_val(alloc)?))?;
     }

@@ -29,7 +29,7 @@ pub fn elements<'s>(alloc: Global, whole: Got<'s>) -> Result<Option<Vec<Item<'s>
 pub fn lend_all<'s>(alloc: Global, vals: &'s [Val]) -> Result<Vec<Item<'s>>, NoMemory>
     ensures { IfOk result (λ v. map item v.items ≡ map tree vals.now) }
 {
-    let mut out = Vec::new(alloc);
+    let mut out = Vec::with_capacity(alloc, vals.len())?;
     for val in vals {
         push(&mut out, Item::Lent(val))?;
     }
@@ -40,7 +40,7 @@ pub fn lend_all<'s>(alloc: Global, vals: &'s [Val]) -> Result<Vec<Item<'s>>, NoM
 fn lend_parts<'s>(alloc: Global, parts: Vec<&'s Val>) -> Result<Vec<Item<'s>>, NoMemory>
     ensures { IfOk result (λ v. map item v.items ≡ map (λ r. tree r.now) parts.entry.items) }
 {
-    let mut out = Vec::new(alloc);
+    let mut out = Vec::with_capacity(alloc, parts.len())?;
     for part in parts {
         push(&mut out, Item::Lent(part))?;
     }
@@ -51,7 +51,7 @@ fn lend_parts<'s>(alloc: Global, parts: Vec<&'s Val>) -> Result<Vec<Item<'s>>, N
 fn make_all<'s>(alloc: Global, vals: Vec<Val>) -> Result<Vec<Item<'s>>, NoMemory>
     ensures { IfOk result (λ v. map item v.items ≡ map tree vals.items) }
 {
-    let mut out = Vec::new(alloc);
+    let mut out = Vec::with_capacity(alloc, vals.len())?;
     for val in vals {
         push(&mut out, Item::Made(val))?;
     }
@@ -88,7 +88,7 @@ fn parts_of<'s>(alloc: Global, items: Vec<Item<'s>>) -> Result<Vec<&'s Val>, NoM
     requires { IsTrue (list_all is_lent items.items) }
     ensures { IfOk result (λ v. map (λ r. tree r.now) v.items ≡ map item items.entry.items) }
 {
-    let mut out = Vec::new(alloc);
+    let mut out = Vec::with_capacity(alloc, items.len())?;
     for i in items {
         match i {
             Item::Lent(val) => push(&mut out, val)?,
@@ -102,7 +102,7 @@ fn parts_of<'s>(alloc: Global, items: Vec<Item<'s>>) -> Result<Vec<&'s Val>, NoM
 fn vals_of(alloc: Global, items: Vec<Item<'_>>) -> Result<Vec<Val>, NoMemory>
     ensures { IfOk result (λ v. map tree v.items ≡ map item items.entry.items) }
 {
-    let mut out = Vec::new(alloc);
+    let mut out = Vec::with_capacity(alloc, items.len())?;
     for i in items {
         push(&mut out, i.into_val(alloc)?)?;
     }
@@ -127,7 +127,7 @@ impl<'s> Got<'s> {
 fn copy_parts(alloc: Global, parts: Vec<&Val>) -> Result<Vec<Val>, NoMemory>
     ensures { IfOk result (λ v. map tree v.items ≡ map (λ r. tree r.now) parts.entry.items) }
 {
-    let mut out = Vec::new(alloc);
+    let mut out = Vec::with_capacity(alloc, parts.len())?;
     for part in parts {
         push(&mut out, part.copy(alloc)?)?;
     }
@@ -163,7 +163,7 @@ pub fn flat_elements<'s>(alloc: Global, whole: Got<'s>) -> Result<Vec<Item<'s>>,
 fn single<'s>(alloc: Global, only: Item<'s>) -> Result<Vec<Item<'s>>, NoMemory>
     ensures { IfOk result (λ v. v.items ≡ only.entry ∷ []) }
 {
-    let mut out = Vec::new(alloc);
+    let mut out = Vec::with_capacity(alloc, 1)?;
     push(&mut out, only)?;
     Ok(out)
 }

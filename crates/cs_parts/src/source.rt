@@ -100,7 +100,7 @@ impl<V: View<L>, L: Ledger> Source<Steps<L>> for V {
         ensures visits { count.new ≤ count.old + length (selected keys.now (V.docs self.now)) }
     {
         let places = View::select_all(self, alloc, keys)?;
-        let mut found = Vec::new(alloc);
+        let mut found = Vec::with_capacity(alloc, places.len())?;
         for place in &places {
             push(&mut found, self.at(*place, count).val())?;
         }
