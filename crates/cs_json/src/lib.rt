@@ -9,12 +9,14 @@ mod list;
 mod node;
 mod send;
 mod ser;
+mod text;
 
 pub use de::{ValueReader, read};
 pub use list::write_list;
 pub use node::{Member, Node};
 pub use ser::{write, write_node};
 use std::alloc::{AllocError, AllocFailed};
+pub use text::write_text;
 
 /// Why bytes are no value. Where several causes hold, the earlier one in this list is answered.
 #[derive(Clone, Copy, Debug, Drop, PartialEq, Eq)]

@@ -14,10 +14,19 @@ pub fn write_list(alloc: Global, texts: &[&[u8]]) -> Result<Vec<u8>, NoMemory>
     ensures { (ts : List Tree) → map (λ text. text.now) texts.now ≡ map json_text ts
         → IfOk result (λ b. b.items ≡ json_text (list_of ts)) }
 {
-    let mut out = Vec::new(alloc);
+    let mut out = Vec::with_capacity(alloc, room_for(texts))?;
     out.push(b'[')?;
     write_items(texts, &mut out)?;
     Ok(out)
+}
+
+// How many bytes the texts take with a comma or a bracket behind each, and a bracket before them.
+fn room_for(texts: &[&[u8]]) -> usize {
+    let mut room = 2usize;
+    for text in texts {
+        room = room.saturating_add(text.len()).saturating_add(1);
+    }
+    room
 }
 
 // Appends the text of one value, behind a comma where another stands before it.

@@ -1,3 +1,4 @@
+pub mod Committing
 pub mod Living
 mod Members
 mod Sorting

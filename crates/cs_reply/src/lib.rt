@@ -2,6 +2,7 @@
 //! parts: no value is copied.
 #![tactic(auto)]
 
+mod committed;
 mod event;
 mod line;
 mod live;

@@ -1,6 +1,6 @@
 //! Objects as lines of their own.
 ghost use Rattle.std.specs.Prelude.{◌≡◌, OnOk, map};
-ghost use Rattle.cs_value.specs.Tree.{text, list, trees, object, pairs};
+ghost use Rattle.cs_value.specs.Tree.{text, object, pairs};
 ghost use Rattle.cs_value.specs.View.{tree};
 ghost use Rattle.cs_json.specs.Nodes.{node_tree, member_pair};
 ghost use Rattle.cs_reply.specs.Fields.{number};
@@ -22,13 +22,6 @@ pub(crate) fn text<'a>(s: &'a str) -> Node<'a>
     ensures { node_tree result ≡ text s.entry.now }
 {
     Node::Text(s)
-}
-
-/// A list of these.
-pub(crate) fn list<'a>(nodes: Vec<Node<'a>>) -> Node<'a>
-    ensures { node_tree result ≡ list (trees (map node_tree nodes.entry.items)) }
-{
-    Node::Nodes(nodes)
 }
 
 /// An attribute of an object.

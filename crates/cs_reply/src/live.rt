@@ -5,8 +5,8 @@ ghost use Rattle.cs_json.specs.Text.{json_text};
 ghost use Rattle.cs_reply.specs.Reply.{live, reply_tree};
 ghost use Rattle.cs_reply.specs.View.{Appended, before_answer};
 
-use crate::line::{number, text};
-use cs_json::write_node;
+use crate::line::number;
+use cs_json::{write_node, write_text};
 use cs_value::NoMemory;
 use std::alloc::Global;
 
@@ -22,7 +22,7 @@ fn write_before_answer(
     out.extend_from_slice(b"{\"line\":")?;
     write_node(alloc, &number(line), out)?;
     out.extend_from_slice(b",\"live\":")?;
-    write_node(alloc, &text(name), out)?;
+    write_text(alloc, name, out)?;
     Ok(out.extend_from_slice(b",\"result\":")?)
 }
 

@@ -1,11 +1,12 @@
 //! The replies to a line.
-ghost use Rattle.std.specs.Prelude.{◌≡◌, OnOk, IfOk, map};
+ghost use Rattle.std.specs.Prelude.{◌≡◌, OnOk};
 ghost use Rattle.cs_json.specs.Nodes.{node_tree};
-ghost use Rattle.cs_reply.specs.Reply.{operation_word, reply_tree, committed, found, welcome, stopped, set, outcome as outcome_tree};
-ghost use Rattle.cs_reply.specs.View.{operation, outcome, reply, Appended};
+ghost use Rattle.cs_reply.specs.Reply.{operation_word, reply_tree, found, welcome, stopped, set};
+ghost use Rattle.cs_reply.specs.View.{operation, reply, Appended};
 
+use crate::committed::write_committed;
 use crate::event::{Event, write_event};
-use crate::line::{list, member, number, text, write_line};
+use crate::line::{member, number, text, write_line};
 use crate::refusal::Refusal;
 use cs_json::Node;
 use cs_value::NoMemory;
@@ -23,7 +24,7 @@ pub enum Operation {
 }
 
 impl Operation {
-    fn word(self) -> &'static str
+    pub(crate) fn word(self) -> &'static str
         ensures { result.now ≡ operation_word (operation self) }
     {
         match self {
@@ -64,48 +65,6 @@ pub enum Reply<'a> {
     Set(&'a str),
     /// The line is refused.
     Refused(Refusal<'a>),
-}
-
-// What became of one document.
-fn outcome_node<'a>(alloc: Global, changed: &Outcome<'a>) -> Result<Node<'a>, NoMemory>
-    ensures { IfOk result (λ node. node_tree node ≡ outcome_tree (outcome changed.now)) }
-{
-    let operation = changed.operation.word();
-    Ok(Node::Object(vec![in alloc;
-        member("id", Node::Text(changed.id)),
-        member("operation", Node::Text(operation)),
-    ]?))
-}
-
-// What became of each.
-fn outcome_nodes<'a>(alloc: Global, outcomes: &[Outcome<'a>]) -> Result<Vec<Node<'a>>, NoMemory>
-    ensures { IfOk result (λ nodes. map node_tree nodes.items ≡ map outcome_tree
-        (map outcome outcomes.now)) }
-{
-    let mut nodes = Vec::with_capacity(alloc, outcomes.len())?;
-    for changed in outcomes {
-        nodes.push(outcome_node(alloc, changed)?)?;
-    }
-    Ok(nodes)
-}
-
-fn write_committed<'a>(
-    alloc: Global,
-    tx: &'a str,
-    outcomes: &[Outcome<'a>],
-    line: u32,
-    out: &mut Vec<u8>,
-) -> Result<(), NoMemory>
-    ensures { OnOk result (Appended out.old.items out.new.items
-        (reply_tree line (committed tx.now (map outcome outcomes.now)))) }
-{
-    let results = outcome_nodes(alloc, outcomes)?;
-    let members = vec![in alloc;
-        member("line", number(line)),
-        member("results", list(results)),
-        member("transactionId", text(tx)),
-    ]?;
-    write_line(alloc, members, out)
 }
 
 fn write_found(alloc: Global, node: Node<'_>, line: u32, out: &mut Vec<u8>) -> Result<(), NoMemory>
