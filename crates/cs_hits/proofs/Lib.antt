@@ -3,5 +3,6 @@ pub mod Brought
 pub mod Nearing
 pub mod Newly
 pub mod Places
+pub mod Recoding
 mod Renewing
 pub mod Sharing

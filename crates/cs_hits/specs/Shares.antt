@@ -1,6 +1,6 @@
 -- What contracts see of the shares that hits have in the answer of a mapped query. This project's
 -- profile.
-use Rattle.std.specs.Prelude.{◌≡◌, ℕ, ◌<◌, List, length, get_or, false, map, flat_map}
+use Rattle.std.specs.Prelude.{◌≡◌, ℕ, ◌<◌, Bool, List, length, get_or, false, map, flat_map}
 use Rattle.std.specs.List.{All, AllByRecursion}
 use Rattle.cs_value.specs.Tree.{Tree, Pairs}
 use Rattle.cs_value.specs.View.{tree}
@@ -10,6 +10,8 @@ use Rattle.cs_view.specs.Changes.{Edit, after_changes, changes_where}
 use Rattle.cs_view.specs.View.{document_of}
 use Rattle.cs_view.specs.declared.key.Key.{Key}
 use Rattle.cs_codes.specs.Codes.{is_among}
+use Rattle.cs_codes.specs.declared.seed.Seed.{Seed}
+use Rattle.cs_interest.specs.Interest.{interest_code}
 use Rattle.cs_meaning.specs.Hits.{is_hit}
 use Rattle.cs_window.specs.Mapped.{share, share_looked}
 use Rattle.cs_hits.specs.declared.share.Share.{Share}
@@ -28,6 +30,12 @@ share_values ss = map (λ s. tree s.value) ss
 -- the keys that finding them looked up
 abbrev pub shares_looked : List Share → List Key
 shares_looked ss = flat_map (λ s. s.looked) ss
+
+-- a flag is unset only where it was, and where interest in the keys that are looked up now has the
+-- codes, in their order, that it had in those before
+abbrev pub TellsCodes : Seed → List Key → List Key → Bool → Bool → Type 0
+TellsCodes seed were are was is =
+    is ≡ false → (was ≡ false) × (map (interest_code seed) are ≡ map (interest_code seed) were)
 
 -- it is the share of its document over a dataset, with its text and what finding it looks up
 pub record IsShare (docs : List Tree) (e : Expression) (params : Pairs) (s : Share) : Type 0 where

@@ -1,5 +1,5 @@
 //! What is held for documents, by ascending id.
-ghost use Rattle.std.specs.Prelude.{◌≡◌, ◌<◌, length, set, false, true, map, OnOk, IfOk, IfSome};
+ghost use Rattle.std.specs.Prelude.{◌≡◌, ◌<◌, get_or, length, set, false, true, map, OnOk, IfOk, IfSome};
 ghost use Rattle.cs_value.specs.Tree.{Tree};
 ghost use Rattle.cs_view.specs.Dataset.{ascending, with_doc, without};
 ghost use Rattle.cs_view.specs.View.{document_of};
@@ -7,6 +7,7 @@ ghost use Rattle.cs_hits.specs.Held.{IsPlaceOf, IsPut, IsTaken};
 
 use cs_value::{NoMemory, Txt};
 use cs_view::Doc;
+use std::mem;
 
 /// What is held for a document: it alone, or more beside it.
 pub trait Held {
@@ -33,20 +34,22 @@ fn seek<T: Held>(all: &[T], id: &Txt) -> Result<usize, usize>
     all.binary_search_by(|one| one.doc().id().as_str().cmp(id.as_str()))
 }
 
-/// Puts one in the place of its document's id. The place is told where one stood there; `None` says
-/// that it stands between others now, or at an end. `NoMemory` where the list cannot grow.
-pub fn put<T: Held + Drop>(all: &mut Vec<T>, one: T) -> Result<Option<usize>, NoMemory>
+/// Puts one in the place of its document's id. Where one stood there, the place and that one are
+/// given; `None` says that it stands between others now, or at an end. `NoMemory` where the list
+/// cannot grow.
+pub fn put<T: Held + Drop>(all: &mut Vec<T>, one: T) -> Result<Option<(usize, T)>, NoMemory>
     requires { ascending (map T.held all.old.items) ≡ true }
     ensures put { OnOk result (map T.held all.new.items
         ≡ with_doc (T.held one) (map T.held all.old.items)) }
     ensures among { OnOk result (IsPut one all.old.items all.new.items) }
-    ensures stood { IfOk result (λ at. IfSome at (λ i. (i < length all.old.items)
-        × (all.new.items ≡ set all.old.items i one))) }
+    ensures stood { IfOk result (λ at. IfSome at (λ x. (x.0 < length all.old.items)
+        × (all.new.items ≡ set all.old.items x.0 one)
+        × ((d : T) → x.1 ≡ get_or all.old.items x.0 d))) }
 {
     match seek(all, one.doc().id()) {
         Ok(place) => {
-            all[place] = one;
-            Ok(Some(place))
+            let old = mem::replace(&mut all[place], one);
+            Ok(Some((place, old)))
         }
         Err(place) => {
             all.insert(place, one)?;

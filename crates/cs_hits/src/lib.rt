@@ -3,6 +3,7 @@
 #![tactic(auto)]
 
 mod behind;
+mod codes;
 mod held;
 mod hits;
 mod near;

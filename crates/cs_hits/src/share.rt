@@ -6,9 +6,11 @@ ghost use Rattle.cs_view.specs.Changes.{are_changes, LeadTo, before_changes};
 ghost use Rattle.cs_view.specs.Touched.{touched};
 ghost use Rattle.cs_view.specs.View.{document_of, edits};
 ghost use Rattle.cs_window.specs.Mapped.{is_mapped};
-ghost use Rattle.cs_hits.specs.Shares.{IsShare, share_doc};
+ghost use Rattle.cs_hits.specs.Shares.{IsShare, TellsCodes, share_doc};
 
+use crate::codes::tell_codes;
 use crate::held::Held;
+use cs_codes::Seed;
 use cs_eval::share;
 use cs_json::write;
 use cs_syntax::Query;
@@ -72,15 +74,18 @@ impl Share {
     }
 
     /// Brings the share to the dataset after the changes: whether it was found anew, which it is
-    /// where the changes touch what finding it looked up. `NoMemory` where the allocator has no
+    /// where the changes touch what finding it looked up. `recoded` is set where interest in what
+    /// finding it looks up now is held under other codes. `NoMemory` where the allocator has no
     /// room for it; it is as before then.
     pub fn renew<V: View<L>, L: Ledger>(
         &mut self,
         alloc: Global,
+        seed: &Seed,
         query: &Query,
         params: &Fields,
         view: &V,
         changes: &[Change],
+        recoded: &mut bool,
         steps: &mut Steps<L>,
     ) -> Result<bool, NoMemory>
         requires mapped { is_mapped (expression_of query.now) ≡ true }
@@ -93,6 +98,8 @@ impl Share {
         ensures doc { OnOk result (share_doc self.new ≡ share_doc self.old) }
         ensures same { IfOk result (λ b. b ≡ false → self.new ≡ self.old) }
         ensures told { IfOk result (λ b. b ≡ touched self.old.looked (edits changes.now)) }
+        ensures codes { OnOk result (TellsCodes seed.now self.old.looked self.new.looked
+            recoded.old recoded.new) }
         ensures unchanged { OnErr result (self.new ≡ self.old) }
         ensures quiet { touched self.old.looked (edits changes.now) ≡ false
             → steps.new ≡ steps.old }
@@ -104,6 +111,7 @@ impl Share {
             return Ok(false);
         }
         let anew = Share::find(alloc, query, params, &self.doc, view, steps)?;
+        tell_codes(seed, self.looked.keys(), anew.looked.keys(), recoded);
         *self = anew;
         Ok(true)
     }

@@ -14,8 +14,9 @@ ghost use Rattle.cs_meaning.specs.Hits.{hits, is_hit};
 ghost use Rattle.cs_window.specs.Mapped.{is_mapped};
 ghost use Rattle.cs_interest.specs.Interest.{interest_code};
 ghost use Rattle.cs_hits.specs.Held.{IsPut};
-ghost use Rattle.cs_hits.specs.Shares.{AreShares, SameBut, SharesFollow, share_doc, share_docs, share_values, shares_looked};
+ghost use Rattle.cs_hits.specs.Shares.{AreShares, SameBut, SharesFollow, TellsCodes, share_doc, share_docs, share_values, shares_looked};
 
+use crate::codes::tell_codes;
 use crate::held::{put, remove};
 use crate::share::Share;
 use cs_codes::Seed;
@@ -127,7 +128,7 @@ pub fn codes_of(
     ensures { IfOk result (λ cs. cs.items
         ≡ map (interest_code seed.now) (own.now ∷ shares_looked shares.now)) }
 {
-    let mut codes = Vec::new(alloc);
+    let mut codes = Vec::with_capacity(alloc, shares.len().saturating_add(1))?;
     codes.push(interest_code(seed, own))?;
     for share in shares {
         add_codes(seed, share.looked.keys(), &mut codes)?;
@@ -149,14 +150,17 @@ pub fn shares_touched(shares: &[Share], changes: &[Change]) -> bool
 }
 
 /// Brings the shares to the dataset after the changes: the places of those that were found anew, by
-/// what the changes touch. After `NoMemory` they are of no more use.
+/// what the changes touch. `recoded` is set where interest in what finding them looks up now has
+/// other codes. After `NoMemory` they are of no more use.
 pub fn renew_shares<V: View<L>, L: Ledger>(
     alloc: Global,
+    seed: &Seed,
     query: &Query,
     params: &Fields,
     shares: &mut Vec<Share>,
     view: &V,
     changes: &[Change],
+    recoded: &mut bool,
     steps: &mut Steps<L>,
 ) -> Result<Vec<usize>, NoMemory>
     requires mapped { is_mapped (expression_of query.now) ≡ true }
@@ -171,10 +175,13 @@ pub fn renew_shares<V: View<L>, L: Ledger>(
         (share_values shares.new.items)) }
     ensures same { IfOk result (λ anew. anew.items ≡ []
         → shares.new.items ≡ shares.old.items) }
+    ensures codes { OnOk result (TellsCodes seed.now (shares_looked shares.old.items)
+        (shares_looked shares.new.items) recoded.old recoded.new) }
 {
     let mut anew = Vec::new(alloc);
     for place in 0..shares.len() {
-        if shares[place].renew(alloc, query, params, view, changes, steps)? {
+        let share = &mut shares[place];
+        if share.renew(alloc, seed, query, params, view, changes, recoded, steps)? {
             anew.push(place)?;
         }
     }
@@ -182,8 +189,15 @@ pub fn renew_shares<V: View<L>, L: Ledger>(
 }
 
 // Puts the share in the place of its document's id, and notes the place where one stood there.
-// `true` says that none did, so that those behind it stand elsewhere now.
-fn put_share(shares: &mut Vec<Share>, share: Share, anew: &mut Vec<usize>) -> Result<bool, NoMemory>
+// `true` says that none did, so that those behind it stand elsewhere now; `recoded` is set then,
+// and where interest in what finding it looked up has other codes.
+fn put_share(
+    seed: &Seed,
+    shares: &mut Vec<Share>,
+    share: Share,
+    anew: &mut Vec<usize>,
+    recoded: &mut bool,
+) -> Result<bool, NoMemory>
     requires { ascending (share_docs shares.old.items) ≡ true }
     ensures put { OnOk result (share_docs shares.new.items
         ≡ with_doc (share_doc share) (share_docs shares.old.items)) }
@@ -192,13 +206,21 @@ fn put_share(shares: &mut Vec<Share>, share: Share, anew: &mut Vec<usize>) -> Re
         → SameBut anew.old.items ts (share_values shares.old.items)
         → SameBut anew.new.items ts (share_values shares.new.items)) }
     ensures noted { IfOk result (λ shifted. shifted ≡ false → anew.new.items ≢ []) }
+    ensures codes { OnOk result (TellsCodes seed.now (shares_looked shares.old.items)
+        (shares_looked shares.new.items) recoded.old recoded.new) }
 {
     match put(shares, share)? {
-        Some(stood) => {
+        Some((stood, old)) => {
+            let now = shares[stood].looked.keys();
+            tell_codes(seed, old.looked.keys(), now, recoded);
+            drop(old);
             anew.push(stood)?;
             Ok(false)
         }
-        None => Ok(true),
+        None => {
+            *recoded = true;
+            Ok(true)
+        }
     }
 }
 
@@ -206,12 +228,14 @@ fn put_share(shares: &mut Vec<Share>, share: Share, anew: &mut Vec<usize>) -> Re
 // that one was taken out, or put where none stood.
 fn place<V: View<L>, L: Ledger>(
     alloc: Global,
+    seed: &Seed,
     query: &Query,
     params: &Fields,
     shares: &mut Vec<Share>,
     view: &V,
     change: &Change,
     anew: &mut Vec<usize>,
+    recoded: &mut bool,
     steps: &mut Steps<L>,
 ) -> Result<bool, NoMemory>
     requires mapped { is_mapped (expression_of query.now) ≡ true }
@@ -228,28 +252,35 @@ fn place<V: View<L>, L: Ledger>(
         → SameBut anew.new.items ts (share_values shares.new.items)) }
     ensures same { IfOk result (λ shifted. shifted ≡ false → anew.new.items ≡ []
         → (anew.old.items ≡ []) × (shares.new.items ≡ shares.old.items)) }
+    ensures codes { OnOk result (TellsCodes seed.now (shares_looked shares.old.items)
+        (shares_looked shares.new.items) recoded.old recoded.new) }
 {
     mapped_is_filtered();
     if let Some(doc) = &change.after {
         if hit(alloc, query, params, doc)? {
             let share = Share::find(alloc, query, params, doc, view, steps)?;
-            return put_share(shares, share, anew);
+            return put_share(seed, shares, share, anew, recoded);
         }
     }
-    Ok(remove(shares, &change.id))
+    let removed = remove(shares, &change.id);
+    *recoded = *recoded | removed;
+    Ok(removed)
 }
 
 /// Brings the shares of the dataset's documents behind the changes that led to it, and notes the
 /// places of those that were found anew. `true` says that one was taken out, or put where none
-/// stood, so that others stand elsewhere now. After `NoMemory` they are of no more use.
+/// stood, so that others stand elsewhere now. `recoded` is set where interest in what finding them
+/// looked up is held under other codes now. After `NoMemory` they are of no more use.
 pub fn follow_shares<V: View<L>, L: Ledger>(
     alloc: Global,
+    seed: &Seed,
     query: &Query,
     params: &Fields,
     shares: &mut Vec<Share>,
     view: &V,
     changes: &[Change],
     anew: &mut Vec<usize>,
+    recoded: &mut bool,
     steps: &mut Steps<L>,
 ) -> Result<bool, NoMemory>
     requires mapped { is_mapped (expression_of query.now) ≡ true }
@@ -263,6 +294,8 @@ pub fn follow_shares<V: View<L>, L: Ledger>(
         → SameBut anew.new.items ts (share_values shares.new.items)) }
     ensures same { IfOk result (λ shifted. shifted ≡ false → anew.new.items ≡ []
         → (anew.old.items ≡ []) × (shares.new.items ≡ shares.old.items)) }
+    ensures codes { OnOk result (TellsCodes seed.now (shares_looked shares.old.items)
+        (shares_looked shares.new.items) recoded.old recoded.new) }
 {
     let mut shifted = false;
     let mut left = changes.len();
@@ -270,12 +303,14 @@ pub fn follow_shares<V: View<L>, L: Ledger>(
         left -= 1;
         let moved = place(
             alloc,
+            seed,
             query,
             params,
             shares,
             view,
             &changes[left],
             anew,
+            recoded,
             steps,
         )?;
         shifted = shifted | moved;

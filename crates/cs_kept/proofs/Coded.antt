@@ -35,6 +35,10 @@ coded-of seed ks looked cs same is c = ap (is_among c) is ∙ among-map seed c l
 pub coded-keys : (seed : Seed) (ks : List Key) (cs : List ℕ) → cs ≡ map (interest_code seed) ks → (c : ℕ) → is_among c cs ≡ has_code seed c ks
 coded-keys seed ks cs is c = ap (is_among c) is ∙ among-map seed c ks
 
+-- keys that have the same codes, in the same order, have each of them
+pub same-codes : (seed : Seed) (c : ℕ) (ks js : List Key) → map (interest_code seed) ks ≡ map (interest_code seed) js → has_code seed c ks ≡ has_code seed c js
+same-codes seed c ks js is = sym (among-map seed c ks) ∙ ap (is_among c) is ∙ among-map seed c js
+
 -- those of one key
 pub coded-one : (seed : Seed) (k : Key) (cs : List ℕ) → cs ≡ interest_code seed k ∷ [] → (c : ℕ) → is_among c cs ≡ has_code seed c (k ∷ [])
 coded-one seed k cs is c = ap (is_among c) is

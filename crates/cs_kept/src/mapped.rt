@@ -12,8 +12,8 @@ ghost use Rattle.cs_view.specs.View.{edits};
 ghost use Rattle.cs_plan.specs.Simple.{is_simple};
 ghost use Rattle.cs_window.specs.Mapped.{is_mapped};
 ghost use Rattle.cs_kept.specs.Fits.{Answers, FitsShares, RefreshesKept};
-ghost use Rattle.cs_kept.specs.Found.{IsCoded, IsFound, KeepsOthers, codes_of};
-ghost use Rattle.cs_hits.specs.Shares.{AreShares, SameBut, SharesFollow, share_docs, share_values};
+ghost use Rattle.cs_kept.specs.Found.{IsCoded, IsFound, KeepsOthers, codes_of, interests};
+ghost use Rattle.cs_hits.specs.Shares.{AreShares, SameBut, SharesFollow, TellsCodes, share_docs, share_values, shares_looked};
 ghost use Rattle.cs_kept.specs.Mapped.{KeepsAllButCodes, KeepsAllButLast, KeepsAllButShares, mapped_keys};
 ghost use Rattle.cs_kept.specs.declared.kept.Kept.{Kept};
 
@@ -46,12 +46,14 @@ pub struct Mapped {
     pub(crate) codes: Vec<u64>,
 }
 
-// Which shares are not as they were: the places of those that were found anew, and whether one was
-// taken out, or put where none stood, so that others stand elsewhere now.
+// Which shares are not as they were: the places of those that were found anew, whether one was
+// taken out, or put where none stood, so that others stand elsewhere now, and whether interest in
+// what finding them looked up may be held under other codes.
 #[derive(Drop)]
 struct Moved {
     anew: Vec<usize>,
     shifted: bool,
+    recoded: bool,
 }
 
 impl Mapped {
@@ -98,6 +100,7 @@ impl Mapped {
     fn follow<V: View<L>, L: Ledger>(
         &mut self,
         alloc: Global,
+        seed: &Seed,
         view: &V,
         changes: &[Change],
         steps: &mut Steps<L>,
@@ -116,28 +119,40 @@ impl Mapped {
             (share_values self.new.shares.items)) }
         ensures same { IfOk result (λ moved. moved.shifted ≡ false → moved.anew.items ≡ []
             → self.new.shares.items ≡ self.old.shares.items) }
+        ensures codes { IfOk result (λ moved. TellsCodes seed.now
+            (shares_looked self.old.shares.items) (shares_looked self.new.shares.items) false
+            moved.recoded) }
         ensures kept { KeepsAllButShares self.old self.new }
     {
+        let mut recoded = false;
         let mut anew = renew_shares(
             alloc,
+            seed,
             &self.query,
             &self.params,
             &mut self.shares,
             view,
             changes,
+            &mut recoded,
             steps,
         )?;
         let shifted = follow_shares(
             alloc,
+            seed,
             &self.query,
             &self.params,
             &mut self.shares,
             view,
             changes,
             &mut anew,
+            &mut recoded,
             steps,
         )?;
-        Ok(Moved { anew, shifted })
+        Ok(Moved {
+            anew,
+            shifted,
+            recoded,
+        })
     }
 
     // Makes the answer of the shares: whether it is another tree now. Where each share stands where
@@ -162,19 +177,25 @@ impl Mapped {
         Ok(stale)
     }
 
-    // Brings the number from the codes that are kept to those of the keys that it has now.
+    // Brings the number from the codes that are kept to those of the keys that it has now. Where
+    // these have the codes that the keys before had, nothing is worked out.
     fn recode(
         &mut self,
         alloc: Global,
         number: u64,
         interest: &mut Interest,
+        moved: &Moved,
     ) -> Result<(), NoMemory>
         ensures found { OnOk result ((k : Kept) → codes_of k ≡ self.old.codes.items
-            → IsFound interest.old number k
+            → TellsCodes interest.old.seed (interests k) (mapped_keys self.old) false
+            moved.now.recoded → IsFound interest.old number k
             → IsFound interest.new number (Kept.InShares self.new)) }
         ensures others { OnOk result (KeepsOthers number interest.old interest.new) }
         ensures kept { KeepsAllButCodes self.old self.new }
     {
+        if !moved.recoded {
+            return Ok(());
+        }
         let codes = codes_of(alloc, interest.seed(), &self.own, &self.shares)?;
         if codes.as_slice() == self.codes.as_slice() {
             return Ok(());
@@ -221,12 +242,12 @@ impl Mapped {
         if !self.touched(changes) {
             return Ok(false);
         }
-        let moved = self.follow(alloc, view, changes, steps)?;
+        let moved = self.follow(alloc, interest.seed(), view, changes, steps)?;
         if !moved.shifted && moved.anew.is_empty() {
             return Ok(false);
         }
         let stale = self.settle(alloc, &moved)?;
-        self.recode(alloc, number, interest)?;
+        self.recode(alloc, number, interest, &moved)?;
         Ok(stale)
     }
 }

@@ -9,8 +9,9 @@ use Rattle.cs_view.specs.declared.change.Change.{Change}
 use Rattle.cs_view.proofs.Booleans.{or-left, or-right}
 use Rattle.cs_view.proofs.Datasets.{ascending-placed}
 use Rattle.cs_meaning.specs.Hits.{is_hit}
-use Rattle.cs_hits.specs.Shares.{share_docs}
+use Rattle.cs_hits.specs.Shares.{share_docs, shares_looked}
 use Rattle.cs_hits.proofs.Brought.{docs-more}
+use Rattle.cs_hits.proofs.Recoding.{told-both}
 use Rattle.cs_hits.proofs.shares.follow_shares.Goals as goal
 
 pub loop-left-init : goal.loop-left-init
@@ -24,6 +25,7 @@ loop-left-init g c =
       shares = c.requires.shares;
       but = λ h ts but. but;
       same = λ h none. (none, refl);
+      codes = λ unset. (unset, refl);
     }
 
 pub loop-left-preserved : goal.loop-left-preserved
@@ -45,6 +47,8 @@ loop-left-preserved g c =
           let here = moved.same (or-right _ _ h) none in
           let before = inv.same (or-left _ _ h) here.0 in
           (before.0, here.1 ∙ before.1);
+      codes = told-both c.args.seed.now (shares_looked c.args.shares.now.items) (shares_looked c.loop-left.shares.items) (shares_looked c.place.new.shares.items)
+          c.args.recoded.now c.loop-left.recoded c.place.new.recoded inv.codes moved.codes;
     }
 
 pub returns-clause-follow : goal.returns-clause-follow

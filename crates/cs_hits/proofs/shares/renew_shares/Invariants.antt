@@ -3,7 +3,7 @@ use Rattle.cs_value.specs.View.{fields}
 use Rattle.cs_syntax.specs.Queries.{expression_of}
 use Rattle.cs_view.specs.Changes.{before_changes}
 use Rattle.cs_view.specs.View.{edits}
-use Rattle.cs_hits.specs.Shares.{AreShares, SameBut, share_docs, share_values}
+use Rattle.cs_hits.specs.Shares.{AreShares, SameBut, TellsCodes, share_docs, share_values, shares_looked}
 use Rattle.cs_hits.proofs.shares.renew_shares.Given as goal
 
 abbrev pub invariant-loop-place : goal.invariant-loop-place
@@ -13,4 +13,5 @@ invariant-loop-place g l = record {
   left : AreShares (before_changes (g.V.View.docs l.view) (edits l.changes)) (expression_of l.query) (fields l.params) (drop l.place l.shares.items);
   but : SameBut l.anew.items (share_values l.fn.shares.items) (share_values l.shares.items);
   same : l.anew.items ≡ [] → l.shares.items ≡ l.fn.shares.items;
+  codes : TellsCodes l.seed (shares_looked l.fn.shares.items) (shares_looked l.shares.items) l.fn.recoded l.recoded;
 }

@@ -1,4 +1,4 @@
-use Rattle.std.proofs.Common.{◌≡◌, ◌∙◌, [], ap, eqb-true, ℕ, List, Vec, Global, not, false, true, true≢false, refl, sym, subst}
+use Rattle.std.proofs.Common.{◌≡◌, ◌∙◌, ◌∷◌, [], ap, map, eqb-true, ℕ, List, Vec, Global, not, false, true, true≢false, refl, sym, subst}
 use Rattle.std.proofs.lemmas.List.{nil_from_length}
 use Rattle.cs_value.specs.Same.{same_tree}
 use Rattle.cs_value.specs.Tree.{Tree}
@@ -10,7 +10,9 @@ use Rattle.cs_view.specs.Touched.{touched}
 use Rattle.cs_view.specs.View.{edits}
 use Rattle.cs_view.proofs.Booleans.{and-left}
 use Rattle.cs_eval.proofs.Sole.{same-elements}
-use Rattle.cs_hits.specs.Shares.{SameBut, SharesFollow, share_docs, share_values}
+use Rattle.cs_codes.specs.declared.seed.Seed.{Seed}
+use Rattle.cs_interest.specs.Interest.{interest_code}
+use Rattle.cs_hits.specs.Shares.{SameBut, SharesFollow, TellsCodes, share_docs, share_values, shares_looked}
 use Rattle.cs_kept.specs.Mapped.{mapped_keys}
 use Rattle.cs_kept.specs.declared.kept.Kept.TheVariants.{InShares}
 use Rattle.cs_hits.specs.declared.share.Share.{Share}
@@ -89,4 +91,14 @@ returns-clause-stale g c =
 
 pub returns-clause-found : goal.returns-clause-found
 returns-clause-found g c =
-    c.in_ok-recode.ensures.found (InShares c.args.self.now) (ap (λ (v : Vec ℕ Global). v.items) (sym (c.settle.ensures.kept.codes ∙ c.follow.ensures.kept.codes))) c.requires.found
+    let old = c.args.self.now in
+    let f = c.follow.ensures.kept in let s = c.settle.ensures.kept in
+    let seed = c.args.interest.now.seed in
+    let told = subst (λ (x : Seed). TellsCodes x (shares_looked old.shares.items) (shares_looked c.follow.new.self.shares.items) false c.in_ok-moved.moved.recoded) c.seed.ensures c.in_ok-moved.ensures.codes in
+    c.in_ok-recode.ensures.found (InShares old) (ap (λ (v : Vec ℕ Global). v.items) (sym (s.codes ∙ f.codes)))
+    (λ unset. (
+      (told unset).0,
+      λ i. interest_code seed ((s.own ∙ f.own) i)
+          ∷ (ap (λ (v : Vec Share Global). map (interest_code seed) (shares_looked v.items)) s.shares ∙ (told unset).1) i,
+    ))
+    c.requires.found
