@@ -1,9 +1,10 @@
 //! Functions by their names.
+ghost use Rattle.std.specs.Cmp.Lexicographic.{slice_cmp};
+ghost use Rattle.std.specs.Ordering.{is_eq, nat_cmp};
 ghost use Rattle.std.specs.Prelude.{◌≡◌};
 ghost use Rattle.cs_func.specs.Names.{named};
 
 use crate::function::Function;
-use cs_table::{Row, Table};
 
 // A row of the table of names.
 #[derive(Clone, Copy)]
@@ -12,11 +13,13 @@ struct Name {
     function: Function,
 }
 
-impl Row for Name {
-    ghost called = { λ n. n.name.now };
-
-    fn name(&self) -> &str {
-        self.name
+impl Name {
+    // Lengths are compared first: most names of other functions have another one, so that a
+    // look-up reads the bytes of one or two of them.
+    fn is_named(&self, name: &str) -> bool
+        ensures { result ≡ is_eq (slice_cmp nat_cmp self.now.name.now name.now) }
+    {
+        self.name.len() == name.len() && self.name == name
     }
 }
 
@@ -51,7 +54,7 @@ static NAMES: [Name; 16] = names!(
 pub fn named(name: &str) -> Option<Function>
     ensures { result ≡ named name.now }
 {
-    match NAMES.iter().find(|row| row.name == name) {
+    match NAMES.iter().find(|row| row.is_named(name)) {
         Some(row) => Some(row.function),
         None => None,
     }

@@ -1,7 +1,6 @@
-use Rattle.std.proofs.Common.{rules, tests, ◌∙◌, Some, None, map, sym, ap, nat_cmp}
+use Rattle.std.proofs.Common.{rules, tests, Some, None, map, ap, nat_cmp}
 use Rattle.std.proofs.lemmas.Iterator.Search.{find_from_yields_List}
 use Rattle.std.proofs.lemmas.Iterator.{YieldsList-from_slice}
-use Rattle.std.proofs.lemmas.Map.Text.{is_eq-slice_cmp}
 use Rattle.std.specs.Ordering.{is_eq}
 use Rattle.std.specs.Cmp.Lexicographic.{slice_cmp}
 use Rattle.cs_table.proofs.Parts.{row-parts}
@@ -17,7 +16,7 @@ returns-in-Some c =
     (find_from_yields_List (λ (n : Name). is_eq (slice_cmp nat_cmp n.name.now c.args.name.now))
     c.find.new.self _ (Some c.in-Some.row) c.in-Some.ensures.ran (YieldsList-from_slice c.iter.result.rest.now cc) (λ x b q k. (
       search (rules, tests),
-      search (rules, tests) ∙ sym (is_eq-slice_cmp x.now.name.now c.args.name.now),
+      search (rules, tests),
     )))
 
 pub returns-in-None : goal.returns-in-None
@@ -28,5 +27,5 @@ returns-in-None c =
     (find_from_yields_List (λ (n : Name). is_eq (slice_cmp nat_cmp n.name.now c.args.name.now))
     c.find.new.self _ None c.in-None.ensures.ran (YieldsList-from_slice c.iter.result.rest.now cc) (λ x b q k. (
       search (rules, tests),
-      search (rules, tests) ∙ sym (is_eq-slice_cmp x.now.name.now c.args.name.now),
+      search (rules, tests),
     )))
