@@ -7,7 +7,7 @@ ghost use Rattle.cs_index.specs.Picking.{IsImplied};
 use crate::entry::Entry;
 use cs_codes::{Seed, key_code};
 use cs_value::Txt;
-use cs_view::Key;
+use cs_view::{Key, Scalar};
 use std::collections::BTreeSet;
 
 // Whether the index keeps the key.
@@ -53,8 +53,44 @@ pub(crate) fn id_among(keys: &[Key]) -> Option<&Txt>
     None
 }
 
-// The first key that the index keeps and under which at most so many entries stand.
+// Whether many documents are expected to have the key, as they have a type and a boolean, and as a
+// list has several elements.
+fn is_wide(key: &Key) -> bool {
+    match key {
+        Key::Path(names, scalar) => {
+            matches!(scalar, Scalar::Bool(_))
+                || names.len() == 1 && names.texts()[0].as_str() == "_type"
+        }
+        Key::Elem(_, _) => true,
+        Key::All | Key::Id(_) | Key::Ref(_) => false,
+    }
+}
+
+// Of the keys that are wide, or of the others, the first one that the index keeps and under which
+// at most so many entries stand.
 fn first_of_few<'k>(
+    seed: &Seed,
+    entries: &BTreeSet<Entry>,
+    keys: &'k [Key],
+    wide: bool,
+    most: usize,
+) -> Option<&'k Key>
+    ensures { IfSome result (λ key. IsKept key.now × IsImplied key.now keys.now) }
+{
+    for key in keys {
+        if is_wide(key) == wide
+            && is_kept(key)
+            && stand_at_most(entries, key_code(seed, key), most)
+        {
+            return Some(key);
+        }
+    }
+    None
+}
+
+// A key that the index keeps and under which at most so many entries stand. Those that are not wide
+// are tried first.
+fn of_few<'k>(
     seed: &Seed,
     entries: &BTreeSet<Entry>,
     keys: &'k [Key],
@@ -62,12 +98,10 @@ fn first_of_few<'k>(
 ) -> Option<&'k Key>
     ensures { IfSome result (λ key. IsKept key.now × IsImplied key.now keys.now) }
 {
-    for key in keys {
-        if is_kept(key) && stand_at_most(entries, key_code(seed, key), most) {
-            return Some(key);
-        }
+    match first_of_few(seed, entries, keys, false, most) {
+        Some(key) => Some(key),
+        None => first_of_few(seed, entries, keys, true, most),
     }
-    None
 }
 
 /// Of the keys that the index keeps one under which hardly more entries stand than under any other.
@@ -85,9 +119,9 @@ pub(crate) fn rarest<'k>(
         if few >= most {
             break;
         }
-        if let Some(key) = first_of_few(seed, entries, keys, few) {
+        if let Some(key) = of_few(seed, entries, keys, few) {
             return Some(key);
         }
     }
-    first_of_few(seed, entries, keys, most)
+    of_few(seed, entries, keys, most)
 }
