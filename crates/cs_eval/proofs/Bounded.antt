@@ -1,18 +1,18 @@
 -- The order and the window of a query by their parts.
-use Rattle.std.proofs.Common.{◌≡◌, ◌<◌, ◌≤◌, ◌+◌, ℕ, zero, suc, Bool, true, false, cond, ◌&&◌, List, [], ◌∷◌, take, map, length, get_or, slice_get, option_and_then, arith, refl, sym, ap, ◌∙◌, Option, Some, None}
-use Rattle.std.specs.Prelude.{IfSome, IfOk, Result, Ok, Err}
+use Rattle.std.proofs.Common.{◌≡◌, ◌<◌, ◌≤◌, ◌+◌, ℕ, zero, suc, Bool, true, false, cond, ◌&&◌, List, [], ◌∷◌, take, map, length, get_or, slice_get, option_and_then, arith, refl, sym, ap, ◌∙◌, not, is_gt, Ordering, Option, Some, None}
+use Rattle.std.specs.Prelude.{IfSome, IfOk, Result, Ok, Err, filter}
 use Rattle.std.specs.Option.{is_some, option_map, option_map_or}
 use Rattle.std.proofs.lemmas.Option.{slice_get-get_or}
 use Rattle.std.proofs.lemmas.List.{length-map}
-use Rattle.cs_value.specs.Tree.{Tree, Pairs}
+use Rattle.cs_value.specs.Tree.{Tree, Pairs, null}
 use Rattle.cs_syntax.specs.Expression.{Expression, chain, everything, bracket, attr, deref, each, slice, project, pipe, Step, Steps, no_steps, more_steps, OrderKeys}
 use Rattle.cs_plan.specs.Steps.{bracketed, condition, is_order_name}
 use Rattle.cs_plan.specs.Simple.{is_condition, is_quiet, quiet_keys, tail_of, steps_behind}
-use Rattle.cs_meaning.specs.Ordered.{Ranked, ranked, directions}
-use Rattle.cs_meaning.specs.Values.{is_pipe}
+use Rattle.cs_meaning.specs.Ordered.{Ranked, by_keys, ranked, directions}
+use Rattle.cs_meaning.specs.Values.{is_pipe, keys_values}
 use Rattle.cs_order.specs.Asked.{first_asked}
 use Rattle.cs_window.specs.Windowed.{is_windowed}
-use Rattle.cs_window.specs.Window.{Window, window, window_of, by_order, keys_at, order_keys, order_of}
+use Rattle.cs_window.specs.Window.{Window, window, window_of, by_order, is_near, keys_at, not_behind, order_keys, order_of}
 use Rattle.cs_window.proofs.Parted.{sorted-many}
 
 pub order_taken : (s : Step) (ss : Steps) (name : List ℕ) (ks : OrderKeys) → s ≡ pipe name ks → is_order_name name ≡ true → order_of (more_steps s ss) ≡ Some ks
@@ -122,3 +122,28 @@ first_many ks params ds place rs is low =
 pub if_ok_then : {A E : Type 0} (r : Result A E) {P Q : A → Type 0} → ((x : A) → P x → Q x) → IfOk r P → IfOk r Q
 if_ok_then (Ok x) f h = f x h
 if_ok_then (Err x) f h = tt
+
+-- the documents near a bound, by the keys of the order that stands there
+module _ (e : Expression) (params : Pairs) where
+  abbrev near_ones : Option OrderKeys → List Tree → List Tree → List Tree
+  near_ones o bound ds = filter (λ d. option_map_or (λ ks. not_behind ks bound (order_keys ks params d)) o true) ds
+
+  pub near_by : (ds : List Tree) (ks : OrderKeys) (were are : List Tree) → order_of (tail_of (steps_behind e)) ≡ Some ks → were ≡ are
+      → filter (λ d. not_behind ks were (order_keys ks params d)) ds ≡ filter (is_near e params are) ds
+  near_by ds ks were are is same =
+      ap (λ (b : List Tree). near_ones (Some ks) b ds) same ∙ sym (ap (λ (o : Option OrderKeys). near_ones o are ds) is)
+
+  pub near_one : (ks : OrderKeys) (were are : List Tree) (this d : Tree) → order_of (tail_of (steps_behind e)) ≡ Some ks → were ≡ are → this ≡ d
+      → not_behind ks were (order_keys ks params this) ≡ is_near e params are d
+  near_one ks were are this d is same one =
+      ap (λ (b : List Tree). not_behind ks b (order_keys ks params this)) same
+      ∙ (ap (λ (t : Tree). not_behind ks are (order_keys ks params t)) one
+      ∙ sym (ap (λ (o : Option OrderKeys). option_map_or (λ ks. not_behind ks are (order_keys ks params d)) o true) is))
+
+-- a comparison of keys tells whether what has them stands behind a bound
+pub by_bound : (params : Pairs) (ks : OrderKeys) (bound : List Tree) (d : Tree) (ds : List Bool) (sc keys : List Tree) (o : Ordering) → ds ≡ directions ks → sc ≡ null ∷ [] → keys ≡ keys_values [] params ks (d ∷ sc)
+    → o ≡ by_keys ds keys bound → not (is_gt o) ≡ not_behind ks bound (order_keys ks params d)
+by_bound params ks bound d ds sc keys o dirs root found is =
+    ap (λ (r : Ordering). not (is_gt r))
+    (is ∙ (ap (λ (xs : List Tree). by_keys ds xs bound) (found ∙ ap (λ (s : List Tree). keys_values [] params ks (d ∷ s)) root)
+    ∙ ap (λ (x : List Bool). by_keys x (order_keys ks params d) bound) dirs))

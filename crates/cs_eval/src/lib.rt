@@ -13,4 +13,4 @@ pub use cs_meaning::{
 pub use cs_parts::Got;
 pub use each::{mapped, share};
 pub use queries::{eval, hit, hits, query_key, query_keys, tail};
-pub use windows::{is_near, keys_at, tail_over, window, windowed};
+pub use windows::{is_near, nearest, tail_over, window, windowed};

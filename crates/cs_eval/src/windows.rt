@@ -1,6 +1,6 @@
 //! Windows of queries: the first documents in an order, which alone an answer is made of; which
 //! documents do not stand behind a bound; and what the steps behind a filter make of documents.
-ghost use Rattle.std.specs.Prelude.{◌≡◌, ◌<◌, ◌≤◌, ◌∷◌, ◌++◌, [], IfOk, IfSome, OnOk, Some, length, map, option_map, take, true};
+ghost use Rattle.std.specs.Prelude.{◌≡◌, ◌<◌, ◌≤◌, ◌∷◌, ◌++◌, [], IfOk, IfSome, OnOk, Some, filter, length, map, option_map, take, true};
 ghost use Rattle.cs_value.specs.Tree.{null};
 ghost use Rattle.cs_value.specs.View.{tree, fields};
 ghost use Rattle.cs_syntax.specs.Expression.{keys_of, steps_of};
@@ -8,16 +8,16 @@ ghost use Rattle.cs_syntax.specs.Queries.{expression_of};
 ghost use Rattle.cs_syntax.specs.View.{step_of, order_key_of};
 ghost use Rattle.cs_view.specs.Scopes.{scope_of};
 ghost use Rattle.cs_view.specs.View.{document_of};
-ghost use Rattle.cs_plan.specs.Simple.{quiet_keys, tail_of};
-ghost use Rattle.cs_meaning.specs.Ordered.{ranked};
+ghost use Rattle.cs_plan.specs.Simple.{quiet_keys, steps_behind, tail_of};
+ghost use Rattle.cs_meaning.specs.Ordered.{directions as directions_of, ranked};
 ghost use Rattle.cs_order.specs.Ranked.{ranked as ranked_of};
 ghost use Rattle.cs_parts.specs.Parts.{item};
 ghost use Rattle.cs_meaning.specs.Hits.{tail_looked, tail_over};
 ghost use Rattle.cs_window.specs.Windowed.{is_filtered, is_windowed};
-ghost use Rattle.cs_window.specs.Window.{by_order, is_near, keys_at, order_keys, order_of, window};
+ghost use Rattle.cs_window.specs.Window.{by_order, is_near, keys_at, not_behind, order_keys, order_of, window};
 
 use crate::queries::{NO_DOCS, parts, vals_of};
-use cs_expr::{enter, pipes, rank_each, rank_keys};
+use cs_expr::{are_quiet, compare_parts, enter, pipes, rank_each, rank_keys};
 use cs_order::{Ranked, first_asked, is_above, pipe_of};
 use cs_parts::{Got, Item, directions, kinds, lend_all, push};
 use cs_plan::is_quiet;
@@ -44,6 +44,21 @@ fn order_of(steps: &[Step]) -> Option<(&[OrderKey], &[Step])>
     }
 }
 
+// The keys of the order that stands first behind the filter of a query.
+fn order_behind(query: &Query) -> Option<&[OrderKey]>
+    requires { is_filtered (expression_of query.now) ≡ true }
+    ensures { option_map (λ ks. keys_of (map order_key_of ks.now)) result
+        ≡ order_of (tail_of (steps_behind (expression_of query.now))) }
+{
+    let Some((_condition, later)) = parts(query.expr()) else {
+        unreachable!()
+    };
+    match order_of(later) {
+        Some((order, _behind)) => Some(order),
+        None => None,
+    }
+}
+
 /// How many documents the window of a query has: the first in the order that stands behind its
 /// filter, which alone the answer is made of. `None` where no order stands there, or the step
 /// behind it does not say that it looks at a few alone, 257 at most.
@@ -55,19 +70,6 @@ pub fn window(query: &Query) -> Option<usize>
     let (_condition, later) = parts(query.expr())?;
     let (_order, behind) = order_of(later)?;
     first_asked(behind)
-}
-
-// Whether the keys of an order look nothing up.
-#[tactic(auto, unfolding(cs_syntax::specs::View::order_key_of, cs_syntax::specs::View::expression))]
-fn are_quiet(order: &[OrderKey]) -> bool
-    ensures { result ≡ quiet_keys (keys_of (map order_key_of order.now)) }
-{
-    for key in order {
-        if !is_quiet(&key.key) {
-            return false;
-        }
-    }
-    true
 }
 
 /// Whether a query is windowed: its filter looks nothing up, and behind it stands an order by keys
@@ -174,9 +176,58 @@ fn first_ranked<'k>(
     )
 }
 
+// Whether a document does not stand behind a bound in an order. Most often the first key settles
+// it; where it is no part of the document, all keys are found.
+fn is_not_behind<'k>(
+    alloc: Global,
+    order: &'k [OrderKey],
+    directions: &[bool],
+    root: &'k Scope<'k>,
+    params: &'k Fields,
+    bound: &Ranked<'_, '_>,
+    this: &'k Val,
+) -> Result<bool, NoMemory>
+    requires root { scope_of root.now ≡ null ∷ [] }
+    requires directions { directions.now ≡ directions_of (keys_of (map order_key_of order.now)) }
+    ensures { IfOk result (λ b. b ≡ not_behind (keys_of (map order_key_of order.now))
+        (map item bound.now.by.items)
+        (order_keys (keys_of (map order_key_of order.now)) (fields params.now) (tree this.now))) }
+{
+    if let Some(found) = compare_parts(directions, order, root, this, &bound.by) {
+        return Ok(!found.is_gt());
+    }
+    let one = ranked(alloc, order, root, params, this)?;
+    Ok(!is_above(directions, &one, bound))
+}
+
+// Copies of those of the documents that do not stand behind a bound in an order.
+fn copies_near<'k>(
+    alloc: Global,
+    order: &'k [OrderKey],
+    root: &'k Scope<'k>,
+    params: &'k Fields,
+    bound: &Ranked<'_, '_>,
+    docs: &'k [Doc],
+) -> Result<Vec<Doc>, NoMemory>
+    requires { scope_of root.now ≡ null ∷ [] }
+    ensures { IfOk result (λ v. map document_of v.items ≡ filter
+        (λ d. not_behind (keys_of (map order_key_of order.now)) (map item bound.now.by.items)
+        (order_keys (keys_of (map order_key_of order.now)) (fields params.now) d))
+        (map document_of docs.now)) }
+{
+    let directions = directions(alloc, order)?;
+    let mut near = Vec::new(alloc);
+    for doc in docs {
+        if is_not_behind(alloc, order, &directions, root, params, bound, doc.val())? {
+            push(&mut near, doc.copy()?)?;
+        }
+    }
+    Ok(near)
+}
+
 /// Whether a document does not stand behind a bound in the order that stands first behind the
 /// filter of a query; where no order stands there, each document is near. The bound is what
-/// `keys_at` tells of a document. It visits nothing.
+/// `nearest` tells of a document. It visits nothing.
 pub fn is_near(
     alloc: Global,
     query: &Query,
@@ -192,48 +243,47 @@ pub fn is_near(
         this: query.null(),
         parent: None,
     };
-    let Some((_condition, later)) = parts(query.expr()) else {
-        unreachable!()
-    };
-    let Some((order, _behind)) = order_of(later) else {
+    let Some(order) = order_behind(query) else {
         return Ok(true);
     };
     let directions = directions(alloc, order)?;
-    let near = ranked(alloc, order, &root, params, doc.val())?;
     let last = Ranked {
         by: lend_all(alloc, bound)?,
         item: Item::Lent(query.null()),
     };
-    Ok(!is_above(&directions, &near, &last))
+    is_not_behind(alloc, order, &directions, &root, params, &last, doc.val())
 }
 
 /// What the document at a place of the order is ordered by, the place counted from 0, where an
-/// order stands first behind the filter of a query. `None` exactly where no order stands there. It
+/// order stands first behind the filter of a query; and copies of the documents that do not stand
+/// behind that one, in the order in which they came. `None` exactly where no order stands there. It
 /// visits nothing.
-pub fn keys_at(
+pub fn nearest(
     alloc: Global,
     query: &Query,
     params: &Fields,
     docs: &[Doc],
     place: usize,
-) -> Result<Option<Vec<Val>>, NoMemory>
+) -> Result<Option<(Vec<Val>, Vec<Doc>)>, NoMemory>
     requires filtered { is_filtered (expression_of query.now) ≡ true }
     requires within { place < length docs.now }
-    ensures { IfOk result (λ o. option_map (λ bound. map tree bound.items) o
+    ensures bound { IfOk result (λ o. option_map (λ x. map tree x.0.items) o
         ≡ keys_at (expression_of query.now) (fields params.now) (map document_of docs.now) place) }
+    ensures near { IfOk result (λ o. IfSome o (λ x. map document_of x.1.items
+        ≡ filter (is_near (expression_of query.now) (fields params.now) (map tree x.0.items))
+        (map document_of docs.now))) }
 {
     let root = Scope {
         this: query.null(),
         parent: None,
     };
-    let Some((_condition, later)) = parts(query.expr()) else {
-        unreachable!()
-    };
-    let Some((order, _behind)) = order_of(later) else {
+    let Some(order) = order_behind(query) else {
         return Ok(None);
     };
     let first = first_ranked(alloc, order, place + 1, &root, params, docs)?;
-    Ok(Some(copies(alloc, &first[place].by)?))
+    let last = &first[place];
+    let near = copies_near(alloc, order, &root, params, last, docs)?;
+    Ok(Some((copies(alloc, &last.by)?, near)))
 }
 
 /// What the steps behind the filter of a query make of documents over the documents of a view: of

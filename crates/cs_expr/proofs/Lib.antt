@@ -3,6 +3,7 @@ pub mod Calling
 pub mod Climbing
 pub mod Firsts
 pub mod Joins
+pub mod Keyed
 pub mod Nodes
 pub mod Sets
 pub mod Sorting

@@ -4,8 +4,10 @@
 mod calls;
 mod chains;
 mod expressions;
+mod past;
 mod steps;
 
 pub use chains::{enter, pipes};
 pub use expressions::eval;
+pub use past::{are_quiet, compare_parts};
 pub use steps::{holds, keep_lent, rank_each, rank_keys};

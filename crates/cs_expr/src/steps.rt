@@ -1,22 +1,25 @@
 //! One step of a chain: filters, projections and orders put an element in front of the scope.
-ghost use Rattle.std.specs.Prelude.{◌≡◌, ◌∷◌, ◌++◌, [], IfOk, OnOk, map, filter, flat_map, if◌then◌else◌};
+ghost use Rattle.std.specs.Prelude.{◌≡◌, ◌∷◌, ◌++◌, [], IfOk, OnOk, map, filter, flat_map, true, if◌then◌else◌};
 ghost use Rattle.cs_value.specs.Tree.{no_pairs};
 ghost use Rattle.cs_value.specs.Words.{is_object as is_object_tree};
 ghost use Rattle.cs_value.specs.View.{tree, fields};
 ghost use Rattle.cs_syntax.specs.Expression.{entries_of, keys_of, pipe};
 ghost use Rattle.cs_syntax.specs.View.{expression, step_of, entry_of, order_key_of};
 ghost use Rattle.cs_view.specs.Scopes.{scope_of};
+ghost use Rattle.cs_plan.specs.Simple.{quiet_keys};
 ghost use Rattle.cs_plan.specs.Steps.{bracketed};
 ghost use Rattle.cs_meaning.specs.Operators.{is_true as is_true_tree};
 ghost use Rattle.cs_meaning.specs.Values.{value as value_of, entries_pairs, step_value, keys_values, projected, in_bracket};
 ghost use Rattle.cs_meaning.specs.Looked.{looked, entries_looked, step_looked, bracket_looked, keys_looked};
 ghost use Rattle.cs_meaning.specs.Ordered.{ranked, directions};
-ghost use Rattle.cs_order.specs.First.{first_elements, all_kept};
+ghost use Rattle.cs_order.specs.First.{CanKeep, first_elements, all_kept, kept as kept_with};
 ghost use Rattle.cs_order.specs.Ranked.{ranked as ranked_of};
 ghost use Rattle.cs_parts.specs.Parts.{got, item};
 
 use crate::expressions::{is_met, object, settled};
+use crate::past::{are_quiet, is_past};
 use cs_levels::{InBracket, in_bracket, list_in_order, ordered_elements};
+use cs_meaning::quiet_asks_nothing;
 use cs_order::{Ranked, admit, owned};
 use cs_parts::{
     Got, Item, Source, deref, directions, each, field, gather, is_object, push, settle, sliced,
@@ -242,7 +245,8 @@ pub(crate) fn ordered<'s, S: Source<C>, C>(
 }
 
 /// Each element beside the values of its keys, or those alone that are among the first, where there
-/// is a limit; and what finding the keys looks up.
+/// is a limit; and what finding the keys looks up. Of an element that is seen to be none of the
+/// first no more keys are found than that takes.
 #[cycle(eval)]
 #[tactic(auto, using(cs_order::proofs::Kept::can_keep_none))]
 pub fn rank_each<'k, 's: 'k, S: Source<C>, C>(
@@ -264,12 +268,51 @@ pub fn rank_each<'k, 's: 'k, S: Source<C>, C>(
         source.now) (fields params.now) (keys_of (map order_key_of order.now)) (x ∷ (scope_of
         frame.now))) (map item items.entry.items)) }
 {
+    // Where a key may look something up, each element's keys are found, since the record has them.
+    let silent = are_quiet(order);
     let mut kept = Vec::new(alloc);
     for i in items {
-        let one = rank_one(alloc, order, frame, params, source, i, keys, count)?;
-        admit(&mut kept, one, directions, limit)?;
+        rank_into(
+            alloc, order, directions, limit, silent, frame, params, source, i, &mut kept, keys,
+            count,
+        )?;
     }
     Ok(kept)
+}
+
+// Puts an element beside the values of its keys, where it is one of those that are kept. Where the
+// keys are silent no more of them are found than it takes to see that it is none of them.
+#[cycle(eval)]
+fn rank_into<'k, 's: 'k, S: Source<C>, C>(
+    alloc: Global,
+    order: &'k [OrderKey],
+    directions: &[bool],
+    limit: Option<usize>,
+    silent: bool,
+    frame: &'k Scope<'k>,
+    params: &'k Fields,
+    source: &'k S,
+    one: Item<'s>,
+    kept: &mut Vec<Ranked<'k, 's>>,
+    keys: &mut Record,
+    count: &mut C,
+) -> Result<(), NoMemory>
+    requires silent { silent ≡ true → quiet_keys (keys_of (map order_key_of order.now)) ≡ true }
+    requires can { CanKeep directions.now limit (map ranked_of kept.now.items) }
+    ensures kept { OnOk result (map ranked_of kept.new.items ≡ kept_with directions.now limit
+        (ranked (λ x. keys_values (S.docs source.now) (fields params.now) (keys_of (map
+        order_key_of order.now)) (x ∷ (scope_of frame.now))) (item one.entry))
+        (map ranked_of kept.old.items)) }
+    ensures can { OnOk result (CanKeep directions.now limit (map ranked_of kept.new.items)) }
+    ensures keys { OnOk result (keys.new ≡ keys.old ++ keys_looked (S.docs source.now) (fields
+        params.now) (keys_of (map order_key_of order.now)) (item one.entry ∷ scope_of frame.now)) }
+{
+    quiet_asks_nothing();
+    if silent && is_past(directions, order, limit, frame, one.val(), kept) {
+        return Ok(());
+    }
+    let one = rank_one(alloc, order, frame, params, source, one, keys, count)?;
+    admit(kept, one, directions, limit)
 }
 
 // An element beside the values of its keys. Those of an element that was made are copied, since

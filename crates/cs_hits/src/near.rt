@@ -10,7 +10,7 @@ ghost use Rattle.cs_window.specs.Window.{is_near};
 ghost use Rattle.cs_hits.specs.Near.{AreNearest, IsWithin, bound_of, is_near_hit, near_docs};
 
 use crate::held::{put, remove};
-use cs_eval::{hit, is_near, keys_at, window};
+use cs_eval::{hit, is_near, nearest, window};
 use cs_syntax::Query;
 use cs_value::{Fields, NoMemory, Txt, Val};
 use cs_view::{Change, Doc};
@@ -35,28 +35,6 @@ pub fn is_enough(query: &Query, count: usize) -> bool
     }
 }
 
-// Copies of those of the documents that do not stand behind the bound.
-fn copies(
-    alloc: Global,
-    query: &Query,
-    params: &Fields,
-    bound: &[Val],
-    docs: &[Doc],
-) -> Result<Vec<Doc>, NoMemory>
-    requires { is_filtered (expression_of query.now) ≡ true }
-    ensures { IfOk result (λ v. map document_of v.items
-        ≡ filter (is_near (expression_of query.now) (fields params.now) (map tree bound.now))
-        (map document_of docs.now)) }
-{
-    let mut near = Vec::new(alloc);
-    for doc in docs {
-        if is_near(alloc, query, params, bound, doc)? {
-            near.push(doc.copy()?)?;
-        }
-    }
-    Ok(near)
-}
-
 impl Near {
     /// Those of the documents that stand near the window of the query. `None` where it has none,
     /// and where it is not worth the while: the documents are few, or most of them are near.
@@ -79,10 +57,9 @@ impl Near {
         if docs.len() <= place + place / 2 {
             return Ok(None);
         }
-        let Some(bound) = keys_at(alloc, query, params, docs, place)? else {
+        let Some((bound, near)) = nearest(alloc, query, params, docs, place)? else {
             return Ok(None);
         };
-        let near = copies(alloc, query, params, &bound, docs)?;
         if near.len() > docs.len() / 4 * 3 {
             return Ok(None);
         }

@@ -9,4 +9,4 @@ mod ranks;
 pub use asked::first_asked;
 pub use first::{admit, in_order};
 pub use pipes::pipe_of;
-pub use ranks::{Ranked, is_above, items_of, owned};
+pub use ranks::{Ranked, compare_keys, is_above, items_of, key_at, owned};

@@ -39,8 +39,9 @@ fn total_or_null(x: Option<&Val>, y: Option<&Val>) -> Ordering
     }
 }
 
-// Two keys, the other way round where the key is descending.
-fn compared(descending: bool, x: Option<&Val>, y: Option<&Val>) -> Ordering
+/// How two keys compare under the total order, and the other way round where the key is
+/// descending. One that is not there is null.
+pub fn compare_keys(descending: bool, x: Option<&Val>, y: Option<&Val>) -> Ordering
     ensures { result ≡ compared descending
         (unwrap_or (option_map (λ v. tree v.now) x.entry) null)
         (unwrap_or (option_map (λ v. tree v.now) y.entry) null) }
@@ -52,9 +53,9 @@ fn compared(descending: bool, x: Option<&Val>, y: Option<&Val>) -> Ordering
     }
 }
 
-// The key at a place, if one is there.
+/// The key at a place, if one is there.
 #[tactic(auto, using(crate::proofs::Keys::item_at))]
-fn at<'v>(keys: &'v [Item<'_>], place: usize) -> Option<&'v Val>
+pub fn key_at<'v>(keys: &'v [Item<'_>], place: usize) -> Option<&'v Val>
     ensures { unwrap_or (option_map (λ v. tree v.now) result) null
         ≡ get_or (map item keys.now) place null }
 {
@@ -73,7 +74,7 @@ fn by_keys(directions: &[bool], xs: &[Item<'_>], ys: &[Item<'_>]) -> Ordering
     let mut left = directions;
     let mut place = 0;
     while let Some((descending, later)) = left.split_first() {
-        let order = compared(*descending, at(xs, place), at(ys, place));
+        let order = compare_keys(*descending, key_at(xs, place), key_at(ys, place));
         match order {
             Ordering::Less => return Ordering::Less,
             Ordering::Greater => return Ordering::Greater,

@@ -13,8 +13,10 @@ use Rattle.cs_view.specs.Scopes.{scope_of}
 use Rattle.cs_view.specs.declared.key.Key.{Key}
 use Rattle.cs_meaning.specs.Joining.{form, kind, way, entrance}
 use Rattle.cs_meaning.specs.declared.join.Entrance.TheVariants.{Whole}
-use Rattle.cs_meaning.specs.Ordered.{directions}
-use Rattle.cs_order.specs.First.{in_order}
+use Rattle.cs_meaning.specs.Ordered.{Ranked, directions, ranked}
+use Rattle.cs_order.specs.First.{in_order, kept}
+use Rattle.cs_order.specs.declared.ranks.Ranked.{Ranked as CodeRanked}
+use Rattle.cs_expr.proofs.Keyed.{keys_quiet}
 use Rattle.cs_order.specs.Ranked.{ranked as ranked_of}
 use Rattle.cs_meaning.specs.Operators.{in_path, is_true, sole}
 use Rattle.cs_expr.proofs.Firsts.{first_of_order}
@@ -335,6 +337,28 @@ steps::order_keys-loop-first-preserved g t c =
           ∙ (ap (λ (xs : List CodeKey). l.keys ++ keys_looked docs ps (keys_of (map order_key_of xs)) sc) (sym is) ∙ l.invariant.keys);
       lighter = omega (arith, heavy, l.invariant.lighter);
     }
+
+pub steps::rank_into-returns-then-is_past-clause-kept : goal.steps::rank_into-returns-then-is_past-clause-kept
+steps::rank_into-returns-then-is_past-clause-kept g t c =
+    let docs = g.S.Source.docs c.args.source.now in
+    let ps = fields c.args.params.now in
+    let sc = scope_of c.args.frame.now in
+    let ks = keys_of (map order_key_of c.args.order.now) in
+    let ds = c.args.directions.now in
+    let limit = c.args.limit in
+    let seen = c.deref.result.now in
+    let by : Tree → Ranked = ranked (λ x. keys_values docs ps ks (x ∷ sc)) in
+    ap (λ (rs : List CodeRanked). map ranked_of rs) (sym c.deref.ensures.value)
+    ∙ (sym (c.is_past.ensures c.if-is_past.true docs ps)
+    ∙ (ap (λ (v : Tree). kept ds limit (by v) (map ranked_of seen)) c.val.ensures
+    ∙ ap (λ (rs : List CodeRanked). kept ds limit (by (item c.args.one)) (map ranked_of rs)) c.deref.ensures.value))
+
+pub steps::rank_into-returns-then-is_past-clause-keys : goal.steps::rank_into-returns-then-is_past-clause-keys
+steps::rank_into-returns-then-is_past-clause-keys g t c =
+    let ks = keys_of (map order_key_of c.args.order.now) in
+    sym (ap (λ (xs : List Key). c.args.keys.now ++ xs)
+    (keys_quiet c.quiet_asks_nothing.ensures (g.S.Source.docs c.args.source.now) (fields c.args.params.now) ks (item c.args.one ∷ scope_of c.args.frame.now) (c.requires.silent c.if-silent.true))
+    ∙ append-nil c.args.keys.now)
 
 pub steps::ordered-returns-clause-value : goal.steps::ordered-returns-clause-value
 steps::ordered-returns-clause-value g t c =

@@ -198,7 +198,10 @@ abbrev pub decreases-steps::ordered : goal.decreases-steps::ordered
 decreases-steps::ordered g l = keys_weight (keys_of (map order_key_of l.order.now)) + 5
 
 abbrev pub decreases-steps::rank_each : goal.decreases-steps::rank_each
-decreases-steps::rank_each g l = keys_weight (keys_of (map order_key_of l.order.now)) + 3
+decreases-steps::rank_each g l = keys_weight (keys_of (map order_key_of l.order.now)) + 4
+
+abbrev pub decreases-steps::rank_into : goal.decreases-steps::rank_into
+decreases-steps::rank_into g l = keys_weight (keys_of (map order_key_of l.order.now)) + 3
 
 abbrev pub decreases-steps::rank_one : goal.decreases-steps::rank_one
 decreases-steps::rank_one g l = keys_weight (keys_of (map order_key_of l.order.now)) + 2
