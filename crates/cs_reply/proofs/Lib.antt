@@ -1,4 +1,5 @@
-pub mod Committing
-pub mod Living
 mod Members
 mod Sorting
+pub mod Committing
+pub mod Joining
+pub mod Living

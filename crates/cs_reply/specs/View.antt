@@ -1,5 +1,6 @@
 -- What contracts see of the replies that are written.
-use Rattle.std.specs.Prelude.{◌≡◌, ℕ, List, ◌++◌, codes, map, option_map}
+use Rattle.std.specs.Prelude.{◌≡◌, ℕ, Bool, true, List, [], ◌∷◌, ◌++◌, codes, map, option_map}
+use Rattle.serde_json.specs.Written.{comma_if}
 use Rattle.cs_value.specs.Tree.{Tree, text}
 use Rattle.cs_value.specs.View.{tree}
 use Rattle.cs_json.specs.Nodes.{node_tree}
@@ -108,3 +109,16 @@ before_answer line name =
     codes "{\"line\":" ++ json_text (number line)
     ++ codes ",\"live\":" ++ json_text (text name)
     ++ codes ",\"result\":"
+
+-- what stands before that which a query found, in the reply with it. For private clauses
+abbrev pub before_result : ℕ → List ℕ
+before_result line = codes "{\"line\":" ++ json_text (number line) ++ codes ",\"result\":"
+
+-- the text of an attribute, and the texts of several with commas between them and the bracket
+-- behind them. For private clauses
+abbrev pub member_text : List ℕ × Tree → List ℕ
+member_text m = json_text (text m.0) ++ 58 ∷ json_text m.1
+
+abbrev pub members_joined : Bool → List (List ℕ × Tree) → List ℕ
+members_joined later [] = 125 ∷ []
+members_joined later (m ∷ ms) = comma_if later ++ (member_text m ++ members_joined true ms)

@@ -6,9 +6,9 @@ ghost use Rattle.cs_json.specs.Text.{items_joined, json_text};
 ghost use Rattle.cs_reply.specs.Reply.{committed, reply_tree, outcome as outcome_tree};
 ghost use Rattle.cs_reply.specs.View.{Appended, outcome};
 
-use crate::line::number;
+use crate::line::write_number;
 use crate::reply::Outcome;
-use cs_json::{write_node, write_text};
+use cs_json::write_text;
 use cs_value::NoMemory;
 use std::alloc::Global;
 
@@ -70,7 +70,7 @@ pub(crate) fn write_committed(
         (reply_tree line (committed tx.now (map outcome outcomes.now)))) }
 {
     out.extend_from_slice(b"{\"line\":")?;
-    write_node(alloc, &number(line), out)?;
+    write_number(line, out)?;
     out.extend_from_slice(b",\"results\":[")?;
     write_outcomes(alloc, outcomes, out)?;
     out.extend_from_slice(b",\"transactionId\":")?;

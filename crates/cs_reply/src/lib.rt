@@ -4,6 +4,7 @@
 
 mod committed;
 mod event;
+mod found;
 mod line;
 mod live;
 mod refusal;

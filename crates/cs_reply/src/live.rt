@@ -5,8 +5,8 @@ ghost use Rattle.cs_json.specs.Text.{json_text};
 ghost use Rattle.cs_reply.specs.Reply.{live, reply_tree};
 ghost use Rattle.cs_reply.specs.View.{Appended, before_answer};
 
-use crate::line::number;
-use cs_json::{write_node, write_text};
+use crate::line::write_number;
+use cs_json::write_text;
 use cs_value::NoMemory;
 use std::alloc::Global;
 
@@ -20,7 +20,7 @@ fn write_before_answer(
     ensures { OnOk result (out.new.items ≡ out.old.items ++ before_answer line name.now) }
 {
     out.extend_from_slice(b"{\"line\":")?;
-    write_node(alloc, &number(line), out)?;
+    write_number(line, out)?;
     out.extend_from_slice(b",\"live\":")?;
     write_text(alloc, name, out)?;
     Ok(out.extend_from_slice(b",\"result\":")?)

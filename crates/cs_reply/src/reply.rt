@@ -6,6 +6,7 @@ ghost use Rattle.cs_reply.specs.View.{operation, reply, Appended};
 
 use crate::committed::write_committed;
 use crate::event::{Event, write_event};
+use crate::found::write_found;
 use crate::line::{member, number, text, write_line};
 use crate::refusal::Refusal;
 use cs_json::Node;
@@ -67,14 +68,6 @@ pub enum Reply<'a> {
     Refused(Refusal<'a>),
 }
 
-fn write_found(alloc: Global, node: Node<'_>, line: u32, out: &mut Vec<u8>) -> Result<(), NoMemory>
-    ensures { OnOk result (Appended out.old.items out.new.items
-        (reply_tree line (found (node_tree node.entry)))) }
-{
-    let members = vec![in alloc; member("line", number(line)), member("result", node)]?;
-    write_line(alloc, members, out)
-}
-
 fn write_welcome(alloc: Global, name: &str, line: u32, out: &mut Vec<u8>) -> Result<(), NoMemory>
     ensures { OnOk result (Appended out.old.items out.new.items
         (reply_tree line (welcome name.now))) }
@@ -112,7 +105,7 @@ impl Reply<'_> {
     {
         match self {
             Reply::Committed { tx, outcomes } => write_committed(alloc, tx, outcomes, line, out),
-            Reply::Found(node) => write_found(alloc, node, line, out),
+            Reply::Found(node) => write_found(alloc, &node, line, out),
             Reply::Welcome(name) => write_welcome(alloc, name, line, out),
             Reply::Heard(event) => write_event(alloc, event, line, out),
             Reply::Stopped(name) => write_stopped(alloc, name, line, out),

@@ -16,7 +16,7 @@ returns c =
     c.in_ok-extend_from_slice-4.ensures.items
     ∙ ap (λ l. l ++ 125 ∷ 10 ∷ []) (c.in_ok-write_text.ensures ∙ ap (λ l. l ++ tx) (c.in_ok-extend_from_slice-3.ensures.items
     ∙ ap (λ l. l ++ d) (c.in_ok-write_outcomes.ensures ∙ ap (λ l. l ++ all) (c.in_ok-extend_from_slice-2.ensures.items
-    ∙ ap (λ l. l ++ b) (c.in_ok-write_node.ensures.appended ∙ (λ i. c.in_ok-extend_from_slice.ensures.items i ++ json_text (c.number.ensures i)))))))
+    ∙ ap (λ l. l ++ b) (c.in_ok-write_number.ensures ∙ (λ i. c.in_ok-extend_from_slice.ensures.items i ++ json_text (number c.args.line)))))))
     ∙ line-ends out a n b all d tx
     ∙ ap (λ ts. out ++ ((a ++ (n ++ (b ++ (items_joined false ts ++ (d ++ (tx ++ 125 ∷ [])))))) ++ 10 ∷ [])) (map-both (λ o. json_text (outcome_tree o)) outcome os)
     ∙ ap (λ l. out ++ (l ++ 10 ∷ [])) (sym (committed-text c.args.line c.args.tx.now (map outcome os)))
