@@ -43,9 +43,29 @@ pub fn expression_from(
     left_run(alloc, Level::Or, conjoined, ts, rest)
 }
 
-// The operators of a level that groups from the left, behind the first operand.
+// The operators of a level that groups from the left, behind the first operand. Most often there
+// are none, and then nothing is made ready for them.
 #[cycle(descent)]
 fn left_run(
+    alloc: Global,
+    level: Level,
+    first: Box<Expr>,
+    ts: &Tokens<'_>,
+    at: usize,
+) -> Result<(Box<Expr>, usize), GrammarFault>
+    requires { at ≤ length ts.now }
+    ensures read { Answers (run_from level (expression first.value) []) ts.now at result }
+    ensures shorter { IfOk result (λ x. (at ≤ x.1) × (x.1 ≤ length ts.now)) }
+{
+    match ts.operator(at, level) {
+        Some(_) => run(alloc, level, first, ts, at),
+        None => Ok((first, at)),
+    }
+}
+
+// The operators one after the other.
+#[cycle(descent)]
+fn run(
     alloc: Global,
     level: Level,
     first: Box<Expr>,

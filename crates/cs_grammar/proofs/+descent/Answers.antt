@@ -1,4 +1,4 @@
-use Rattle.std.proofs.Common.{[], List, Option, ℕ, ap, arith, length, refl, subst, sym, unwrap_or, ◌++◌, ◌<◌, ◌∙◌, ◌∷◌, ◌≤◌}
+use Rattle.std.proofs.Common.{[], List, Option, ℕ, ap, arith, length, refl, subst, sym, unwrap_or, ◌++◌, ◌<◌, ◌∙◌, ◌∷◌, ◌≤◌, option_map}
 use Rattle.cs_grammar.proofs.Given.{by_call, by_const, by_none, by_some, by_step}
 use Rattle.cs_grammar.proofs.Steps.{reads_array, reads_cmp, reads_cmp_end, reads_cmp_fail, reads_cmp_op, reads_cmp_op_fail, reads_conjunction, reads_conjunction_fail, reads_everything, reads_expr, reads_expr_fail, reads_expr_from, reads_expr_from_and_fail, reads_expr_from_cmp_fail, reads_in, reads_in_fail, reads_link, reads_link_fail, reads_match, reads_match_fail, reads_minus, reads_name_alone, reads_name_open, reads_neg, reads_neg_fail, reads_nothing, reads_number, reads_object, reads_param, reads_parent, reads_pow, reads_pow_end, reads_pow_fail, reads_pre, reads_pre_fail, reads_prefix, reads_product, reads_product_fail, reads_range, reads_range_fail, reads_round, reads_round_fail, reads_round_open, reads_run, reads_run_end, reads_run_operand_fail, reads_stars, reads_stars_fail, reads_sum, reads_sum_fail, reads_text, reads_this, reads_word}
 use Rattle.cs_grammar.proofs.StepsInside.{reads_arg, reads_arg_comma, reads_arg_fail, reads_args_close, reads_args_open, reads_argument, reads_array_close, reads_array_open, reads_arrow, reads_attr, reads_attr_fail, reads_bracket, reads_bracket_fail, reads_bracket_open, reads_each, reads_element, reads_element_comma, reads_element_fail, reads_elements_close, reads_entries_close, reads_entry, reads_entry_comma, reads_entry_fail, reads_key, reads_key_asc, reads_key_comma, reads_key_desc, reads_key_fail, reads_keys_close, reads_keys_open, reads_object_close, reads_object_open, reads_pipe, reads_piped_projection, reads_piped_projection_fail, reads_projection, reads_projection_fail, reads_slice, reads_slice_fail, reads_slice_open, reads_spread, reads_spread_element, reads_spread_element_fail, reads_spread_fail, reads_spread_this_close, reads_spread_this_comma, reads_square, reads_square_fail, reads_steps_end, reads_when, reads_when_argument, reads_when_argument_fail, reads_when_fail}
@@ -732,8 +732,12 @@ operators::expression_from-returns-clause-read t c =
     (λ o n. reads_expr_from c.in_ok-compared.ensures.read c.in_ok-conjoined.ensures.read n)
     c.left_run-2.ensures.read
 
-pub operators::left_run-loop-sign-init : goal.operators::left_run-loop-sign-init
-operators::left_run-loop-sign-init t c =
+pub operators::left_run-returns-in-None-clause-read : goal.operators::left_run-returns-in-None-clause-read
+operators::left_run-returns-in-None-clause-read t c =
+    reads_run_end (sym c.operator.ensures.same ∙ ap (λ o. option_map (λ x. (x.0, left c.args.ts.now x.1)) o) c.in-None.is)
+
+pub operators::run-loop-sign-init : goal.operators::run-loop-sign-init
+operators::run-loop-sign-init t c =
     record {
       from = omega arith;
       to = c.requires;
@@ -742,14 +746,14 @@ operators::left_run-loop-sign-init t c =
           ∙ operands_none) h;
     }
 
-pub operators::left_run-returns-in_err-next-clause-read : goal.operators::left_run-returns-in_err-next-clause-read
-operators::left_run-returns-in_err-next-clause-read t c =
+pub operators::run-returns-in_err-next-clause-read : goal.operators::run-returns-in_err-next-clause-read
+operators::run-returns-in_err-next-clause-read t c =
     passed _ _ c.in_err-next.field-0.0 c.from_residual.ensures.1
     (λ n. c.loop-sign.invariant.reads _
     (reads_run_operand_fail (sym c.in-Some.ensures.same) n)) c.in_err-next.ensures.read
 
-pub operators::left_run-loop-sign-preserved : goal.operators::left_run-loop-sign-preserved
-operators::left_run-loop-sign-preserved t c =
+pub operators::run-loop-sign-preserved : goal.operators::run-loop-sign-preserved
+operators::run-loop-sign-preserved t c =
     record {
       from = omega (arith, c.in_ok-next.ensures.shorter.0, c.in-Some.ensures.next.0);
       to = c.in_ok-next.ensures.shorter.1;
@@ -760,8 +764,8 @@ operators::left_run-loop-sign-preserved t c =
           (operands_pushed _ _ c.in_ok-push.ensures.items c.into_inner.ensures) h));
     }
 
-pub operators::left_run-returns-clause-read : goal.operators::left_run-returns-clause-read
-operators::left_run-returns-clause-read t c =
+pub operators::run-returns-clause-read : goal.operators::run-returns-clause-read
+operators::run-returns-clause-read t c =
     got_as c.in_ok-run.ensures
     (c.loop-sign.invariant.reads _ (reads_run_end (sym c.in_default.ensures.same)))
 

@@ -73,7 +73,7 @@ abbrev pub decreases-operators::expression_from : goal.decreases-operators::expr
 decreases-operators::expression_from l = 16 * (length l.ts.now - l.at) + 2
 
 abbrev pub decreases-operators::left_run : goal.decreases-operators::left_run
-decreases-operators::left_run l = 16 * (length l.ts.now - l.at)
+decreases-operators::left_run l = 16 * (length l.ts.now - l.at) + 1
 
 abbrev pub decreases-operators::negation : goal.decreases-operators::negation
 decreases-operators::negation l = 16 * (length l.ts.now - l.at) + 4
@@ -89,6 +89,9 @@ decreases-operators::prefixed l = 16 * (length l.ts.now - l.at) + 2
 
 abbrev pub decreases-operators::product : goal.decreases-operators::product
 decreases-operators::product l = 16 * (length l.ts.now - l.at) + 5
+
+abbrev pub decreases-operators::run : goal.decreases-operators::run
+decreases-operators::run l = 16 * (length l.ts.now - l.at)
 
 abbrev pub decreases-operators::sum : goal.decreases-operators::sum
 decreases-operators::sum l = 16 * (length l.ts.now - l.at) + 6
@@ -147,8 +150,8 @@ invariant-objects::entries-loop-rest l = record {
 abbrev pub decreases-objects::entries-loop-rest : goal.decreases-objects::entries-loop-rest
 decreases-objects::entries-loop-rest l = length l.ts - l.left
 
-abbrev pub invariant-operators::left_run-loop-sign : goal.invariant-operators::left_run-loop-sign
-invariant-operators::left_run-loop-sign l = record {
+abbrev pub invariant-operators::run-loop-sign : goal.invariant-operators::run-loop-sign
+invariant-operators::run-loop-sign l = record {
   from : l.at ≤ l.left;
   to : l.left ≤ length l.ts;
   reads : (o : Outcome) →
@@ -157,8 +160,8 @@ invariant-operators::left_run-loop-sign l = record {
       Reads (run_from l.level (expression l.first.value) []) (left l.ts l.at) o;
 }
 
-abbrev pub decreases-operators::left_run-loop-sign : goal.decreases-operators::left_run-loop-sign
-decreases-operators::left_run-loop-sign l = length l.ts - l.left
+abbrev pub decreases-operators::run-loop-sign : goal.decreases-operators::run-loop-sign
+decreases-operators::run-loop-sign l = length l.ts - l.left
 
 abbrev pub invariant-operators::negation-loop-rest : goal.invariant-operators::negation-loop-rest
 invariant-operators::negation-loop-rest l = record {
