@@ -1,6 +1,6 @@
 -- A simple query by its parts.
 use Rattle.std.proofs.Common.{◌≡◌, ◌≤◌, ◌+◌, ℕ, List, [], ◌∷◌, map, length, sym, ap, ◌∙◌, Vec, Box, Global, refl, true, false, true≢false, cond, Bool, IfNone, arith}
-use Rattle.std.specs.Prelude.{filter, IfSome}
+use Rattle.std.specs.Prelude.{filter}
 use Rattle.std.proofs.Common.{Option, None, Some}
 use Rattle.cs_value.specs.Words.{list_of}
 use Rattle.cs_value.specs.Tree.{Tree, null, Pairs}
@@ -81,10 +81,6 @@ simple_visits docs params scope e f later before after is root few =
     let all : length (having (key_in f scope params) docs) ≡ cost e params docs =
     ap (λ (k : Key). length (having k docs)) (is_key params scope e f later (key_in f scope params) is root refl) in
     omega (arith, few, all_fewer docs params f scope, all)
-
-pub some_then : {A : Type 0} (r : Option A) {P Q : A → Type 0} → ((x : A) → P x → Q x) → IfSome r P → IfSome r Q
-some_then None f h = tt
-some_then (Some x) f h = f x h
 
 pub none_then : {A : Type 0} (r : Option A) {P Q : Type 0} → (P → Q) → IfNone r P → IfNone r Q
 none_then None f h = f h

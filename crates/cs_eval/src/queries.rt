@@ -20,7 +20,7 @@ ghost use Rattle.cs_window.specs.Windowed.{is_filtered};
 
 use cs_expr::{enter, eval as evaluate, holds, keep_lent, pipes};
 use cs_parts::{Got, NoDocs, Source, head_filter, kinds, push};
-use cs_plan::{choose, filter_keys, simple};
+use cs_plan::{choose, filter_keys, first_by_kind, simple};
 use cs_syntax::{Expr, Query, Step};
 use cs_value::{Fields, NoMemory, Steps, Val};
 use cs_view::{Doc, Key, Record, Scope, View};
@@ -317,6 +317,6 @@ fn simple_value<'s, V: View<L>, L: Ledger>(
     };
     let all = filter_keys(alloc, condition, frame, params)?;
     let found = Source::<Steps<L>>::select_all(view, alloc, &all, count)?;
-    keys.add(choose(alloc, condition, frame, params)?)?;
+    keys.add(first_by_kind(all))?;
     tail_of_hits(alloc, condition, later, frame, params, found)
 }

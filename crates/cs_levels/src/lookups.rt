@@ -7,7 +7,7 @@ ghost use Rattle.cs_plan.specs.Filters.{key_in};
 ghost use Rattle.cs_levels.specs.Tried.{tried};
 
 use cs_parts::Source;
-use cs_plan::{choose, filter_keys, is_quiet};
+use cs_plan::{choose, filter_keys, first_by_kind, is_quiet};
 use cs_syntax::Expr;
 use cs_value::{Fields, NoMemory, Val};
 use cs_view::{Record, Scope};
@@ -29,13 +29,14 @@ pub fn look_up<'s, S: Source<C>, C>(
     ensures keys { OnOk result (keys.new ≡ keys.old ++ key_in (expression condition.now) (scope_of
         frame.now) (fields params.now) ∷ []) }
 {
-    let key = choose(alloc, condition, frame, params)?;
-    let found = if is_quiet(condition) {
+    if is_quiet(condition) {
         let all = filter_keys(alloc, condition, frame, params)?;
-        source.select_all(alloc, &all, count)?
-    } else {
-        source.select(alloc, &key, count)?
-    };
+        let found = source.select_all(alloc, &all, count)?;
+        keys.add(first_by_kind(all))?;
+        return Ok(found);
+    }
+    let key = choose(alloc, condition, frame, params)?;
+    let found = source.select(alloc, &key, count)?;
     keys.add(key)?;
     Ok(found)
 }

@@ -150,10 +150,6 @@ keys_of_other e rest scope params h =
     ap (keys_given scope params) (untaken (all_and rest) _ _ h)
     ∙ one_key (conjunct_key (run e rest) scope params)
 
-fold_both : (k : Key) (xs ys : List Key) → fold picked k (xs ++ ys) ≡ fold picked (fold picked k xs) ys
-fold_both k [] ys = refl
-fold_both k (x ∷ xs) ys = fold_both (picked k x) xs ys
-
 pub given_both : (scope : List Tree) (params : Pairs) (xs ys : List Expression)
     → keys_given scope params (xs ++ ys) ≡ keys_given scope params xs ++ keys_given scope params ys
 given_both scope params [] ys = refl
@@ -176,15 +172,3 @@ given_in_run ks0 ks1 ks2 e whole rest scope params first second all is =
     (sym (given_both scope params (conjuncts e) (operand_conjuncts rest))
     ∙ sym (keys_of_run e rest scope params all)
     ∙ ap (λ (x : Expression). given (conjuncts x)) (sym is))
-
--- the best of the keys of two lists of conjuncts is found one list after the other
-pub fold_given : (k : Key) (scope : List Tree) (params : Pairs) (xs ys : List Expression)
-    → fold picked k (keys_given scope params (xs ++ ys))
-    ≡ fold picked (fold picked k (keys_given scope params xs)) (keys_given scope params ys)
-fold_given k scope params xs ys =
-    ap (fold picked k) (given_both scope params xs ys)
-    ∙ fold_both k (keys_given scope params xs) (keys_given scope params ys)
-
-pub fold_one : (k : Key) (o : Option Key)
-    → fold picked k (option_to_list o ++ []) ≡ fold picked k (option_to_list o)
-fold_one k o = ap (fold picked k) (one_key o)

@@ -133,7 +133,11 @@ abbrev pub first_or_all : List Key → Key
 first_or_all [] = All
 first_or_all (k ∷ ks) = k
 
--- The key of a filter, in the scope in which its chain stands: the leftmost of the first kind that
--- some conjunct gives; `All` where none gives one.
+-- The leftmost of the first kind that is among the keys; `All` where there is none.
+abbrev pub first_by_kind : List Key → Key
+first_by_kind ks = first_or_all (by_kind ks)
+
+-- The key of a filter, in the scope in which its chain stands: the first by kind of those that it
+-- gives.
 abbrev pub key_in : Expression → List Tree → Pairs → Key
-key_in e scope params = first_or_all (by_kind (filter_keys e scope params))
+key_in e scope params = first_by_kind (filter_keys e scope params)

@@ -14,7 +14,6 @@ scalar_lent (of.Num n) = scalar.Num n
 scalar_lent (of.Text t) = scalar.Text t.now
 
 abbrev pub key_lent : LentKey → Key
-key_lent lent.All = key.All
 key_lent (lent.Id t) = key.Id t.now
 key_lent (lent.Path names s) = key.Path names (scalar_lent s)
 key_lent (lent.Elem names s) = key.Elem names (scalar_lent s)

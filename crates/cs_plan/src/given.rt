@@ -1,19 +1,33 @@
 //! All keys of a filter: those that its conjuncts give.
 ghost use Rattle.std.specs.Prelude.{◌≡◌, ◌++◌, IfOk, OnOk, option_map, option_to_list};
-ghost use Rattle.cs_plan.specs.Filters.{conjuncts, operand_conjuncts, keys_given, filter_keys};
+ghost use Rattle.cs_plan.specs.Filters.{all_and, conjuncts, operand_conjuncts, keys_given, filter_keys};
 ghost use Rattle.cs_plan.specs.Lent.{key_lent};
 ghost use Rattle.cs_syntax.specs.Expression.{operands_of};
 ghost use Rattle.cs_syntax.specs.View.{expression, operands};
 ghost use Rattle.cs_value.specs.View.{fields};
 ghost use Rattle.cs_view.specs.Scopes.{scope_of};
 
-use crate::choice::all_and;
 use crate::conjuncts::conjunct;
 use crate::lent::LentKey;
 use cs_syntax::{BinSign, Expr};
 use cs_value::{Fields, NoMemory};
 use cs_view::{Key, Scope};
 use std::alloc::Global;
+
+// Whether the operators are `&&` alone.
+#[tactic(auto, unfolding(cs_syntax::specs::View::operands))]
+fn all_and(rest: &[(BinSign, Expr)]) -> bool
+    ensures { result ≡ all_and (operands_of (operands rest.now)) }
+{
+    let mut left = rest;
+    while let Some((operand, later)) = left.split_first() {
+        match operand.0 {
+            BinSign::And => left = later,
+            _ => return false,
+        }
+    }
+    true
+}
 
 // Puts a copy of the key last, if there is one.
 fn push_copy(alloc: Global, key: Option<LentKey<'_>>, keys: &mut Vec<Key>) -> Result<(), NoMemory>

@@ -1,8 +1,6 @@
-//! Keys and scalars that borrow their texts from the filter, the scope and the parameters, so that
-//! only the key that is answered is copied.
+//! Keys and scalars that borrow their texts from the filter, the scope and the parameters.
 ghost use Rattle.std.specs.Prelude.{◌≡◌, IfOk};
 ghost use Rattle.cs_plan.specs.Lent.{key_lent, scalar_lent};
-ghost use Rattle.cs_plan.specs.Picked.{rank};
 
 use crate::paths::LentNames;
 use cs_value::{NoMemory, Txt};
@@ -33,7 +31,6 @@ impl<'f> LentScalar<'f> {
 /// A [`Key`] whose texts and names are borrowed.
 #[derive(Drop)]
 pub(crate) enum LentKey<'f> {
-    All,
     Id(&'f str),
     Path(LentNames<'f>, LentScalar<'f>),
     Elem(LentNames<'f>, LentScalar<'f>),
@@ -41,25 +38,11 @@ pub(crate) enum LentKey<'f> {
 }
 
 impl<'f> LentKey<'f> {
-    /// The place of the key's kind in the order in which kinds count.
-    pub(crate) fn rank(&self) -> u8
-        ensures { result ≡ rank (key_lent self.now) }
-    {
-        match self {
-            LentKey::Id(_) => 0,
-            LentKey::Ref(_) => 1,
-            LentKey::Path(_, _) => 2,
-            LentKey::Elem(_, _) => 3,
-            LentKey::All => 4,
-        }
-    }
-
     /// The key with texts of its own.
     pub(crate) fn copied(self, alloc: Global) -> Result<Key, NoMemory>
         ensures { IfOk result (λ k. k ≡ key_lent self.entry) }
     {
         match self {
-            LentKey::All => Ok(Key::All),
             LentKey::Id(id) => Ok(Key::Id(Txt::copy_of(alloc, id)?)),
             LentKey::Ref(target) => Ok(Key::Ref(Txt::copy_of(alloc, target)?)),
             LentKey::Path(names, scalar) => {

@@ -14,7 +14,7 @@ mod scopes;
 mod steps;
 mod tails;
 
-pub use choice::choose;
+pub use choice::{choose, first_by_kind};
 pub use given::filter_keys;
 pub use numbers::{literal, negative_of};
 pub use quiet::is_quiet;

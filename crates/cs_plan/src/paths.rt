@@ -79,7 +79,7 @@ fn copied_names(alloc: Global, word: &Txt, steps: &[Step]) -> Result<Names, NoMe
     ensures { IfOk result (λ names. names
         ≡ path_names word.now (steps_of (map step_of steps.now))) }
 {
-    let mut texts = Vec::new(alloc);
+    let mut texts = Vec::with_capacity(alloc, 1 + steps.len())?;
     texts.push(word.copy(alloc)?)?;
     let mut left = steps;
     while let Some((step, later)) = left.split_first() {
