@@ -3,7 +3,7 @@ ghost use Rattle.std.specs.Prelude.{◌≡◌, ◌∷◌, [], List, IfSome, map,
 ghost use Rattle.std.specs.List.{list_any};
 ghost use Rattle.cs_value.specs.Tree.{Tree};
 ghost use Rattle.cs_value.specs.View.{fields};
-ghost use Rattle.cs_syntax.specs.Expression.{operands_of, arguments_of, elements_of, steps_of, call as call_node, chain as chain_node};
+ghost use Rattle.cs_syntax.specs.Expression.{operands_of, arguments_of, elements_of, steps_of, call as call_node, chain as chain_node, prefix as prefix_node};
 ghost use Rattle.cs_syntax.specs.View.{expression, operands, argument_of, element_of, step_of};
 ghost use Rattle.cs_view.specs.Scopes.{scope_of};
 ghost use Rattle.cs_ops.specs.Equal.{equal};
@@ -23,7 +23,7 @@ use cs_meaning::looked_settles_value;
 use cs_operand::Operand;
 use cs_parts::gives_array;
 use cs_plan::up;
-use cs_syntax::{Arg, BinSign, Elem, Expr, Step};
+use cs_syntax::{Arg, BinSign, Elem, Expr, PreSign, Step};
 use cs_value::Fields;
 use cs_view::Scope;
 
@@ -60,7 +60,7 @@ fn evaluate<'s>(expr: &'s Expr, frame: &Scope<'s>, params: &'s Fields) -> Option
         Expr::Round(inner) => evaluate(inner, frame, params),
         Expr::Call { name, args } => call(name.as_str(), args, frame, params),
         Expr::Chain { base, steps } => chain(base, steps, frame, params),
-        Expr::Prefix { signs, operand } => signed(signs, evaluate(operand, frame, params)?),
+        Expr::Prefix { signs, operand } => prefixed(signs, operand, frame, params),
         Expr::Run { first, rest } => run(rest, evaluate(first, frame, params)?, frame, params),
         Expr::Within { left, right } => {
             let here = evaluate(left, frame, params)?;
@@ -79,6 +79,22 @@ fn evaluate<'s>(expr: &'s Expr, frame: &Scope<'s>, params: &'s Fields) -> Option
         }
         Expr::All | Expr::Array(_) | Expr::Object(_) => None,
     }
+}
+
+// Signs in front of an operand.
+#[cycle(evaluate)]
+fn prefixed<'s>(
+    signs: &[PreSign],
+    inner: &'s Expr,
+    frame: &Scope<'s>,
+    params: &'s Fields,
+) -> Option<Operand<'s>>
+    ensures value { IfSome result (λ o. operand o ≡ value_of [] (fields params.now)
+        (prefix_node signs.now (expression inner.now)) (scope_of frame.now)) }
+    ensures quiet { IfSome result (λ _. looked [] (fields params.now)
+        (prefix_node signs.now (expression inner.now)) (scope_of frame.now) ≡ []) }
+{
+    signed(signs, evaluate(inner, frame, params)?)
 }
 
 // Operators of one level from the left.

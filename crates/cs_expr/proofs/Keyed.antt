@@ -1,6 +1,5 @@
 -- The keys of an order at their places, and elements that are none of the first.
-use Rattle.std.proofs.Common.{◌≡◌, ◌∙◌, ℕ, zero, suc, ◌<◌, List, [], ◌∷◌, ◌++◌, map, length, get_or, refl, sym, ap, subst, Bool, true, false, ◌+◌, ◌≤◌, is_lt, not, Option, Some, None, arith}
-use Rattle.std.specs.Prelude.{IfSome}
+use Rattle.std.proofs.Common.{◌≡◌, ◌∙◌, ℕ, zero, suc, ◌<◌, List, [], ◌∷◌, ◌++◌, map, length, get_or, refl, sym, ap, subst, Bool, true, false, ◌+◌, ◌≤◌, is_lt, Option, Some, None, arith}
 use Rattle.cs_value.specs.Tree.{Tree, null, Pairs}
 use Rattle.cs_syntax.specs.Expression.{OrderKeys, no_keys, more_keys, order_key, keys_of}
 use Rattle.cs_syntax.specs.View.{expression, order_key_of}
@@ -32,17 +31,9 @@ keys_quiet law docs params (more_keys (order_key e descending) ks) scope q =
     ap (λ (xs : List Key). xs ++ keys_looked docs params ks scope) ((law e params scope docs docs (and-left (is_quiet e) (quiet_keys ks) q)).0)
     ∙ keys_quiet law docs params ks scope (and-right (is_quiet e) (quiet_keys ks) q)
 
-pub some_then : {A : Type 0} (o : Option A) {P Q : A → Type 0} → ((x : A) → P x → Q x) → IfSome o P → IfSome o Q
-some_then (Some x) f h = f x h
-some_then None f h = tt
-
 -- with all places taken, an element that does not stand before the last changes nothing
 pub none_of_first : (ds : List Bool) (limit : Option ℕ) (k n : ℕ) (xs : List Ranked) (one last : Ranked) → limit ≡ Some k → CanKeep ds limit xs → n + 1 ≡ length xs → k ≤ length xs
     → is_lt (by_keys ds one.by (get_or xs n last).by) ≡ false → kept ds limit one xs ≡ xs
 none_of_first ds limit k n xs one last is can long full h =
     ap (λ (o : Option ℕ). kept ds o one xs) is
     ∙ past_last ds k n xs one last (subst (λ (o : Option ℕ). CanKeep ds o xs) is can) long full h
-
-pub not_true : (b : Bool) → not b ≡ true → b ≡ false
-not_true true h = sym h
-not_true false h = refl

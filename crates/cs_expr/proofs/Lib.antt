@@ -8,3 +8,4 @@ pub mod Nodes
 pub mod Sets
 pub mod Sorting
 pub mod Starting
+pub mod Trails

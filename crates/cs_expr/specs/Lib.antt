@@ -2,4 +2,5 @@ pub mod Choosing
 pub mod Fits
 pub mod Starts
 pub mod Stops
+pub mod Trail
 pub mod Weight

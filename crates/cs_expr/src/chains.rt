@@ -1,9 +1,10 @@
 //! Chains: how steps are joined, over the values that their bases give.
-ghost use Rattle.std.specs.Prelude.{◌≡◌, ◌++◌, IfOk, OnOk, map, flat_map};
+ghost use Rattle.std.specs.Prelude.{◌≡◌, ◌++◌, IfOk, OnOk, map, flat_map, true, false};
 ghost use Rattle.cs_value.specs.View.{fields};
 ghost use Rattle.cs_syntax.specs.Expression.{steps_of};
 ghost use Rattle.cs_syntax.specs.View.{expression, step_of};
 ghost use Rattle.cs_view.specs.Scopes.{scope_of};
+ghost use Rattle.cs_meaning.specs.Joining.{gives_array};
 ghost use Rattle.cs_meaning.specs.Values.{pipes_value, step_value};
 ghost use Rattle.cs_meaning.specs.Looked.{rest_looked, pipes_looked, step_looked};
 ghost use Rattle.cs_parts.specs.Parts.{got, item};
@@ -12,10 +13,12 @@ ghost use Rattle.cs_expr.specs.Fits.{ReachedFits, reached_weight};
 ghost use Rattle.cs_expr.specs.Stops.{is_whole, stop, stop_value, stop_looked, stopped};
 ghost use Rattle.cs_expr.specs.Weight.{steps_weight};
 ghost use Rattle.cs_levels.specs.Nodes.{steps_in};
+ghost use Rattle.cs_expr.specs.Trail.{is_trail};
 ghost use Rattle.cs_expr.specs.Starts.{start_value, start_looked, enter_value, enter_looked, once, once_looked};
 
 use crate::expressions::eval;
 use crate::steps::{keep_lent, one_step, ordered};
+use crate::trail::{follow, is_trail};
 use cs_levels::{
     Reached, Remaining, Task, base_entrance, entering, filter_of_all, look_up, next_pipe,
     next_task, push_got,
@@ -23,16 +26,72 @@ use cs_levels::{
 use cs_order::first_asked;
 use cs_parts::{
     Entrance, Got, Item, Kind, Source, Way, behind, elements, ends, entrance_of, first_kind,
-    form_of, gather, is_over, kinds, turn, way_of,
+    form_of, gather, gives_array, is_over, kinds, turn, way_of,
 };
 use cs_syntax::{Expr, Step};
 use cs_value::{Fields, NoMemory, Val};
 use cs_view::{Record, Scope};
 use std::alloc::Global;
 
-// A base and its steps. The kinds of all rests are found once.
+// A base and its steps.
 #[cycle(eval)]
 pub(crate) fn chain<'s, S: Source<C>, C>(
+    alloc: Global,
+    base: &'s Expr,
+    steps: &'s [Step],
+    frame: &Scope<'s>,
+    params: &'s Fields,
+    source: &'s S,
+    keys: &mut Record,
+    count: &mut C,
+) -> Result<Got<'s>, NoMemory>
+    ensures value { IfOk result (λ g. got g ≡ pipes_value (S.docs source.now) (fields params.now)
+        (steps_of (map step_of steps.now)) (scope_of frame.now) (start_value (S.docs source.now)
+        (fields params.now) (expression base.now) (steps_of (map step_of steps.now)) (scope_of
+        frame.now))) }
+    ensures keys { OnOk result (keys.new ≡ keys.old ++ (start_looked (S.docs source.now) (fields
+        params.now) (expression base.now) (steps_of (map step_of steps.now)) (scope_of frame.now) ++
+        pipes_looked (S.docs source.now) (fields params.now) (steps_of (map step_of steps.now))
+        (scope_of frame.now) (start_value (S.docs source.now) (fields params.now) (expression
+        base.now) (steps_of (map step_of steps.now)) (scope_of frame.now)))) }
+{
+    if is_trail(steps) && !gives_array(base) {
+        return trail(alloc, base, steps, frame, params, source, keys, count);
+    }
+    joined(alloc, base, steps, frame, params, source, keys, count)
+}
+
+// A base that gives no array, with names and dereferences behind it.
+#[cycle(eval)]
+fn trail<'s, S: Source<C>, C>(
+    alloc: Global,
+    base: &'s Expr,
+    steps: &'s [Step],
+    frame: &Scope<'s>,
+    params: &'s Fields,
+    source: &'s S,
+    keys: &mut Record,
+    count: &mut C,
+) -> Result<Got<'s>, NoMemory>
+    requires trail { is_trail (steps_of (map step_of steps.now)) ≡ true }
+    requires single { gives_array (expression base.now) ≡ false }
+    ensures value { IfOk result (λ g. got g ≡ pipes_value (S.docs source.now) (fields params.now)
+        (steps_of (map step_of steps.now)) (scope_of frame.now) (start_value (S.docs source.now)
+        (fields params.now) (expression base.now) (steps_of (map step_of steps.now)) (scope_of
+        frame.now))) }
+    ensures keys { OnOk result (keys.new ≡ keys.old ++ (start_looked (S.docs source.now) (fields
+        params.now) (expression base.now) (steps_of (map step_of steps.now)) (scope_of frame.now) ++
+        pipes_looked (S.docs source.now) (fields params.now) (steps_of (map step_of steps.now))
+        (scope_of frame.now) (start_value (S.docs source.now) (fields params.now) (expression
+        base.now) (steps_of (map step_of steps.now)) (scope_of frame.now)))) }
+{
+    let value = eval(alloc, base, frame, params, source, keys, count)?;
+    follow(alloc, steps, source, value, keys, count)
+}
+
+// Any base and steps. The kinds of all rests are found once.
+#[cycle(eval)]
+fn joined<'s, S: Source<C>, C>(
     alloc: Global,
     base: &'s Expr,
     steps: &'s [Step],

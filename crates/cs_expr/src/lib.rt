@@ -6,6 +6,7 @@ mod chains;
 mod expressions;
 mod past;
 mod steps;
+mod trail;
 
 pub use chains::{enter, pipes};
 pub use expressions::eval;

@@ -63,8 +63,8 @@ fn compare_in_scope<'s>(
     let mut place = 0;
     while let Some((descending, later)) = left.split_first() {
         let part = part_at(order, place, frame)?;
-        let one = compare_keys(*descending, Some(part), key_at(bound, place));
-        match one {
+        let found = compare_keys(*descending, Some(part), key_at(bound, place));
+        match found {
             Ordering::Less => return Some(Ordering::Less),
             Ordering::Greater => return Some(Ordering::Greater),
             Ordering::Equal => {}

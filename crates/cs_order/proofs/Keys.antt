@@ -1,5 +1,7 @@
 -- The keys at a place, and those behind it.
-use Rattle.std.proofs.Common.{◌≡◌, ℕ, zero, suc, ◌+◌, ◌<◌, List, [], ◌∷◌, map, length, get_or, drop, refl, sym, ap, ◌∙◌, Bool, Ordering, arith}
+use Rattle.std.proofs.Common.{◌≡◌, ℕ, zero, suc, ◌+◌, ◌<◌, List, [], ◌∷◌, map, length, get_or, drop, refl, sym, ap, ◌∙◌, Bool, Ordering, Option, Some, None, option_map, arith}
+use Rattle.std.specs.Prelude.{slice_get, unwrap_or}
+use Rattle.std.proofs.lemmas.Option.{slice_get-map, unwrap_or-slice_get}
 use Rattle.std.specs.Ordering.{ordering_then}
 use Rattle.cs_value.specs.Tree.{Tree, null}
 use Rattle.cs_parts.specs.Parts.{item}
@@ -34,7 +36,15 @@ decided left later d p xs ys o all x y is so_far is-o is-x is-y =
     ∙ (ap (λ (r : Ordering). ordering_then r (by_keys later (drop (suc p) xs) (drop (suc p) ys))) (is-o ∙ (ap (λ (t : Tree). compared d t y) is-x ∙ ap (compared d (get_or xs p null)) is-y))
     ∙ (sym (one_key left later d p xs ys is) ∙ so_far))
 
-pub item_at : (vs : List Item) (i : ℕ) (d : Item) → i < length vs → item (get_or vs i d) ≡ get_or (map item vs) i null
-item_at [] i d h = absurd (omega arith)
-item_at (v ∷ vs) zero d h = refl
-item_at (v ∷ vs) (suc i) d h = item_at vs i d (omega arith)
+-- a key that is not there is null
+pub or_null : (o : Option Tree) (xs : List Tree) (p : ℕ) → o ≡ slice_get xs p
+    → unwrap_or o null ≡ get_or xs p null
+or_null o xs p h = ap (λ (x : Option Tree). unwrap_or x null) h ∙ unwrap_or-slice_get xs p null
+
+pub item_at : (vs : List Item) (i : ℕ) (v : Item) → slice_get vs i ≡ Some v
+    → Some (item v) ≡ slice_get (map item vs) i
+item_at vs i v h = sym (slice_get-map item vs i ∙ ap (option_map item) h)
+
+pub no_item_at : (vs : List Item) (i : ℕ) → slice_get vs i ≡ None
+    → None ≡ slice_get (map item vs) i
+no_item_at vs i h = sym (slice_get-map item vs i ∙ ap (option_map item) h)

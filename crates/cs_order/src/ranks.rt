@@ -1,5 +1,5 @@
 //! Elements beside their keys, and how two of them are compared.
-ghost use Rattle.std.specs.Prelude.{◌≡◌, IfOk, map, get_or, option_map, unwrap_or};
+ghost use Rattle.std.specs.Prelude.{◌≡◌, IfOk, map, option_map, slice_get, unwrap_or};
 ghost use Rattle.std.specs.Ordering.{is_gt};
 ghost use Rattle.cs_value.specs.Tree.{null};
 ghost use Rattle.cs_value.specs.View.{tree};
@@ -53,18 +53,12 @@ pub fn compare_keys(descending: bool, x: Option<&Val>, y: Option<&Val>) -> Order
     }
 }
 
-/// The key at a place, if one is there.
-#[tactic(auto, using(crate::proofs::Keys::item_at))]
+/// The key at a place: `None` exactly where none is there.
+#[tactic(auto, using(crate::proofs::Keys::item_at, crate::proofs::Keys::no_item_at))]
 pub fn key_at<'v>(keys: &'v [Item<'_>], place: usize) -> Option<&'v Val>
-    ensures { unwrap_or (option_map (λ v. tree v.now) result) null
-        ≡ get_or (map item keys.now) place null }
+    ensures { option_map (λ v. tree v.now) result ≡ slice_get (map item keys.now) place }
 {
-    if place < keys.len() {
-        let key = &keys[place];
-        Some(key.val())
-    } else {
-        None
-    }
+    Some(keys.get(place)?.val())
 }
 
 // By the first keys, ties by the second and so on.

@@ -51,6 +51,8 @@ use Rattle.cs_expr.proofs.Climbing.{turn_marks, done_value, done_order, done_loo
 use Rattle.cs_expr.proofs.+eval.Goals as goal
 use Rattle.cs_expr.proofs.+eval.Goals.{expressions::one_entry-in-Some+in_ok-is_met+else-not-branch, expressions::one_entry-in_default}
 use Rattle.std.proofs.lemmas.List.{append-nil}
+use Rattle.std.proofs.lemmas.Result.{IfOk-weaker, on_ok_weaker}
+use Rattle.cs_expr.proofs.Trails.{trail_value, trail_keys}
 
 pub expressions::eval-run-requires : goal.expressions::eval-run-requires
 expressions::eval-run-requires g t c κs within =
@@ -379,6 +381,25 @@ steps::ordered-returns-clause-value g t c =
     (c.deref.ensures.value ∙ c.in_ok-directions.ensures)
     (c.deref-2.ensures.value ∙ c.in_ok-directions.ensures)))
     c.list_in_order.ensures
+
+pub chains::trail-returns-clause-value : goal.chains::trail-returns-clause-value
+chains::trail-returns-clause-value g t c =
+    IfOk-weaker c.follow.result _ _
+    (λ u h. trail_value (g.S.Source.docs c.args.source.now) (fields c.args.params.now)
+    (expression c.args.base.now) (steps_of (map step_of c.args.steps.now))
+    (scope_of c.args.frame.now) (got c.in_ok-value.value) (got u) c.requires.trail c.requires.single
+    c.in_ok-value.ensures.value h)
+    c.follow.ensures.value
+
+pub chains::trail-returns-clause-keys : goal.chains::trail-returns-clause-keys
+chains::trail-returns-clause-keys g t c =
+    on_ok_weaker c.follow.result
+    (λ h. trail_keys (g.S.Source.docs c.args.source.now) (fields c.args.params.now)
+    (expression c.args.base.now) (steps_of (map step_of c.args.steps.now))
+    (scope_of c.args.frame.now) (got c.in_ok-value.value) c.args.keys.now c.eval.new.keys
+    c.follow.new.keys c.requires.trail c.requires.single c.in_ok-value.ensures.value
+    c.in_ok-value.ensures.keys h)
+    c.follow.ensures.keys
 
 pub chains::start-returns-in-Some-clause-value : goal.chains::start-returns-in-Some-clause-value
 chains::start-returns-in-Some-clause-value g t c =

@@ -47,7 +47,13 @@ abbrev pub decreases-expressions::one_entry : goal.decreases-expressions::one_en
 decreases-expressions::one_entry g l = entry_weight (entry_of l.entry.now)
 
 abbrev pub decreases-chains::chain : goal.decreases-chains::chain
-decreases-chains::chain g l = weight (expression l.base.now) + steps_weight (steps_of (map step_of l.steps.now)) + 5
+decreases-chains::chain g l = weight (expression l.base.now) + steps_weight (steps_of (map step_of l.steps.now)) + 6
+
+abbrev pub decreases-chains::trail : goal.decreases-chains::trail
+decreases-chains::trail g l = weight (expression l.base.now) + steps_weight (steps_of (map step_of l.steps.now)) + 5
+
+abbrev pub decreases-chains::joined : goal.decreases-chains::joined
+decreases-chains::joined g l = weight (expression l.base.now) + steps_weight (steps_of (map step_of l.steps.now)) + 5
 
 abbrev pub decreases-chains::start : goal.decreases-chains::start
 decreases-chains::start g l = weight (expression l.base.now) + steps_weight (steps_in l.rest) + 4

@@ -1,4 +1,5 @@
 use Rattle.std.proofs.Common.{◌≡◌, ◌∷◌, ◌∙◌, ◌-◌, length, map, get_or, sym, ap, is_lt, false, arith}
+use Rattle.std.proofs.lemmas.Bool.{not-true}
 use Rattle.std.proofs.lemmas.List.{get_or-map, length-map}
 use Rattle.cs_value.specs.View.{tree}
 use Rattle.cs_syntax.specs.Expression.{keys_of}
@@ -8,7 +9,7 @@ use Rattle.cs_meaning.specs.Ordered.{by_keys, Ranked}
 use Rattle.cs_meaning.specs.Values.{keys_values}
 use Rattle.cs_parts.specs.Parts.{item}
 use Rattle.cs_order.specs.Ranked.{ranked as ranked_of}
-use Rattle.cs_expr.proofs.Keyed.{none_of_first, not_true}
+use Rattle.cs_expr.proofs.Keyed.{none_of_first}
 use Rattle.cs_expr.proofs.past.is_past.Goals as goal
 
 pub returns-in-Some-compare_parts : goal.returns-in-Some-compare_parts
@@ -20,7 +21,7 @@ returns-in-Some-compare_parts c = λ past docs params.
     let n = length xs - 1 in
     let one : Ranked = record { by = by; item = tree c.args.one.now } in
     let found : is_lt (by_keys ds by (ranked_of last).by) ≡ false
-    = ap (λ bs. is_lt (by_keys ds by (map item bs))) (sym c.deref.ensures.value) ∙ (sym (ap is_lt (c.in-Some-compare_parts.ensures docs params)) ∙ (sym c.is_lt.ensures ∙ not_true c.is_lt.result past)) in
+    = ap (λ bs. is_lt (by_keys ds by (map item bs))) (sym c.deref.ensures.value) ∙ (sym (ap is_lt (c.in-Some-compare_parts.ensures docs params)) ∙ (sym c.is_lt.ensures ∙ not-true c.is_lt.result past)) in
     let many = length-map xs ranked_of in
     let within = c.in-Some-last.ensures.item in
     let some = within.3.0 in
