@@ -1,5 +1,5 @@
 -- Bytes that stand for themselves in a JSON text.
-use Rattle.std.proofs.Common.{◌≡◌, ◌≢◌, ◌≤◌, ◌∷◌, [], ℕ, Bool, true, false, refl, nat_lt, ne_eqb, arith}
+use Rattle.std.proofs.Common.{◌≡◌, ◌≢◌, ◌≤◌, ◌∷◌, [], ℕ, false, refl, nat_lt, ne_eqb, arith}
 use Rattle.std.proofs.lemmas.Grind.{common_steps}
 use Rattle.json.specs.Print.{escape_byte}
 

@@ -1,14 +1,14 @@
-//! Values, and what is put together from them, as the events that serde writes.
+//! Values, and those that are lent, as the events that serde writes.
 ghost use Rattle.std.specs.Prelude.{OnOk, map};
 ghost use Rattle.serde_json.specs.Data.{array, number, object as object_data};
 ghost use Rattle.serde_json.specs.Find.{of_integer};
 ghost use Rattle.serde_json.specs.Events.{SendsValue};
-ghost use Rattle.cs_value.specs.Tree.{trees, pairs};
+ghost use Rattle.cs_value.specs.Tree.{trees};
 ghost use Rattle.cs_value.specs.View.{tree, fields, list_tree};
-ghost use Rattle.cs_json.specs.Nodes.{node_tree, member_pair};
+ghost use Rattle.cs_json.specs.Nodes.{node_tree};
 ghost use Rattle.cs_json.specs.Text.{data_of, items_of, members_of};
 
-use crate::node::{Member, Node};
+use crate::node::Node;
 use cs_value::{Fields, Val};
 use serde::Serializer;
 
@@ -59,7 +59,6 @@ fn send_fields<S: Serializer>(object: &Fields, out: &mut S) -> Result<(), S::Err
     out.end_map()
 }
 
-#[cycle(send_node)]
 pub(crate) fn send_node<S: Serializer>(node: &Node<'_>, out: &mut S) -> Result<(), S::Error>
     ensures { OnOk result (SendsValue (data_of (node_tree node.now))
         (S.written out.old) (S.written out.new)) }
@@ -69,9 +68,6 @@ pub(crate) fn send_node<S: Serializer>(node: &Node<'_>, out: &mut S) -> Result<(
         Node::Values(vals) => send_values(vals, out),
         Node::Text(text) => out.str(text),
         Node::Number(n) => send_number(*n, out),
-        Node::Flag(b) => out.bool(*b),
-        Node::Nodes(nodes) => send_nodes(nodes, out),
-        Node::Object(members) => send_members(members, out),
     }
 }
 
@@ -85,30 +81,4 @@ fn send_values<S: Serializer>(vals: &Vec<&Val>, out: &mut S) -> Result<(), S::Er
         send(val, out)?;
     }
     out.end_seq()
-}
-
-#[cycle(send_node)]
-fn send_nodes<S: Serializer>(nodes: &Vec<Node<'_>>, out: &mut S) -> Result<(), S::Error>
-    ensures { OnOk result (SendsValue (array (items_of (trees (map node_tree nodes.now.items))))
-        (S.written out.old) (S.written out.new)) }
-{
-    out.begin_seq(Some(nodes.len()))?;
-    for node in nodes {
-        send_node(node, out)?;
-    }
-    out.end_seq()
-}
-
-#[cycle(send_node)]
-fn send_members<S: Serializer>(members: &Vec<Member<'_>>, out: &mut S) -> Result<(), S::Error>
-    ensures { OnOk result
-        (SendsValue (object_data (members_of (pairs (map member_pair members.now.items))))
-        (S.written out.old) (S.written out.new)) }
-{
-    out.begin_map(Some(members.len()))?;
-    for member in members {
-        out.key(member.name)?;
-        send_node(&member.node, out)?;
-    }
-    out.end_map()
 }

@@ -20,7 +20,7 @@ pub fn write(alloc: Global, val: &Val) -> Result<Vec<u8>, NoMemory>
     node_text(alloc, &Node::Value(val))
 }
 
-/// Appends the compact text of what is put together: JSON without blanks, and without a newline at
+/// Appends the compact text of a value that is lent: JSON without blanks, and without a newline at
 /// its end. `NoMemory` where the allocator has no room for it; `out` holds what it held then.
 pub fn write_node(alloc: Global, node: &Node<'_>, out: &mut Vec<u8>) -> Result<(), NoMemory>
     ensures appended { OnOk result

@@ -115,7 +115,7 @@ abbrev pub before_result : ℕ → List ℕ
 before_result line = codes "{\"line\":" ++ json_text (number line) ++ codes ",\"result\":"
 
 -- the text of an attribute, and the texts of several with commas between them and the bracket
--- behind them. For private clauses
+-- behind them: RFC 8259, "Objects". For private clauses
 abbrev pub member_text : List ℕ × Tree → List ℕ
 member_text m = json_text (text m.0) ++ 58 ∷ json_text m.1
 

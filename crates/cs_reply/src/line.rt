@@ -56,7 +56,7 @@ fn write_part(alloc: Global, node: &Node<'_>, out: &mut Vec<u8>) -> Result<(), N
     match node {
         Node::Text(s) => write_text(alloc, *s, out),
         Node::Number(n) => write_integer(*n, out),
-        _ => write_node(alloc, node, out),
+        Node::Value(_) | Node::Values(_) => write_node(alloc, node, out),
     }
 }
 

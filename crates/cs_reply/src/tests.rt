@@ -1,6 +1,7 @@
 //! The text of each reply and refusal.
 use super::*;
 use cs_json::Node;
+use cs_value::Val;
 use std::alloc::Global;
 use std::test::Fail;
 
@@ -42,7 +43,7 @@ fn writes_replies(rt: HostRuntime) -> Result<(), Fail> {
         "{\"line\":7,\"results\":[{\"id\":\"a\",\"operation\":\"create\"},{\"id\":\"b\",\"operation\":\"update\"},{\"id\":\"c\",\"operation\":\"delete\"}],\"transactionId\":\"T\"}\n"
     );
     assert_eq!(rt;
-        written(alloc, Reply::Found(Node::Flag(true)))?.as_str(),
+        written(alloc, Reply::Found(Node::Value(&Val::Bool(true))))?.as_str(),
         "{\"line\":7,\"result\":true}\n"
     );
     let mut live = Vec::new(alloc);
