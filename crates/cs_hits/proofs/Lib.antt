@@ -1,5 +1,6 @@
 pub mod Behinds
 pub mod Brought
+pub mod Coding
 pub mod Nearing
 pub mod Newly
 pub mod Places

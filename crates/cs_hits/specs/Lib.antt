@@ -1,4 +1,5 @@
 pub mod Behind
+pub mod Codes
 pub mod Held
 pub mod Hits
 pub mod Near

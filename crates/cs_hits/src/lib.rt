@@ -11,6 +11,7 @@ mod share;
 mod shares;
 
 pub use behind::Behind;
+pub use codes::may_touch;
 pub use hits::Hits;
 pub use share::Share;
 pub use shares::{

@@ -1,5 +1,5 @@
 //! The shares that the hits of a mapped query have in its answer, by ascending id.
-ghost use Rattle.std.specs.Prelude.{◌≡◌, ◌≢◌, ◌++◌, ◌∷◌, [], List, false, true, map, IfOk, OnOk};
+ghost use Rattle.std.specs.Prelude.{◌≡◌, ◌≢◌, ◌++◌, [], List, false, true, map, IfOk, OnOk};
 ghost use Rattle.cs_value.specs.Tree.{Pairs, Tree};
 ghost use Rattle.cs_value.specs.View.{tree, fields};
 ghost use Rattle.cs_value.specs.Words.{list_of};
@@ -13,20 +13,22 @@ ghost use Rattle.cs_view.specs.View.{document_of, edit, edits};
 ghost use Rattle.cs_meaning.specs.Hits.{hits, is_hit};
 ghost use Rattle.cs_window.specs.Mapped.{is_mapped};
 ghost use Rattle.cs_interest.specs.Interest.{interest_code};
+ghost use Rattle.cs_hits.specs.Codes.{AreSought};
 ghost use Rattle.cs_hits.specs.Held.{IsPut};
 ghost use Rattle.cs_hits.specs.Shares.{AreShares, SameBut, SharesFollow, TellsCodes, share_doc, share_docs, share_values, shares_looked};
 
 use crate::codes::tell_codes;
 use crate::held::{put, remove};
 use crate::share::Share;
-use cs_codes::Seed;
+use cs_codes::{Seed, sort_codes};
 use cs_eval::{hit, hits};
 use cs_interest::interest_code;
 use cs_json::write_list;
 use cs_syntax::Query;
 use cs_value::{Fields, NoMemory, Steps, Val};
+use cs_view::laws::{changes_lead_back_and_on, untouched_selects_the_same};
 use cs_view::{Change, Doc, Key, View};
-use cs_window::mapped_is_filtered;
+use cs_window::{looked_settles_share, mapped_is_filtered};
 use std::alloc::Global;
 use std::sync::ledger::Ledger;
 
@@ -117,22 +119,25 @@ fn add_codes(seed: &Seed, keys: &[Key], codes: &mut Vec<u64>) -> Result<(), NoMe
     Ok(())
 }
 
-/// The codes under which interest is held in a mapped query's own key, and in those that finding
-/// the shares looked up. `NoMemory` where the allocator has no room for them.
-pub fn codes_of(
-    alloc: Global,
-    seed: &Seed,
-    own: &Key,
-    shares: &[Share],
-) -> Result<Vec<u64>, NoMemory>
+// The codes under which interest is held in what finding the shares looked up, in its order.
+fn listed_codes(alloc: Global, seed: &Seed, shares: &[Share]) -> Result<Vec<u64>, NoMemory>
     ensures { IfOk result (λ cs. cs.items
-        ≡ map (interest_code seed.now) (own.now ∷ shares_looked shares.now)) }
+        ≡ map (interest_code seed.now) (shares_looked shares.now)) }
 {
-    let mut codes = Vec::with_capacity(alloc, shares.len().saturating_add(1))?;
-    codes.push(interest_code(seed, own))?;
+    let mut codes = Vec::with_capacity(alloc, shares.len())?;
     for share in shares {
         add_codes(seed, share.looked.keys(), &mut codes)?;
     }
+    Ok(codes)
+}
+
+/// The codes under which interest is held in what finding the shares looked up, ascending.
+/// `NoMemory` where the allocator has no room for them.
+pub fn codes_of(alloc: Global, seed: &Seed, shares: &[Share]) -> Result<Vec<u64>, NoMemory>
+    ensures { IfOk result (λ cs. AreSought seed.now (shares_looked shares.now) cs.items) }
+{
+    let mut codes = listed_codes(alloc, seed, shares)?;
+    sort_codes(&mut codes);
     Ok(codes)
 }
 
@@ -150,8 +155,9 @@ pub fn shares_touched(shares: &[Share], changes: &[Change]) -> bool
 }
 
 /// Brings the shares to the dataset after the changes: the places of those that were found anew, by
-/// what the changes touch. `recoded` is set where interest in what finding them looks up now has
-/// other codes. After `NoMemory` they are of no more use.
+/// what the changes touch. None is looked at unless `asked`, which may be unset where the changes
+/// touch none of them. `recoded` is set where interest in what finding them looks up now has other
+/// codes. After `NoMemory` they are of no more use.
 pub fn renew_shares<V: View<L>, L: Ledger>(
     alloc: Global,
     seed: &Seed,
@@ -160,11 +166,14 @@ pub fn renew_shares<V: View<L>, L: Ledger>(
     shares: &mut Vec<Share>,
     view: &V,
     changes: &[Change],
+    asked: bool,
     recoded: &mut bool,
     steps: &mut Steps<L>,
 ) -> Result<Vec<usize>, NoMemory>
     requires mapped { is_mapped (expression_of query.now) ≡ true }
     requires changes { are_changes (edits changes.now) ≡ true }
+    requires asked { asked ≡ false
+        → touched (shares_looked shares.old.items) (edits changes.now) ≡ false }
     requires led { LeadTo (V.docs view.now) (edits changes.now) }
     requires shares { AreShares (before_changes (V.docs view.now) (edits changes.now))
         (expression_of query.now) (fields params.now) shares.old.items }
@@ -178,7 +187,13 @@ pub fn renew_shares<V: View<L>, L: Ledger>(
     ensures codes { OnOk result (TellsCodes seed.now (shares_looked shares.old.items)
         (shares_looked shares.new.items) recoded.old recoded.new) }
 {
+    looked_settles_share();
+    untouched_selects_the_same();
+    changes_lead_back_and_on();
     let mut anew = Vec::new(alloc);
+    if !asked {
+        return Ok(anew);
+    }
     for place in 0..shares.len() {
         let share = &mut shares[place];
         if share.renew(alloc, seed, query, params, view, changes, recoded, steps)? {

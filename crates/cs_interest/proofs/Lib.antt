@@ -1,3 +1,4 @@
+pub mod Listing
 pub mod Narrowing
 pub mod Pairs
 pub mod Touching

@@ -24,9 +24,20 @@ use Rattle.cs_interest.specs.Laws.{TouchedIsAsked}
 use Rattle.cs_interest.specs.declared.interest.Interest.{Interest}
 use Rattle.cs_interest.specs.declared.pair.Pair.{Pair}
 
-either : (a b r : Bool) → (a ≡ true → r ≡ true) → (b ≡ true → r ≡ true) → (a || b) ≡ true → r ≡ true
+-- what follows from each of two, where one of them holds
+pub either : (a b r : Bool) → (a ≡ true → r ≡ true) → (b ≡ true → r ≡ true) → (a || b) ≡ true → r ≡ true
 either true b r f g h = f refl
 either false b r f g h = g h
+
+-- one of two holds: so it does with a third put between them, or behind them
+pub later : (a b c : Bool) → (a || c) ≡ true → (a || (b || c)) ≡ true
+later true b c h = refl
+later false b c h = or_right b c h
+
+pub here : (a b c : Bool) → (a || b) ≡ true → (a || (b || c)) ≡ true
+here true b c h = refl
+here false true c h = refl
+here false false c h = absurd (true≢false (sym h))
 
 -- a number under a code that is among these
 some_has : (m : BTreeSet Pair) (c n : ℕ) (cs : List ℕ) → is_among c cs ≡ true → has_pair m c n ≡ true → has_some m cs n ≡ true
@@ -63,7 +74,7 @@ module _ (listed : KeysAreListed) (seed : Seed) (m : BTreeSet Pair) (n : ℕ) (e
       by_side true f h = own_side t e.1.0 before f
       by_side false f h = own_side t e.1.1 after h
 
-few : (ns : List (List ℕ)) → are_few ns ≡ true → (0 < length ns) × (length ns ≤ most_names)
+pub few : (ns : List (List ℕ)) → are_few ns ≡ true → (0 < length ns) × (length ns ≤ most_names)
 few ns h = (grind (arith, common_steps, and-left (nat_lt 0 (length ns)) _ h), grind (arith, common_steps, and-right (nat_lt 0 (length ns)) _ h))
 
 module _ (listed : KeysAreListed) (i : Interest) (n : ℕ) where
@@ -90,15 +101,6 @@ module _ (listed : KeysAreListed) (i : Interest) (n : ℕ) where
   some_asked : (k : Key) (cs : List Edit) → OwnIds cs → is_touched cs k ≡ true → has_pair i.pairs (interest_code i.seed k) n ≡ true → is_asked i cs n ≡ true
   some_asked k [] own h g = absurd (true≢false (sym h))
   some_asked k (e ∷ es) own h g = by_test (some_asked k es own.1) (touches k e) refl h where
-    later : (a b c : Bool) → (a || c) ≡ true → (a || (b || c)) ≡ true
-    later true b c h = refl
-    later false b c h = or_right b c h
-
-    here : (a b c : Bool) → (a || b) ≡ true → (a || (b || c)) ≡ true
-    here true b c h = refl
-    here false true c h = refl
-    here false false c h = absurd (true≢false (sym h))
-
     by_test : (is_touched es k ≡ true → has_pair i.pairs (interest_code i.seed k) n ≡ true → is_asked i es n ≡ true) → (b : Bool) → touches k e ≡ b → (b || is_touched es k) ≡ true → is_asked i (e ∷ es) n ≡ true
     by_test ih true f h = here (has_pair i.pairs 0 n) (concerns e) (list_any concerns es) (one_asked k e own.0.0 own.0.1 g f)
     by_test ih false f h = later (has_pair i.pairs 0 n) (concerns e) (list_any concerns es) (ih h g)

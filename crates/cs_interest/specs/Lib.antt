@@ -1,3 +1,4 @@
+pub mod Changed
 pub mod Interest
 pub mod Laws
 pub mod Limits

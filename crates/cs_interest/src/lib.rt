@@ -2,6 +2,7 @@
 #![tactic(auto)]
 
 mod asked;
+mod changed;
 mod code;
 mod interest;
 pub mod laws;
@@ -9,6 +10,7 @@ mod narrow;
 mod pair;
 mod put;
 
+pub use changed::codes_of_changes;
 pub use code::interest_code;
 pub use interest::Interest;
 pub use narrow::narrowest_code;

@@ -4,7 +4,8 @@ use Rattle.cs_codes.specs.Codes.{is_among}
 use Rattle.cs_codes.specs.declared.seed.Seed.{Seed}
 use Rattle.cs_interest.specs.Interest.{holds, Entered, Left}
 use Rattle.cs_interest.specs.declared.interest.Interest.{Interest}
-use Rattle.cs_kept.specs.Found.{IsFound, IsCoded, KeepsOthers, codes_of, has_code, hit_key}
+use Rattle.cs_hits.specs.Codes.{has_code}
+use Rattle.cs_kept.specs.Found.{IsFound, IsCoded, KeepsOthers, codes_of, hit_key}
 use Rattle.cs_kept.specs.declared.kept.Kept.{Kept}
 use Rattle.cs_kept.specs.declared.kept.Kept.TheVariants.{InRows}
 use Rattle.cs_kept.specs.declared.rows.Rows.{Rows}

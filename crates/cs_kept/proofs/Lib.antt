@@ -1,4 +1,4 @@
-mod Coded
+pub mod Coded
 pub mod Found
 mod Keyed
 pub mod Refreshing

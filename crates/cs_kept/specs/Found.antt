@@ -1,8 +1,7 @@
 -- How a last answer is found by the keys that changes touch: their codes stand in one place, with
 -- its number. This project's profile.
-use Rattle.std.specs.Prelude.{◌≡◌, ℕ, Bool, false, List, [], ◌∷◌}
+use Rattle.std.specs.Prelude.{◌≡◌, ℕ, Bool, false, List, [], ◌∷◌, drop}
 use Rattle.std.specs.Bool.{nat_eq}
-use Rattle.std.specs.List.{list_any}
 use Rattle.cs_value.specs.Tree.{Pairs}
 use Rattle.cs_value.specs.View.{fields}
 use Rattle.cs_syntax.specs.Expression.{Expression}
@@ -14,6 +13,8 @@ use Rattle.cs_codes.specs.declared.seed.Seed.{Seed}
 use Rattle.cs_interest.specs.Interest.{holds, interest_code}
 use Rattle.cs_interest.specs.Narrow.{narrowest}
 use Rattle.cs_interest.specs.declared.interest.Interest.{Interest}
+use Rattle.cs_hits.specs.Codes.{AreCodesOf, AreSought}
+use Rattle.cs_hits.specs.Shares.{shares_looked}
 use Rattle.cs_kept.specs.Keys.{all_keys}
 use Rattle.cs_kept.specs.Mapped.{mapped_keys}
 use Rattle.cs_kept.specs.declared.kept.Kept.{Kept}
@@ -36,12 +37,18 @@ codes_of (ByRecord r) = r.keys.codes.items
 codes_of (InRows r) = r.codes.items
 codes_of (InShares m) = m.codes.items
 
-abbrev pub has_code : Seed → ℕ → List Key → Bool
-has_code seed c ks = list_any (λ k. nat_eq c (interest_code seed k)) ks
+-- the codes of a mapped query: that of its own key, and behind it, ascending, those of the keys that
+-- finding its shares looked up
+pub record AreListed (seed : Seed) (own : Key) (looked : List Key) (cs : List ℕ) : Type 0 where
+  pub first : cs ≡ interest_code seed own ∷ drop 1 cs
+  pub behind : AreSought seed looked (drop 1 cs)
 
 -- the codes are those of the keys, and no other
 abbrev pub IsCoded : Seed → Kept → Type 0
-IsCoded seed k = (c : ℕ) → is_among c (codes_of k) ≡ has_code seed c (interests k)
+IsCoded seed (ByRecord r) = AreCodesOf seed (all_keys r.keys) r.keys.codes.items
+IsCoded seed (InRows r) =
+    AreCodesOf seed (hit_key (expression_of r.query) (fields r.params) ∷ []) r.codes.items
+IsCoded seed (InShares m) = AreListed seed m.own (shares_looked m.shares.items) m.codes.items
 
 -- the number stands under the codes of the keys, and under no other
 pub record IsFound (i : Interest) (number : ℕ) (k : Kept) : Type 0 where

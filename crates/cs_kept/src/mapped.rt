@@ -12,7 +12,7 @@ ghost use Rattle.cs_view.specs.View.{edits};
 ghost use Rattle.cs_plan.specs.Simple.{is_simple};
 ghost use Rattle.cs_window.specs.Mapped.{is_mapped};
 ghost use Rattle.cs_kept.specs.Fits.{Answers, FitsShares, RefreshesKept};
-ghost use Rattle.cs_kept.specs.Found.{IsCoded, IsFound, KeepsOthers, codes_of, interests};
+ghost use Rattle.cs_kept.specs.Found.{AreListed, IsCoded, IsFound, KeepsOthers};
 ghost use Rattle.cs_hits.specs.Shares.{AreShares, SameBut, SharesFollow, TellsCodes, share_docs, share_values, shares_looked};
 ghost use Rattle.cs_kept.specs.Mapped.{KeepsAllButCodes, KeepsAllButLast, KeepsAllButShares, mapped_keys};
 ghost use Rattle.cs_kept.specs.declared.kept.Kept.{Kept};
@@ -22,9 +22,9 @@ use crate::settling::settle_places;
 use cs_codes::Seed;
 use cs_eval::{hits_have_key, query_key};
 use cs_hits::{
-    Share, answer_of, codes_of, find_shares, follow_shares, renew_shares, shares_touched,
+    Share, answer_of, codes_of, find_shares, follow_shares, may_touch, renew_shares, shares_touched,
 };
-use cs_interest::Interest;
+use cs_interest::{Interest, interest_code};
 use cs_syntax::Query;
 use cs_value::{Fields, NoMemory, Steps, Val};
 use cs_view::laws::{changes_lead_back_and_on, filter_follows_changes, untouched_selects_the_same};
@@ -33,9 +33,13 @@ use cs_window::{looked_settles_share, mapped_is_filtered, mapped_is_shares_of_hi
 use std::alloc::Global;
 use std::sync::ledger::Ledger;
 
+// Where there are so many shares, the codes of changes are sought among those of the shares first:
+// to ask each share costs less where there are fewer.
+const MANY_SHARES: usize = 256;
+
 /// A mapped query with its last answer, its own key, the shares of its hits in the answer by
-/// ascending id, and the codes under which interest is held in its key and in those that finding
-/// the shares looked up.
+/// ascending id, and the codes under which interest is held in its key and, behind that one and
+/// ascending, in those that finding the shares looked up.
 #[derive(Drop)]
 pub struct Mapped {
     pub(crate) query: Query,
@@ -54,6 +58,18 @@ struct Moved {
     anew: Vec<usize>,
     shifted: bool,
     recoded: bool,
+}
+
+// The codes of a query's own key and of those that finding the shares looked up.
+fn listed(alloc: Global, seed: &Seed, own: &Key, shares: &[Share]) -> Result<Vec<u64>, NoMemory>
+    ensures { IfOk result
+        (λ cs. AreListed seed.now own.now (shares_looked shares.now) cs.items) }
+{
+    let behind = codes_of(alloc, seed, shares)?;
+    let mut codes = Vec::with_capacity(alloc, behind.len().saturating_add(1))?;
+    codes.push(interest_code(seed, own))?;
+    codes.extend_from_slice(&behind)?;
+    Ok(codes)
 }
 
 impl Mapped {
@@ -77,7 +93,7 @@ impl Mapped {
         let shares = find_shares(alloc, &query, &params, view, steps)?;
         let last = answer_of(alloc, &shares)?;
         let own = query_key(alloc, &query, &params)?;
-        let codes = codes_of(alloc, seed, &own, &shares)?;
+        let codes = listed(alloc, seed, &own, &shares)?;
         Ok(Mapped {
             query,
             params,
@@ -88,12 +104,36 @@ impl Mapped {
         })
     }
 
-    // Whether the changes touch one of its keys.
-    fn touched(&self, changes: &[Change]) -> bool
-        requires { are_changes (edits changes.now) ≡ true }
+    // Whether the changes may touch what finding the shares looked up: `false` only where they do
+    // not. Of many shares it is told by the codes, so that none is looked at.
+    fn may_touch_shares(
+        &self,
+        alloc: Global,
+        seed: &Seed,
+        changes: &[Change],
+    ) -> Result<bool, NoMemory>
+        requires { AreListed seed.now self.now.own (shares_looked self.now.shares.items)
+            self.now.codes.items }
+        ensures { IfOk result (λ b. b ≡ false
+            → touched (shares_looked self.now.shares.items) (edits changes.now) ≡ false) }
+    {
+        if self.shares.len() < MANY_SHARES {
+            return Ok(true);
+        }
+        match self.codes.split_first() {
+            Some((_own, behind)) => may_touch(alloc, seed, behind, changes),
+            None => Ok(true),
+        }
+    }
+
+    // Whether the changes touch one of its keys. The shares are looked at where they may be touched.
+    fn touched(&self, asked: bool, changes: &[Change]) -> bool
+        requires changes { are_changes (edits changes.now) ≡ true }
+        requires asked { asked ≡ false
+            → touched (shares_looked self.now.shares.items) (edits changes.now) ≡ false }
         ensures { result ≡ touched (mapped_keys self.now) (edits changes.now) }
     {
-        is_touched(&self.own, changes) || shares_touched(&self.shares, changes)
+        is_touched(&self.own, changes) || asked && shares_touched(&self.shares, changes)
     }
 
     // Brings the shares to the dataset after the changes: which of them are not as they were.
@@ -103,10 +143,13 @@ impl Mapped {
         seed: &Seed,
         view: &V,
         changes: &[Change],
+        asked: bool,
         steps: &mut Steps<L>,
     ) -> Result<Moved, NoMemory>
         requires mapped { is_mapped (expression_of self.old.query) ≡ true }
         requires changes { are_changes (edits changes.now) ≡ true }
+        requires asked { asked ≡ false
+            → touched (shares_looked self.old.shares.items) (edits changes.now) ≡ false }
         requires led { LeadTo (V.docs view.now) (edits changes.now) }
         requires ascending { ascending (share_docs self.old.shares.items) ≡ true }
         requires shares { AreShares (before_changes (V.docs view.now) (edits changes.now))
@@ -133,6 +176,7 @@ impl Mapped {
             &mut self.shares,
             view,
             changes,
+            asked,
             &mut recoded,
             steps,
         )?;
@@ -186,9 +230,10 @@ impl Mapped {
         interest: &mut Interest,
         moved: &Moved,
     ) -> Result<(), NoMemory>
-        ensures found { OnOk result ((k : Kept) → codes_of k ≡ self.old.codes.items
-            → TellsCodes interest.old.seed (interests k) (mapped_keys self.old) false
-            moved.now.recoded → IsFound interest.old number k
+        ensures found { OnOk result ((m : Mapped) → m.codes ≡ self.old.codes
+            → m.own ≡ self.old.own → TellsCodes interest.old.seed (shares_looked m.shares.items)
+            (shares_looked self.old.shares.items) false moved.now.recoded
+            → IsFound interest.old number (Kept.InShares m)
             → IsFound interest.new number (Kept.InShares self.new)) }
         ensures others { OnOk result (KeepsOthers number interest.old interest.new) }
         ensures kept { KeepsAllButCodes self.old self.new }
@@ -196,7 +241,7 @@ impl Mapped {
         if !moved.recoded {
             return Ok(());
         }
-        let codes = codes_of(alloc, interest.seed(), &self.own, &self.shares)?;
+        let codes = listed(alloc, interest.seed(), &self.own, &self.shares)?;
         if codes.as_slice() == self.codes.as_slice() {
             return Ok(());
         }
@@ -239,10 +284,11 @@ impl Mapped {
         changes_lead_back_and_on();
         filter_follows_changes();
         hits_have_key();
-        if !self.touched(changes) {
+        let asked = self.may_touch_shares(alloc, interest.seed(), changes)?;
+        if !self.touched(asked, changes) {
             return Ok(false);
         }
-        let moved = self.follow(alloc, interest.seed(), view, changes, steps)?;
+        let moved = self.follow(alloc, interest.seed(), view, changes, asked, steps)?;
         if !moved.shifted && moved.anew.is_empty() {
             return Ok(false);
         }

@@ -1,62 +1,29 @@
 -- Where the code of a listener's filter is not among the codes of changes, it hears nothing of them.
-use Rattle.std.proofs.Common.{◌≡◌, ◌∙◌, ℕ, ◌<◌, ◌≤◌, List, [], ◌∷◌, ◌++◌, length, map, Option, Some, None, Bool, true, false, cond, ◌&&◌, ◌||◌, refl, sym, ap, true≢false, nat_eq, nat_lt, eqb-true, eq-eqb, arith}
-use Rattle.std.proofs.lemmas.Grind.{common_steps}
+use Rattle.std.proofs.Common.{◌≡◌, ◌∙◌, ℕ, List, [], ◌∷◌, ◌++◌, map, Option, Some, None, Bool, true, false, cond, ◌&&◌, ◌||◌, refl, sym, ap, true≢false, nat_eq, eqb-true}
 use Rattle.std.proofs.lemmas.List.Folds.{list_any-append}
 use Rattle.std.specs.Prelude.{filter_map, option_map}
 use Rattle.std.specs.List.{cons_option}
-use Rattle.std.proofs.lemmas.Bool.{or_right, or_left}
 use Rattle.cs_value.specs.Tree.{Tree}
 use Rattle.cs_value.specs.View.{fields}
 use Rattle.cs_view.specs.Changes.{Edit}
-use Rattle.cs_view.specs.Document.{id_of}
-use Rattle.cs_view.specs.Keys.{has}
-use Rattle.cs_view.specs.Limits.{most_names}
-use Rattle.cs_view.specs.declared.key.Key.{Key}
-use Rattle.cs_view.specs.declared.key.Key.TheVariants.{All, Id, Path, Elem, Ref}
 use Rattle.cs_view.proofs.Booleans.{and-left, and-right}
-use Rattle.cs_view.proofs.Datasets.{same_id-same}
-use Rattle.cs_codes.specs.Codes.{key_codes, id_code, is_among, key_code}
+use Rattle.cs_codes.specs.Codes.{is_among}
 use Rattle.cs_codes.specs.declared.seed.Seed.{Seed}
-use Rattle.cs_codes.specs.Kept.{IsKept}
 use Rattle.cs_codes.specs.Laws.{KeysAreListed}
-use Rattle.cs_interest.specs.Interest.{are_few, interest_code}
+use Rattle.cs_interest.specs.Changed.{all_codes, change_codes, changes_codes}
 use Rattle.cs_interest.specs.Laws.{NarrowestIsHad}
 use Rattle.cs_interest.specs.Narrow.{narrowest}
+use Rattle.cs_interest.proofs.Listing.{key_listed}
 use Rattle.cs_reply.specs.Reply.{Event}
 use Rattle.cs_plain.specs.Holds.{holds}
 use Rattle.cs_plain.specs.Keyed.{predicate_keys}
 use Rattle.cs_plain.specs.Laws.{TrueHasPredicateKeys}
 use Rattle.cs_plain.specs.Predicates.{filter as filter_of}
-use Rattle.cs_listen.specs.Coded.{filter_code, all_codes, change_codes, changes_codes, is_sought, is_coded, are_coded}
+use Rattle.cs_listen.specs.Coded.{filter_code, is_sought, is_coded, are_coded}
 use Rattle.cs_listen.specs.Events.{Listener, sees, turned, event_of, heard, events}
 use Rattle.cs_listen.specs.Listeners.{listener}
 use Rattle.cs_listen.specs.Told.{told, all_told}
 use Rattle.cs_listen.specs.declared.listening.Listening.{Listening}
-
-few : (ns : List (List ℕ)) → are_few ns ≡ true → (0 < length ns) × (length ns ≤ most_names)
-few ns h = (grind (arith, common_steps, and-left (nat_lt 0 (length ns)) _ h), grind (arith, common_steps, and-right (nat_lt 0 (length ns)) _ h))
-
--- ---- the code of a key that a document has is sought among the document's codes
-module _ (listed : KeysAreListed) (seed : Seed) (d : Tree) where
-  abbrev Sought : ℕ → Type 0
-  Sought c = is_sought c (all_codes seed (Some d)) ≡ true
-
-  among_keys : (c : ℕ) → is_among c (key_codes seed d) ≡ true → Sought c
-  among_keys c h = or_right (nat_eq c 0) _ (or_right (nat_eq c (id_code seed (id_of d))) (is_among c (key_codes seed d)) h)
-
-  own_id : (t : List ℕ) → t ≡ id_of d → Sought (id_code seed t)
-  own_id t is = or_right (nat_eq (id_code seed t) 0) _ (or_left (nat_eq (id_code seed t) (id_code seed (id_of d))) (is_among (id_code seed t) (key_codes seed d)) (eq-eqb _ _ (ap (id_code seed) is)))
-
-  by_names : (k : Key) (b : Bool) → (b ≡ true → IsKept k) → has k d ≡ true → Sought (cond b (key_code seed k) 0)
-  by_names k true kept h = among_keys (key_code seed k) (listed seed k d (kept refl) h)
-  by_names k false kept h = refl
-
-  key_sought : (k : Key) → has k d ≡ true → Sought (interest_code seed k)
-  key_sought All h = refl
-  key_sought (Id t) h = own_id t (same_id-same t (id_of d) h)
-  key_sought (Path ns s) h = by_names (Path ns s) (are_few ns) (few ns) h
-  key_sought (Elem ns s) h = by_names (Elem ns s) (are_few ns) (few ns) h
-  key_sought (Ref t) h = among_keys (key_code seed (Ref t)) (listed seed (Ref t) d tt h)
 
 -- ---- what is sought among neither is not sought among both
 neither : (z a b : Bool) → (z || (a || b)) ≡ false → ((z || a) ≡ false) × ((z || b) ≡ false)
@@ -78,7 +45,7 @@ module _ (has_keys : TrueHasPredicateKeys) (narrow : NarrowestIsHad) (listed : K
     by_test false f = f
     by_test true f =
         let keys = predicate_keys l.filter l.params in
-        absurd (true≢false (sym (key_sought listed seed d (narrowest keys)
+        absurd (true≢false (sym (key_listed listed seed d (narrowest keys)
         (narrow keys d (has_keys l.filter l.params d f))) ∙ h))
 
   not_heard : (e : Edit) → is_sought code (change_codes seed e) ≡ false → heard tx moment l e ≡ None

@@ -1,18 +1,19 @@
 //! The codes by which the listeners that changes concern are found.
-ghost use Rattle.std.specs.Prelude.{◌≡◌, ◌++◌, ◌∷◌, ◌&&◌, ℕ, IfOk, OnOk, filter as only, map, option_map};
+ghost use Rattle.std.specs.Prelude.{◌≡◌, ◌∷◌, ◌&&◌, ℕ, IfOk, filter as only, map};
 ghost use Rattle.std.specs.List.Sorted.{IsNonDecreasing};
 ghost use Rattle.cs_value.specs.View.{fields};
-ghost use Rattle.cs_view.specs.View.{document_of, edit, edits};
+ghost use Rattle.cs_view.specs.View.{edits};
 ghost use Rattle.cs_codes.specs.Codes.{is_among};
+ghost use Rattle.cs_interest.specs.Changed.{changes_codes};
 ghost use Rattle.cs_plain.specs.Predicates.{filter};
-ghost use Rattle.cs_listen.specs.Coded.{change_codes, changes_codes, filter_code, is_sought, all_codes};
+ghost use Rattle.cs_listen.specs.Coded.{filter_code, is_sought};
 
 use crate::listening::Listening;
-use cs_codes::{Seed, has_code, id_code, put_codes, sort_codes};
-use cs_interest::narrowest_code;
+use cs_codes::{Seed, has_code, sort_codes};
+use cs_interest::{codes_of_changes, narrowest_code};
 use cs_plain::{Plain, keys};
 use cs_value::{Fields, NoMemory};
-use cs_view::{Change, Doc};
+use cs_view::Change;
 use std::alloc::Global;
 
 /// The code of the narrowest of a predicate's keys.
@@ -54,40 +55,6 @@ pub(crate) fn waiting_codes(
     let mut codes = with_code(alloc, made, code)?;
     sort_codes(&mut codes);
     Ok(codes)
-}
-
-// Puts the codes of what stands on a side of a change behind the others.
-fn put_side(seed: &Seed, side: &Option<Doc>, out: &mut Vec<u64>) -> Result<(), NoMemory>
-    ensures { OnOk result (out.new.items
-        ≡ out.old.items ++ all_codes seed.now (option_map document_of side.now)) }
-{
-    match side {
-        Some(doc) => {
-            out.push(id_code(seed, doc.id()))?;
-            put_codes(seed, doc, out)
-        }
-        None => Ok(()),
-    }
-}
-
-// Puts the codes of both sides of a change.
-fn put_change(seed: &Seed, change: &Change, out: &mut Vec<u64>) -> Result<(), NoMemory>
-    ensures { OnOk result (out.new.items
-        ≡ out.old.items ++ change_codes seed.now (edit change.now)) }
-{
-    put_side(seed, &change.before, out)?;
-    put_side(seed, &change.after, out)
-}
-
-// The codes of changes.
-fn codes_of_changes(alloc: Global, seed: &Seed, changes: &[Change]) -> Result<Vec<u64>, NoMemory>
-    ensures { IfOk result (λ cs. cs.items ≡ changes_codes seed.now (edits changes.now)) }
-{
-    let mut out = Vec::new(alloc);
-    for change in changes {
-        put_change(seed, change, &mut out)?;
-    }
-    Ok(out)
 }
 
 // Those of the codes that are among some which ascend.

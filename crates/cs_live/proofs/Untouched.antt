@@ -24,7 +24,8 @@ use Rattle.cs_live.specs.Brought.{Still, UnaskedStays}
 use Rattle.cs_kept.specs.Kept.{last_of}
 use Rattle.cs_live.specs.Entries.{entries, live_query}
 use Rattle.cs_kept.specs.Fits.{FitsKept, FitsRows, RefreshesKept}
-use Rattle.cs_kept.specs.Found.{IsFound, has_code, hit_key, interests}
+use Rattle.cs_hits.specs.Codes.{has_code}
+use Rattle.cs_kept.specs.Found.{IsFound, hit_key, interests}
 use Rattle.cs_live.specs.Lives.{is_stale, news_of, refreshed, say}
 use Rattle.cs_kept.specs.Rows.{rows}
 use Rattle.cs_live.specs.declared.entry.Entry.{Entry}
@@ -32,6 +33,7 @@ use Rattle.cs_kept.specs.declared.kept.Kept.{Kept}
 use Rattle.cs_kept.specs.declared.kept.Kept.TheVariants.{ByRecord, InRows, InShares}
 use Rattle.cs_kept.specs.declared.rows.Rows.{Rows}
 use Rattle.cs_live.proofs.Refreshing.{entry-refreshed}
+use Rattle.cs_kept.proofs.Coded.{coded-among}
 use Rattle.cs_kept.proofs.Sharing.{mapped-untouched}
 use Rattle.cs_kept.proofs.Windowed.{untouched-refreshed}
 use Rattle.cs_kept.proofs.Sames.{not_another}
@@ -49,7 +51,7 @@ module _ (asks : TouchedIsAsked) (i : Interest) (cs : List Edit) (changes : are_
     by_test rest false e = rest
 
   pub untouched_keys : (k : Kept) → IsFound i n k → touched (interests k) cs ≡ false
-  untouched_keys k found = none_touched (interests k) (λ c h. found.stands c ∙ found.coded c ∙ h)
+  untouched_keys k found = none_touched (interests k) (λ c h. found.stands c ∙ coded-among i.seed k found.coded c ∙ h)
 
 -- ---- what is untouched is refreshed as it stands
 -- the hits of a query are hits among the documents that have its hits' key

@@ -1,11 +1,14 @@
-use Rattle.std.proofs.Common.{◌≡◌, ◌∙◌, ◌<◌, ◌++◌, ◌∷◌, ℕ, List, [], Vec, Global, map, set, length, get_or, refl, sym, ap, subst, take_all, arith}
+use Rattle.std.proofs.Common.{◌≡◌, ◌∙◌, ◌<◌, ◌++◌, ◌∷◌, ℕ, List, [], Vec, Global, map, set, length, get_or, refl, sym, ap, subst, take_all, true, arith}
 use Rattle.std.specs.List.{AllByRecursion}
 use Rattle.std.proofs.lemmas.List.{length-map, set-get_or}
 use Rattle.std.proofs.Math.Seq.{map-set_same}
 use Rattle.cs_value.specs.View.{fields}
 use Rattle.cs_syntax.specs.Queries.{expression_of}
 use Rattle.cs_view.specs.Changes.{before_changes}
+use Rattle.cs_view.specs.Dataset.{ascending}
 use Rattle.cs_view.specs.View.{edits}
+use Rattle.cs_view.proofs.Booleans.{and-left}
+use Rattle.cs_hits.proofs.Sharing.{all-still}
 use Rattle.cs_interest.specs.Interest.{interest_code}
 use Rattle.cs_hits.specs.Shares.{IsShare, SameBut, TellsCodes, share_doc, share_docs, share_values, shares_looked}
 use Rattle.cs_hits.specs.declared.share.Share.{Share}
@@ -23,6 +26,17 @@ loop-place-init g c = record {
   same = λ none. refl;
   codes = λ unset. (unset, refl);
 }
+
+pub returns-then-not-asked-clause-shares : goal.returns-then-not-asked-clause-shares
+returns-then-not-asked-clause-shares g c =
+    let docs = g.V.View.docs c.args.view.now in let cs = edits c.args.changes.now in
+    let sorted : ascending docs ≡ true = and-left (ascending docs) _ (g.met.V.View.dataset c.args.view.now) in
+    all-still docs cs sorted c.requires.changes c.requires.led c.untouched_selects_the_same.ensures c.changes_lead_back_and_on.ensures c.looked_settles_share.ensures
+    (expression_of c.args.query.now) (fields c.args.params.now) c.args.shares.now.items (c.requires.asked c.if-not-asked.true) c.requires.shares
+
+pub returns-then-not-asked-clause-but : goal.returns-then-not-asked-clause-but
+returns-then-not-asked-clause-but g c =
+    subst (λ (ps : List ℕ). SameBut ps (share_values c.args.shares.now.items) (share_values c.args.shares.now.items)) (sym c.new-anew.ensures.items) (but-none (share_values c.args.shares.now.items))
 
 pub renew-requires-clause-share : goal.renew-requires-clause-share
 renew-requires-clause-share g c =

@@ -1,18 +1,16 @@
-use Rattle.std.proofs.Common.{◌≡◌, ◌∙◌, ◌∷◌, ap, map, refl, List}
+use Rattle.std.proofs.Common.{◌≡◌, ◌∙◌, ap, refl, subst, List}
 use Rattle.cs_value.specs.View.{tree, fields}
 use Rattle.cs_value.specs.Words.{list_of}
 use Rattle.cs_syntax.specs.Queries.{expression_of}
-use Rattle.cs_interest.specs.Interest.{interest_code}
 use Rattle.cs_hits.specs.Shares.{share_values, shares_looked}
 use Rattle.cs_hits.specs.declared.share.Share.{Share}
-use Rattle.cs_kept.proofs.Coded.{coded-keys}
+use Rattle.cs_kept.specs.Found.{AreListed}
 use Rattle.cs_hits.proofs.Sharing.{shares-value}
 use Rattle.cs_kept.proofs.mapped.Mapped.build.Goals as goal
 
 pub returns-clause-coded : goal.returns-clause-coded
 returns-clause-coded g c =
-    coded-keys c.args.seed.now (c.in_ok-own.own ∷ shares_looked c.in_ok-shares.shares.items) c.in_ok-codes.codes.items
-    (c.in_ok-codes.ensures ∙ ap (λ (ss : List Share). map (interest_code c.args.seed.now) (c.in_ok-own.own ∷ shares_looked ss)) c.deref-2.ensures.value)
+    subst (λ (ss : List Share). AreListed c.args.seed.now c.in_ok-own.own (shares_looked ss) c.in_ok-codes.codes.items) c.deref-2.ensures.value c.in_ok-codes.ensures
 
 pub returns-clause-answers : goal.returns-clause-answers
 returns-clause-answers g c =

@@ -94,11 +94,10 @@ returns-clause-found g c =
     let old = c.args.self.now in
     let f = c.follow.ensures.kept in let s = c.settle.ensures.kept in
     let seed = c.args.interest.now.seed in
-    let told = subst (λ (x : Seed). TellsCodes x (shares_looked old.shares.items) (shares_looked c.follow.new.self.shares.items) false c.in_ok-moved.moved.recoded) c.seed.ensures c.in_ok-moved.ensures.codes in
-    c.in_ok-recode.ensures.found (InShares old) (ap (λ (v : Vec ℕ Global). v.items) (sym (s.codes ∙ f.codes)))
+    let told = subst (λ (x : Seed). TellsCodes x (shares_looked old.shares.items) (shares_looked c.follow.new.self.shares.items) false c.in_ok-moved.moved.recoded) c.seed-2.ensures c.in_ok-moved.ensures.codes in
+    c.in_ok-recode.ensures.found old (sym (s.codes ∙ f.codes)) (sym (s.own ∙ f.own))
     (λ unset. (
       (told unset).0,
-      λ i. interest_code seed ((s.own ∙ f.own) i)
-          ∷ (ap (λ (v : Vec Share Global). map (interest_code seed) (shares_looked v.items)) s.shares ∙ (told unset).1) i,
+      ap (λ (v : Vec Share Global). map (interest_code seed) (shares_looked v.items)) s.shares ∙ (told unset).1,
     ))
     c.requires.found

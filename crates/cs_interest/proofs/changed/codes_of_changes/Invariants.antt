@@ -1,7 +1,7 @@
 use Rattle.std.proofs.Common.{◌≡◌, ◌++◌, drop}
 use Rattle.cs_view.specs.View.{edits}
-use Rattle.cs_listen.specs.Coded.{changes_codes}
-use Rattle.cs_listen.proofs.sought.codes_of_changes.Given as goal
+use Rattle.cs_interest.specs.Changed.{changes_codes}
+use Rattle.cs_interest.proofs.changed.codes_of_changes.Given as goal
 
 abbrev pub invariant-loop-change : goal.invariant-loop-change
 invariant-loop-change l =
