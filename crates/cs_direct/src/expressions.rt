@@ -39,7 +39,8 @@ pub fn direct<'s>(expr: &'s Expr, frame: &Scope<'s>, params: &'s Fields) -> Opti
     evaluate(expr, frame, params)
 }
 
-// The same over no documents.
+// The same over no documents. The forms with several operands have functions of their own, since a
+// call sets room for all results that it may wait for, and most expressions wait for one.
 #[cycle(evaluate)]
 #[tactic(auto, using(crate::proofs::Sets::nodes), unfolding(cs_syntax::specs::View::expression))]
 fn evaluate<'s>(expr: &'s Expr, frame: &Scope<'s>, params: &'s Fields) -> Option<Operand<'s>>
@@ -61,22 +62,9 @@ fn evaluate<'s>(expr: &'s Expr, frame: &Scope<'s>, params: &'s Fields) -> Option
         Expr::Call { name, args } => call(name.as_str(), args, frame, params),
         Expr::Chain { base, steps } => chain(base, steps, frame, params),
         Expr::Prefix { signs, operand } => prefixed(signs, operand, frame, params),
-        Expr::Run { first, rest } => run(rest, evaluate(first, frame, params)?, frame, params),
-        Expr::Within { left, right } => {
-            let here = evaluate(left, frame, params)?;
-            within(here, right, frame, params)
-        }
-        Expr::Between {
-            left,
-            from,
-            to,
-            closed,
-        } => {
-            let here = evaluate(left, frame, params)?;
-            let low = evaluate(from, frame, params)?;
-            let high = evaluate(to, frame, params)?;
-            Some(Operand::said(here.is_between(low, high, *closed)))
-        }
+        Expr::Run { .. } => run(expr, frame, params),
+        Expr::Within { .. } => within(expr, frame, params),
+        Expr::Between { .. } => between(expr, frame, params),
         Expr::All | Expr::Array(_) | Expr::Object(_) => None,
     }
 }
@@ -97,10 +85,28 @@ fn prefixed<'s>(
     signed(signs, evaluate(inner, frame, params)?)
 }
 
+// The value of an expression that is operators of one level; `None` of every other.
+#[cycle(evaluate)]
+#[tactic(auto, using(crate::proofs::Sets::nodes), unfolding(cs_syntax::specs::View::expression))]
+fn run<'s>(expr: &'s Expr, frame: &Scope<'s>, params: &'s Fields) -> Option<Operand<'s>>
+    ensures value { IfSome result (λ o. operand o
+        ≡ value_of [] (fields params.now) (expression expr.now) (scope_of frame.now)) }
+    ensures quiet { IfSome result (λ _. looked [] (fields params.now) (expression expr.now)
+        (scope_of frame.now) ≡ []) }
+{
+    match expr {
+        Expr::Run { first, rest } => {
+            let left = evaluate(first, frame, params)?;
+            run_from(rest, left, frame, params)
+        }
+        _ => None,
+    }
+}
+
 // Operators of one level from the left.
 #[cycle(evaluate)]
 #[tactic(auto, unfolding(cs_syntax::specs::View::operands))]
-fn run<'s>(
+fn run_from<'s>(
     list: &'s [(BinSign, Expr)],
     left: Operand<'s>,
     frame: &Scope<'s>,
@@ -209,10 +215,53 @@ fn argument<'s>(arg: &'s Arg, frame: &Scope<'s>, params: &'s Fields) -> Option<O
     }
 }
 
+// The value of an expression that is a test of membership; `None` of every other.
+#[cycle(evaluate)]
+#[tactic(auto, using(crate::proofs::Sets::nodes), unfolding(cs_syntax::specs::View::expression))]
+fn within<'s>(expr: &'s Expr, frame: &Scope<'s>, params: &'s Fields) -> Option<Operand<'s>>
+    ensures value { IfSome result (λ o. operand o
+        ≡ value_of [] (fields params.now) (expression expr.now) (scope_of frame.now)) }
+    ensures quiet { IfSome result (λ _. looked [] (fields params.now) (expression expr.now)
+        (scope_of frame.now) ≡ []) }
+{
+    match expr {
+        Expr::Within { left, right } => {
+            let here = evaluate(left, frame, params)?;
+            is_in(here, right, frame, params)
+        }
+        _ => None,
+    }
+}
+
+// The value of an expression that is a test of an interval; `None` of every other.
+#[cycle(evaluate)]
+#[tactic(auto, using(crate::proofs::Sets::nodes), unfolding(cs_syntax::specs::View::expression))]
+fn between<'s>(expr: &'s Expr, frame: &Scope<'s>, params: &'s Fields) -> Option<Operand<'s>>
+    ensures value { IfSome result (λ o. operand o
+        ≡ value_of [] (fields params.now) (expression expr.now) (scope_of frame.now)) }
+    ensures quiet { IfSome result (λ _. looked [] (fields params.now) (expression expr.now)
+        (scope_of frame.now) ≡ []) }
+{
+    match expr {
+        Expr::Between {
+            left,
+            from,
+            to,
+            closed,
+        } => {
+            let here = evaluate(left, frame, params)?;
+            let low = evaluate(from, frame, params)?;
+            let high = evaluate(to, frame, params)?;
+            Some(Operand::said(here.is_between(low, high, *closed)))
+        }
+        _ => None,
+    }
+}
+
 // `left in right`, where the right side may be a call of `path` or an array literal.
 #[cycle(evaluate)]
 #[tactic(auto, using(crate::proofs::Sets::paths))]
-fn within<'s>(
+fn is_in<'s>(
     left: Operand<'s>,
     right: &'s Expr,
     frame: &Scope<'s>,

@@ -12,8 +12,8 @@ use Rattle.cs_direct.specs.Few.{few}
 use Rattle.cs_operand.specs.Operands.{operand}
 use Rattle.cs_direct.proofs.expressions.+evaluate.Given as goal
 
-abbrev pub invariant-run-loop-sign : goal.invariant-run-loop-sign
-invariant-run-loop-sign l = record {
+abbrev pub invariant-run_from-loop-sign : goal.invariant-run_from-loop-sign
+invariant-run_from-loop-sign l = record {
   value : run_value [] (fields l.params) (operands_of (operands l.list)) (scope_of l.frame)
       (operand l.fn.left)
       ≡ run_value [] (fields l.params) (operands_of (operands (drop l.sign-index l.list)))
