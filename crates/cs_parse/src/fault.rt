@@ -5,7 +5,7 @@ ghost use Rattle.cs_parse.specs.declared.fault.ParseFault.TheVariants.{NoMemory}
 use cs_grammar::GrammarFault;
 use cs_syntax::TokenFault;
 use cs_value::Txt;
-use std::alloc::AllocFailed;
+use std::alloc::{AllocError, AllocFailed};
 
 /// Why a text is no query. A text has one of these causes at most, besides want of memory.
 #[derive(Drop)]
@@ -64,6 +64,14 @@ impl From<GrammarFault> for ParseFault {
             GrammarFault::Syntax => ParseFault::Syntax,
             GrammarFault::NoMemory => ParseFault::NoMemory,
         }
+    }
+}
+
+impl From<AllocError> for ParseFault {
+    ghost from_gives = { λ _ e. e ≡ NoMemory };
+
+    fn from(_refused: AllocError) -> ParseFault {
+        ParseFault::NoMemory
     }
 }
 

@@ -12,6 +12,10 @@ use cs_grammar::{Form, Lexeme};
 use cs_syntax::{Kind, Sign, Token, next_token};
 use std::alloc::Global;
 
+// The tokens are gathered where there is room for so many at first, unless the text has fewer
+// bytes: most queries have no more, and then they are not moved.
+const ROOM: usize = 64;
+
 // What the token is, its sign read.
 fn form(text: &str, token: &Token) -> Form
     requires { IsTokenOf text.now token.now }
@@ -56,7 +60,7 @@ pub fn lexemes(alloc: Global, text: &str) -> Result<Vec<Lexeme>, ParseFault>
     ensures of_text { IfOk result (λ ls. All (IsLexemeOf text.now) ls.items) }
     ensures count { IfOk result (λ ls. vec_len ls < 2 ^ 32) }
 {
-    let mut lexemes = Vec::new(alloc);
+    let mut lexemes = Vec::with_capacity(alloc, text.len().min(ROOM))?;
     let mut depth = Depth::new();
     let mut end = 0;
     while let Some(token) = next_token(text, end)? {

@@ -53,8 +53,8 @@ pub returns-in_err-token-clause-fault : goal.returns-in_err-token-clause-fault
 returns-in_err-token-clause-fault c =
     let so_far = c.loop-lexemes.invariant.so_far in
     bad_read c.args.text.now c.loop-lexemes.end so_far.tokens so_far.reads c.in_err-token.field-0.0
-    c.in_err-token.ensures.next c.from_residual.result
-    c.from_residual.ensures.1
+    c.in_err-token.ensures.next c.from_residual-in_err-token.result
+    c.from_residual-in_err-token.ensures.1
 
 pub count-requires : goal.count-requires
 count-requires c =
