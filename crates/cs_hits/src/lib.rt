@@ -6,6 +6,7 @@ mod behind;
 mod codes;
 mod held;
 mod hits;
+mod looked;
 mod near;
 mod share;
 mod shares;
@@ -13,6 +14,7 @@ mod shares;
 pub use behind::Behind;
 pub use codes::may_touch;
 pub use hits::Hits;
+pub use looked::{Looked, marks_of};
 pub use share::Share;
 pub use shares::{
     answer_of, codes_of, find_shares, follow_shares, renew_shares, shares_touched, text_of,

@@ -6,17 +6,19 @@ ghost use Rattle.cs_view.specs.Changes.{are_changes, LeadTo, before_changes};
 ghost use Rattle.cs_view.specs.Touched.{touched};
 ghost use Rattle.cs_view.specs.View.{document_of, edits};
 ghost use Rattle.cs_window.specs.Mapped.{is_mapped};
+ghost use Rattle.cs_hits.specs.Looked.{marks};
 ghost use Rattle.cs_hits.specs.Shares.{IsShare, TellsCodes, share_doc};
 
 use crate::codes::tell_codes;
 use crate::held::Held;
+use crate::looked::Looked;
 use cs_codes::Seed;
 use cs_eval::share;
-use cs_json::write;
+use cs_json::{HasText, write};
 use cs_syntax::Query;
 use cs_value::{Fields, NoMemory, Steps, Val};
 use cs_view::laws::{changes_lead_back_and_on, untouched_selects_the_same};
-use cs_view::{Change, Doc, Record, View, some_touched};
+use cs_view::{Change, Doc, Record, View};
 use cs_window::looked_settles_share;
 use std::alloc::Global;
 use std::sync::ledger::Ledger;
@@ -27,7 +29,7 @@ pub struct Share {
     pub doc: Doc,
     pub value: Val,
     pub text: Vec<u8>,
-    pub looked: Record,
+    pub looked: Looked,
 }
 
 impl Held for Share {
@@ -35,6 +37,14 @@ impl Held for Share {
 
     fn doc(&self) -> &Doc {
         &self.doc
+    }
+}
+
+impl HasText for Share {
+    ghost text = { λ s. s.text.items };
+
+    fn text(&self) -> &[u8] {
+        &self.text
     }
 }
 
@@ -61,22 +71,14 @@ impl Share {
             doc: doc.copy()?,
             value,
             text,
-            looked,
+            looked: Looked::of(looked),
         })
     }
 
-    /// Whether the changes touch what finding the share looked up.
-    pub fn touched(&self, changes: &[Change]) -> bool
-        requires { are_changes (edits changes.now) ≡ true }
-        ensures { result ≡ touched self.now.looked (edits changes.now) }
-    {
-        some_touched(self.looked.keys(), changes)
-    }
-
-    /// Brings the share to the dataset after the changes: whether it was found anew, which it is
-    /// where the changes touch what finding it looked up. `recoded` is set where interest in what
-    /// finding it looks up now is held under other codes. `NoMemory` where the allocator has no
-    /// room for it; it is as before then.
+    /// Brings the share to the dataset after the changes, whose ids have these marks: whether it was
+    /// found anew, which it is where the changes touch what finding it looked up. `recoded` is set
+    /// where interest in what finding it looks up now is held under other codes. `NoMemory` where
+    /// the allocator has no room for it; it is as before then.
     pub fn renew<V: View<L>, L: Ledger>(
         &mut self,
         alloc: Global,
@@ -84,12 +86,14 @@ impl Share {
         query: &Query,
         params: &Fields,
         view: &V,
+        id_marks: &[u64],
         changes: &[Change],
         recoded: &mut bool,
         steps: &mut Steps<L>,
     ) -> Result<bool, NoMemory>
         requires mapped { is_mapped (expression_of query.now) ≡ true }
         requires changes { are_changes (edits changes.now) ≡ true }
+        requires marks { id_marks.now ≡ marks changes.now }
         requires led { LeadTo (V.docs view.now) (edits changes.now) }
         requires share { IsShare (before_changes (V.docs view.now) (edits changes.now))
             (expression_of query.now) (fields params.now) self.old }
@@ -107,7 +111,7 @@ impl Share {
         looked_settles_share();
         untouched_selects_the_same();
         changes_lead_back_and_on();
-        if !self.touched(changes) {
+        if !self.looked.touched(id_marks, changes) {
             return Ok(false);
         }
         let anew = Share::find(alloc, query, params, &self.doc, view, steps)?;

@@ -15,6 +15,7 @@ ghost use Rattle.cs_window.specs.Mapped.{is_mapped};
 ghost use Rattle.cs_interest.specs.Interest.{interest_code};
 ghost use Rattle.cs_hits.specs.Codes.{AreSought};
 ghost use Rattle.cs_hits.specs.Held.{IsPut};
+ghost use Rattle.cs_hits.specs.Looked.{marks};
 ghost use Rattle.cs_hits.specs.Shares.{AreShares, SameBut, SharesFollow, TellsCodes, share_doc, share_docs, share_values, shares_looked};
 
 use crate::codes::tell_codes;
@@ -92,20 +93,7 @@ pub fn text_of(alloc: Global, shares: &[Share]) -> Result<Vec<u8>, NoMemory>
         → AreShares docs e params shares.now
         → IfOk result (λ b. b.items ≡ json_text (list_of (share_values shares.now))) }
 {
-    let texts = texts_of(alloc, shares)?;
-    write_list(alloc, &texts)
-}
-
-// The texts of the shares, which are lent.
-fn texts_of<'s>(alloc: Global, shares: &'s [Share]) -> Result<Vec<&'s [u8]>, NoMemory>
-    ensures { IfOk result (λ texts. map (λ text. text.now) texts.items
-        ≡ map (λ s. s.text.items) shares.now) }
-{
-    let mut texts = Vec::with_capacity(alloc, shares.len())?;
-    for share in shares {
-        texts.push(share.text.as_slice())?;
-    }
-    Ok(texts)
+    write_list(alloc, shares)
 }
 
 // Adds the codes under which interest in the keys is held.
@@ -141,23 +129,25 @@ pub fn codes_of(alloc: Global, seed: &Seed, shares: &[Share]) -> Result<Vec<u64>
     Ok(codes)
 }
 
-/// Whether the changes touch what finding one of the shares looked up. It takes no memory.
-pub fn shares_touched(shares: &[Share], changes: &[Change]) -> bool
-    requires { are_changes (edits changes.now) ≡ true }
+/// Whether the changes, whose ids have these marks, touch what finding one of the shares looked up.
+/// It takes no memory.
+pub fn shares_touched(shares: &[Share], id_marks: &[u64], changes: &[Change]) -> bool
+    requires changes { are_changes (edits changes.now) ≡ true }
+    requires marks { id_marks.now ≡ marks changes.now }
     ensures { result ≡ touched (shares_looked shares.now) (edits changes.now) }
 {
     for share in shares {
-        if share.touched(changes) {
+        if share.looked.touched(id_marks, changes) {
             return true;
         }
     }
     false
 }
 
-/// Brings the shares to the dataset after the changes: the places of those that were found anew, by
-/// what the changes touch. None is looked at unless `asked`, which may be unset where the changes
-/// touch none of them. `recoded` is set where interest in what finding them looks up now has other
-/// codes. After `NoMemory` they are of no more use.
+/// Brings the shares to the dataset after the changes, whose ids have these marks: the places of
+/// those that were found anew, by what the changes touch. None is looked at unless `asked`, which
+/// may be unset where the changes touch none of them. `recoded` is set where interest in what
+/// finding them looks up now has other codes. After `NoMemory` they are of no more use.
 pub fn renew_shares<V: View<L>, L: Ledger>(
     alloc: Global,
     seed: &Seed,
@@ -165,6 +155,7 @@ pub fn renew_shares<V: View<L>, L: Ledger>(
     params: &Fields,
     shares: &mut Vec<Share>,
     view: &V,
+    id_marks: &[u64],
     changes: &[Change],
     asked: bool,
     recoded: &mut bool,
@@ -172,6 +163,7 @@ pub fn renew_shares<V: View<L>, L: Ledger>(
 ) -> Result<Vec<usize>, NoMemory>
     requires mapped { is_mapped (expression_of query.now) ≡ true }
     requires changes { are_changes (edits changes.now) ≡ true }
+    requires marks { id_marks.now ≡ marks changes.now }
     requires asked { asked ≡ false
         → touched (shares_looked shares.old.items) (edits changes.now) ≡ false }
     requires led { LeadTo (V.docs view.now) (edits changes.now) }
@@ -196,7 +188,9 @@ pub fn renew_shares<V: View<L>, L: Ledger>(
     }
     for place in 0..shares.len() {
         let share = &mut shares[place];
-        if share.renew(alloc, seed, query, params, view, changes, recoded, steps)? {
+        if share.renew(
+            alloc, seed, query, params, view, id_marks, changes, recoded, steps,
+        )? {
             anew.push(place)?;
         }
     }

@@ -1,4 +1,4 @@
-//! JSON (RFC 8259) with whole numbers of 64 bits, read and written by serde_json.
+//! JSON (RFC 8259) with whole numbers of 64 bits, read and written as serde_json does.
 #![tactic(auto)]
 
 mod convert;
@@ -7,12 +7,12 @@ mod depth;
 mod direct;
 mod list;
 mod node;
-mod send;
+mod print;
 mod ser;
 mod text;
 
 pub use de::{ValueReader, read};
-pub use list::write_list;
+pub use list::{HasText, write_list};
 pub use node::{Member, Node};
 pub use ser::{write, write_node};
 use std::alloc::{AllocError, AllocFailed};

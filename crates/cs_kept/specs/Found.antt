@@ -1,6 +1,6 @@
 -- How a last answer is found by the keys that changes touch: their codes stand in one place, with
 -- its number. This project's profile.
-use Rattle.std.specs.Prelude.{◌≡◌, ℕ, Bool, false, List, [], ◌∷◌, drop}
+use Rattle.std.specs.Prelude.{◌≡◌, ℕ, false, List, [], ◌∷◌, drop}
 use Rattle.std.specs.Bool.{nat_eq}
 use Rattle.cs_value.specs.Tree.{Pairs}
 use Rattle.cs_value.specs.View.{fields}

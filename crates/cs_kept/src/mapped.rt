@@ -13,6 +13,7 @@ ghost use Rattle.cs_plan.specs.Simple.{is_simple};
 ghost use Rattle.cs_window.specs.Mapped.{is_mapped};
 ghost use Rattle.cs_kept.specs.Fits.{Answers, FitsShares, RefreshesKept};
 ghost use Rattle.cs_kept.specs.Found.{AreListed, IsCoded, IsFound, KeepsOthers};
+ghost use Rattle.cs_hits.specs.Looked.{marks};
 ghost use Rattle.cs_hits.specs.Shares.{AreShares, SameBut, SharesFollow, TellsCodes, share_docs, share_values, shares_looked};
 ghost use Rattle.cs_kept.specs.Mapped.{KeepsAllButCodes, KeepsAllButLast, KeepsAllButShares, mapped_keys};
 ghost use Rattle.cs_kept.specs.declared.kept.Kept.{Kept};
@@ -22,7 +23,8 @@ use crate::settling::settle_places;
 use cs_codes::Seed;
 use cs_eval::{hits_have_key, query_key};
 use cs_hits::{
-    Share, answer_of, codes_of, find_shares, follow_shares, may_touch, renew_shares, shares_touched,
+    Share, answer_of, codes_of, find_shares, follow_shares, marks_of, may_touch, renew_shares,
+    shares_touched,
 };
 use cs_interest::{Interest, interest_code};
 use cs_syntax::Query;
@@ -126,28 +128,33 @@ impl Mapped {
         }
     }
 
-    // Whether the changes touch one of its keys. The shares are looked at where they may be touched.
-    fn touched(&self, asked: bool, changes: &[Change]) -> bool
+    // Whether the changes, whose ids have these marks, touch one of its keys. The shares are looked
+    // at where they may be touched.
+    fn touched(&self, asked: bool, id_marks: &[u64], changes: &[Change]) -> bool
         requires changes { are_changes (edits changes.now) ≡ true }
+        requires marks { id_marks.now ≡ marks changes.now }
         requires asked { asked ≡ false
             → touched (shares_looked self.now.shares.items) (edits changes.now) ≡ false }
         ensures { result ≡ touched (mapped_keys self.now) (edits changes.now) }
     {
-        is_touched(&self.own, changes) || asked && shares_touched(&self.shares, changes)
+        is_touched(&self.own, changes) || asked && shares_touched(&self.shares, id_marks, changes)
     }
 
-    // Brings the shares to the dataset after the changes: which of them are not as they were.
+    // Brings the shares to the dataset after the changes, whose ids have these marks: which of them
+    // are not as they were.
     fn follow<V: View<L>, L: Ledger>(
         &mut self,
         alloc: Global,
         seed: &Seed,
         view: &V,
+        id_marks: &[u64],
         changes: &[Change],
         asked: bool,
         steps: &mut Steps<L>,
     ) -> Result<Moved, NoMemory>
         requires mapped { is_mapped (expression_of self.old.query) ≡ true }
         requires changes { are_changes (edits changes.now) ≡ true }
+        requires marks { id_marks.now ≡ marks changes.now }
         requires asked { asked ≡ false
             → touched (shares_looked self.old.shares.items) (edits changes.now) ≡ false }
         requires led { LeadTo (V.docs view.now) (edits changes.now) }
@@ -175,6 +182,7 @@ impl Mapped {
             &self.params,
             &mut self.shares,
             view,
+            id_marks,
             changes,
             asked,
             &mut recoded,
@@ -285,10 +293,19 @@ impl Mapped {
         filter_follows_changes();
         hits_have_key();
         let asked = self.may_touch_shares(alloc, interest.seed(), changes)?;
-        if !self.touched(asked, changes) {
+        let id_marks = marks_of(alloc, changes)?;
+        if !self.touched(asked, &id_marks, changes) {
             return Ok(false);
         }
-        let moved = self.follow(alloc, interest.seed(), view, changes, asked, steps)?;
+        let moved = self.follow(
+            alloc,
+            interest.seed(),
+            view,
+            &id_marks,
+            changes,
+            asked,
+            steps,
+        )?;
         if !moved.shifted && moved.anew.is_empty() {
             return Ok(false);
         }

@@ -1,8 +1,7 @@
-use Rattle.std.proofs.Common.{◌≡◌, ◌∙◌, ap, sym, false}
+use Rattle.std.proofs.Common.{◌∙◌, ap, sym, false}
 use Rattle.std.specs.List.{list_any}
 use Rattle.cs_codes.specs.Codes.{is_among}
 use Rattle.cs_view.specs.View.{edits}
-use Rattle.cs_interest.specs.Changed.{changes_codes}
 use Rattle.cs_hits.proofs.Coding.{none-touched}
 use Rattle.cs_hits.proofs.codes.may_touch.Goals as goal
 

@@ -1,6 +1,5 @@
 use Rattle.std.proofs.Common.{◌≡◌, ◌∙◌, ◌<◌, ℕ, List, length, get_or, map, set, sym, ap, subst}
 use Rattle.std.proofs.lemmas.List.{get_or-set_same}
-use Rattle.cs_view.specs.declared.key.Key.{Key}
 use Rattle.cs_interest.specs.Interest.{interest_code}
 use Rattle.cs_hits.specs.Shares.{SameBut, share_values, shares_looked}
 use Rattle.cs_hits.specs.declared.share.Share.{Share}

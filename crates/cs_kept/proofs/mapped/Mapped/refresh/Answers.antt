@@ -1,4 +1,4 @@
-use Rattle.std.proofs.Common.{◌≡◌, ◌∙◌, ◌∷◌, [], ap, map, eqb-true, ℕ, List, Vec, Global, not, false, true, true≢false, refl, sym, subst}
+use Rattle.std.proofs.Common.{◌≡◌, ◌∙◌, [], ap, map, eqb-true, List, Vec, Global, not, false, true, true≢false, refl, sym, subst}
 use Rattle.std.proofs.lemmas.List.{nil_from_length}
 use Rattle.cs_value.specs.Same.{same_tree}
 use Rattle.cs_value.specs.Tree.{Tree}
@@ -14,7 +14,6 @@ use Rattle.cs_codes.specs.declared.seed.Seed.{Seed}
 use Rattle.cs_interest.specs.Interest.{interest_code}
 use Rattle.cs_hits.specs.Shares.{SameBut, SharesFollow, TellsCodes, share_docs, share_values, shares_looked}
 use Rattle.cs_kept.specs.Mapped.{mapped_keys}
-use Rattle.cs_kept.specs.declared.kept.Kept.TheVariants.{InShares}
 use Rattle.cs_hits.specs.declared.share.Share.{Share}
 use Rattle.cs_kept.proofs.Found.{keeps-all}
 use Rattle.cs_hits.proofs.Brought.{hits-ascend}
