@@ -1,5 +1,5 @@
 //! The machine: what the lines so far have left, and its step.
-ghost use Rattle.std.specs.Prelude.{◌≡◌, ◌≤◌, IfOk, IfErr, OnOk, OnErr, IsOk, length, true, false};
+ghost use Rattle.std.specs.Prelude.{◌≡◌, ◌≤◌, [], IfOk, IfErr, OnOk, OnErr, IsOk, length, true, false};
 ghost use Rattle.cs_io.specs.Lines.{longest_line};
 ghost use Rattle.cs_value.specs.View.{tree};
 ghost use Rattle.cs_json.specs.Reading.{outcome};
@@ -49,6 +49,19 @@ pub(crate) const ONE_ANSWER: Tally = Tally {
     live: 1,
     refused: 0,
 };
+
+// Most lines are replied to in no more bytes.
+const ROOM: usize = 256;
+
+// No replies yet, with room for them where the allocator has it.
+fn no_replies(alloc: Global) -> Vec<u8>
+    ensures { result.items ≡ [] }
+{
+    match Vec::with_capacity(alloc, ROOM) {
+        Ok(bytes) => bytes,
+        Err(_) => Vec::new(alloc),
+    }
+}
 
 /// Why a step has no replies.
 #[derive(Clone, Copy, Debug, Drop, PartialEq, Eq)]
@@ -167,7 +180,7 @@ impl Core {
         if self.state.spent {
             return Err(CoreFault::Spent);
         }
-        let mut bytes = Vec::new(self.alloc);
+        let mut bytes = no_replies(self.alloc);
         match self.reply_to(line, steps, &mut bytes) {
             Ok(tally) => Ok(Replies { bytes, tally }),
             Err(NoMemory) => Err(CoreFault::NoMemory),

@@ -90,7 +90,21 @@ fn write_heard(
     Ok(())
 }
 
-// Each answer of a live query as a line.
+// What a line says besides a name and an answer takes no more bytes.
+const AROUND: usize = 64;
+
+// How many bytes the lines take, their names mostly being short.
+fn room_for(answers: &[LiveLine]) -> usize {
+    let mut room = 0usize;
+    for answer in answers {
+        room = room
+            .saturating_add(answer.answer.len())
+            .saturating_add(AROUND);
+    }
+    room
+}
+
+// Each answer of a live query as a line. Room for all is made at once, so that none is moved.
 fn write_answers(
     alloc: Global,
     answers: &[LiveLine],
@@ -100,6 +114,7 @@ fn write_answers(
     ensures { (told : List Said) → map said answers.now ≡ map worded told → OnOk result
         (out.new.items ≡ out.old.items ++ live_lines line told) }
 {
+    out.reserve(room_for(answers))?;
     for answer in answers {
         write_answer(alloc, answer, line, out)?;
     }

@@ -1,4 +1,5 @@
-use Rattle.std.proofs.Common.{◌∙◌, sym, arith}
+use Rattle.std.proofs.Common.{◌∙◌, ◌++◌, ap, sym, arith}
+use Rattle.cs_state.specs.Does.{live_lines}
 use Rattle.cs_state.proofs.Listening.{all_told, told_more}
 use Rattle.cs_state.proofs.transact.write_answers.Goals as goal
 
@@ -14,3 +15,4 @@ returns c = λ told are.
     sym (all_told c.args.line c.loop-answer.out.items c.args.answers.now told
     c.loop-answer.answer-index (omega arith) are)
     ∙ c.loop-answer.invariant told are
+    ∙ ap (λ b. b ++ live_lines c.args.line told) c.in_ok-reserve.ensures.items
