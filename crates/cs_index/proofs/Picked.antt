@@ -1,9 +1,11 @@
 -- What a look-up picks are the documents that have the key.
 use denote.Ref.{Bor}
-use Rattle.std.proofs.Common.{◌≡◌, ℕ, ◌<◌, List, [], ◌∷◌, ◌++◌, map, filter, Option, Some, None, Bool, true, false, cond, ◌&&◌, ◌||◌, refl, sym, ap, ◌∙◌, true≢false, nat_cmp, nat_eq, arith, option_map, eqb-true, eq-eqb}
+use Rattle.std.proofs.Common.{◌≡◌, ℕ, ◌<◌, ◌+◌, length, drop, get_or, subst, List, [], ◌∷◌, ◌++◌, map, filter, Option, Some, None, Bool, true, false, cond, ◌&&◌, ◌||◌, refl, sym, ap, ◌∙◌, true≢false, nat_cmp, nat_eq, arith, option_map, eqb-true, eq-eqb}
 use Rattle.std.proofs.lemmas.Grind.{common_steps}
 use Rattle.std.proofs.lemmas.Cmp.{nat_cmp_total, tied_itself}
+use Rattle.std.proofs.lemmas.List.{drop_more}
 use Rattle.std.proofs.lemmas.List.Folds.{list_any-append}
+use Rattle.cs_view.proofs.Booleans.{and-left}
 use Rattle.std.specs.Option.{is_some}
 use Rattle.std.specs.BTreeSet.{BTreeSet}
 use Rattle.std.specs.BTreeMap.{is_at}
@@ -28,7 +30,7 @@ use Rattle.cs_codes.specs.Codes.{is_among, key_code, side_codes}
 use Rattle.cs_codes.specs.declared.seed.Seed.{Seed}
 use Rattle.cs_index.specs.Entries.{entry_cmp, same_entry, entry, has_entry, AreEntriesOf}
 use Rattle.cs_codes.specs.Kept.{IsKept}
-use Rattle.cs_index.specs.Picking.{Hits, IsImplied, where_has, wanted, is_hit, is_found, is_found_at, is_found_among, under}
+use Rattle.cs_index.specs.Picking.{Hits, IsImplied, where_has, wanted, is_hit, is_found, is_found_at, is_found_among, places_in, under}
 use Rattle.cs_index.specs.declared.entry.Entry.{Entry}
 use Rattle.cs_index.proofs.Applied.{same_parts}
 use Rattle.cs_codes.proofs.Listed.{listed}
@@ -89,29 +91,29 @@ wanted_place d k y p h = by_place (place_at d y) refl h where
   by_place (Some r) e g = by_test r (passes (has_all k) (doc_at d r)) refl g
 
 -- ---- walks over entries
-abbrev pub is_here : ℕ → List Entry → Bool
-is_here p es = list_any (λ e. nat_eq e.place p) es
+abbrev pub is_here : ℕ → List ℕ → Bool
+is_here p ps = list_any (λ q. nat_eq q p) ps
 
-nothing_found : (d : Docs) (k : List Key) (y : List ℕ) (es : List Entry) → wanted d k y ≡ None → is_found_among d k es y ≡ false
+nothing_found : (d : Docs) (k : List Key) (y : List ℕ) (ps : List ℕ) → wanted d k y ≡ None → is_found_among d k ps y ≡ false
 nothing_found d k y [] h = refl
-nothing_found d k y (e ∷ es) h =
-    ap (λ w. (passes (λ t. same_id y (id_of t)) (doc_at d e.place) && is_some w) || is_found_among d k es y) h
-    ∙ ap (λ b. b || is_found_among d k es y) (and-false (passes (λ t. same_id y (id_of t)) (doc_at d e.place)))
-    ∙ nothing_found d k y es h
+nothing_found d k y (p ∷ ps) h =
+    ap (λ w. (passes (λ t. same_id y (id_of t)) (doc_at d p) && is_some w) || is_found_among d k ps y) h
+    ∙ ap (λ b. b || is_found_among d k ps y) (and-false (passes (λ t. same_id y (id_of t)) (doc_at d p)))
+    ∙ nothing_found d k y ps h
 
-found_there : (d : Docs) (k : List Key) (y : List ℕ) (p : ℕ) (es : List Entry) → wanted d k y ≡ Some p → passes (λ t. same_id y (id_of t)) (doc_at d p) ≡ true → is_here p es ≡ true → is_found_among d k es y ≡ true
+found_there : (d : Docs) (k : List Key) (y : List ℕ) (p : ℕ) (ps : List ℕ) → wanted d k y ≡ Some p → passes (λ t. same_id y (id_of t)) (doc_at d p) ≡ true → is_here p ps ≡ true → is_found_among d k ps y ≡ true
 found_there d k y p [] h own g = absurd (true≢false (sym g))
-found_there d k y p (e ∷ es) h own g = by_test (found_there d k y p es h own) (nat_eq e.place p) refl g where
-  later : (a : Bool) → is_found_among d k es y ≡ true → (a || is_found_among d k es y) ≡ true
+found_there d k y p (q ∷ ps) h own g = by_test (found_there d k y p ps h own) (nat_eq q p) refl g where
+  later : (a : Bool) → is_found_among d k ps y ≡ true → (a || is_found_among d k ps y) ≡ true
   later true i = refl
   later false i = i
 
   own_place : is_found_at d k p y ≡ true
   own_place = ap (λ b. b && is_some (wanted d k y)) own ∙ ap is_some h
 
-  by_test : (is_here p es ≡ true → is_found_among d k es y ≡ true) → (b : Bool) → nat_eq e.place p ≡ b → (b || is_here p es) ≡ true → (is_found_at d k e.place y || is_found_among d k es y) ≡ true
-  by_test ih true is g = ap (λ b. b || is_found_among d k es y) (ap (λ (x : ℕ). is_found_at d k x y) (eqb-true e.place p is) ∙ own_place)
-  by_test ih false is g = later (is_found_at d k e.place y) (ih g)
+  by_test : (is_here p ps ≡ true → is_found_among d k ps y ≡ true) → (b : Bool) → nat_eq q p ≡ b → (b || is_here p ps) ≡ true → (is_found_at d k q y || is_found_among d k ps y) ≡ true
+  by_test ih true is g = ap (λ b. b || is_found_among d k ps y) (ap (λ (x : ℕ). is_found_at d k x y) (eqb-true q p is) ∙ own_place)
+  by_test ih false is g = later (is_found_at d k q y) (ih g)
 
 -- ---- the entries of a code
 pub inside_low : (c p : ℕ) → range_contains entry_cmp (Included (entry c 0)) (Included (entry c 4294967295)) (entry c p) ≡ range_contains nat_cmp (Included 0) (Included 4294967295) p
@@ -120,25 +122,25 @@ inside_low c p = rw (tied_itself nat_cmp_total c) refl
 pub inside_all : (p : ℕ) → p < 2147483648 → range_contains nat_cmp (Included 0) (Included 4294967295) p ≡ true
 inside_all p h = grind (arith, common_steps)
 
-pub here_filter : (c p : ℕ) (t : Entry → Bool) → t (entry c p) ≡ true → (es : List Entry) → list_any (is_at (entry_cmp (entry c p))) es ≡ true → is_here p (filter t es) ≡ true
+pub here_filter : (c p : ℕ) (t : Entry → Bool) → t (entry c p) ≡ true → (es : List Entry) → list_any (is_at (entry_cmp (entry c p))) es ≡ true → is_here p (places_in (filter t es)) ≡ true
 here_filter c p t h [] g = g
 here_filter c p t h (e ∷ es) g = by_test (here_filter c p t h es) (same_entry (entry c p) e) refl g where
   own : nat_eq p p ≡ true
   own = eq-eqb p p refl
 
-  later : (b : Bool) → is_here p (filter t es) ≡ true → is_here p (cond b (e ∷ filter t es) (filter t es)) ≡ true
+  later : (b : Bool) → is_here p (places_in (filter t es)) ≡ true → is_here p (places_in (cond b (e ∷ filter t es) (filter t es))) ≡ true
   later false k = k
   later true k = or_right (nat_eq e.place p) k where
     or_right : (a : Bool) {b : Bool} → b ≡ true → (a || b) ≡ true
     or_right true k = refl
     or_right false k = k
 
-  by_test : (list_any (is_at (entry_cmp (entry c p))) es ≡ true → is_here p (filter t es) ≡ true) → (b : Bool) → same_entry (entry c p) e ≡ b → (b || list_any (is_at (entry_cmp (entry c p))) es) ≡ true
-      → is_here p (cond (t e) (e ∷ filter t es) (filter t es)) ≡ true
+  by_test : (list_any (is_at (entry_cmp (entry c p))) es ≡ true → is_here p (places_in (filter t es)) ≡ true) → (b : Bool) → same_entry (entry c p) e ≡ b → (b || list_any (is_at (entry_cmp (entry c p))) es) ≡ true
+      → is_here p (places_in (cond (t e) (e ∷ filter t es) (filter t es))) ≡ true
   by_test ih true is g =
       let s = same_parts c p e.code e.place is in
       let one : t e ≡ true = ap t (sym (ap (λ (x : ℕ). entry x e.place) s.0)) ∙ ap t (sym (ap (entry c) s.1)) ∙ h in
-      ap (λ b. is_here p (cond b (e ∷ filter t es) (filter t es))) one ∙ ap (λ (x : ℕ). nat_eq x p || is_here p (filter t es)) (sym s.1) ∙ ap (λ b. b || is_here p (filter t es)) own
+      ap (λ b. is_here p (places_in (cond b (e ∷ filter t es) (filter t es)))) one ∙ ap (λ (x : ℕ). nat_eq x p || is_here p (places_in (filter t es))) (sym s.1) ∙ ap (λ b. b || is_here p (places_in (filter t es))) own
   by_test ih false is g = later (t e) (ih g)
 
 named : (d : Docs) (y : List ℕ) (p : ℕ) → place_at d y ≡ Some p → (Some y ≡ option_map id_of (doc_at d p)) × (passes (λ t. same_id y (id_of t)) (doc_at d p) ≡ true)
@@ -166,14 +168,18 @@ implied : (k : Key) (ks : List Key) (o : Option Tree) → IsImplied k ks → pas
 implied k ks None one h = absurd (true≢false (sym h))
 implied k ks (Some t) one h = one t h
 
-pub all_found : (seed : Seed) (d : Docs) (m : BTreeSet Entry) (k : Key) (ks : List Key) → IsKept k → IsImplied k ks → AreEntriesOf seed m d → (y : List ℕ) → is_found_among d ks (under m (key_code seed k)) y ≡ is_some (wanted d ks y)
+-- a key that stands among others is implied by them
+pub implied-here : (ks : List Key) (i : ℕ) (k : Key) → i < length ks → k ≡ get_or ks i k → ((t : Tree) → has_all ks t ≡ true → has_all (drop i ks) t ≡ true) → IsImplied k ks
+implied-here ks i k low is holds t all = and-left (has k t) _ (subst (λ (xs : List Key). has_all xs t ≡ true) (drop_more ks i k low ∙ ap (λ (x : Key). x ∷ drop (i + 1) ks) (sym is)) (holds t all))
+
+pub all_found : (seed : Seed) (d : Docs) (m : BTreeSet Entry) (k : Key) (ks : List Key) → IsKept k → IsImplied k ks → AreEntriesOf seed m d → (y : List ℕ) → is_found_among d ks (places_in (under m (key_code seed k))) y ≡ is_some (wanted d ks y)
 all_found seed d m k ks kept one are y = by_wanted (wanted d ks y) refl where
-  by_wanted : (o : Option ℕ) → wanted d ks y ≡ o → is_found_among d ks (under m (key_code seed k)) y ≡ is_some o
-  by_wanted None h = nothing_found d ks y (under m (key_code seed k)) h
+  by_wanted : (o : Option ℕ) → wanted d ks y ≡ o → is_found_among d ks (places_in (under m (key_code seed k))) y ≡ is_some o
+  by_wanted None h = nothing_found d ks y (places_in (under m (key_code seed k))) h
   by_wanted (Some p) h =
       let w = wanted_place d ks y p h in
       let stands : has_entry m (entry (key_code seed k) p) ≡ true = are y (key_code seed k) p w.0 (ap (λ (o : Option Tree). is_among (key_code seed k) (side_codes seed o)) (found_doc d y p w.0) ∙ has_codes seed k (doc_at d p) kept (implied k ks (doc_at d p) one w.1)) in
-      found_there d ks y p (under m (key_code seed k)) h (named d y p w.0).1
+      found_there d ks y p (places_in (under m (key_code seed k))) h (named d y p w.0).1
       (here_filter (key_code seed k) p (range_contains entry_cmp (Included (entry (key_code seed k) 0)) (Included (entry (key_code seed k) 4294967295))) (inside_low (key_code seed k) p ∙ inside_all p (d.shelf.low y p w.0)) m.keys stands)
 
 -- ---- the documents at what was picked

@@ -21,7 +21,7 @@ use Rattle.cs_docs.proofs.Filters.{keep, first_at, first_lesser, filter_same, me
 use Rattle.cs_codes.specs.Codes.{ref_code, is_among, side_codes}
 use Rattle.cs_codes.specs.declared.seed.Seed.{Seed}
 use Rattle.cs_index.specs.Entries.{entry_cmp, entry, AreEntriesOf}
-use Rattle.cs_index.specs.Picking.{under}
+use Rattle.cs_index.specs.Picking.{places_in, under}
 use Rattle.cs_index.specs.Referring.{refers, referrer_at, least}
 use Rattle.cs_index.specs.declared.entry.Entry.{Entry}
 use Rattle.cs_index.proofs.Picked.{is_here, here_filter, inside_low, inside_all, has_codes}
@@ -99,14 +99,14 @@ walked d target low (e ∷ es) q =
     ∙ ap first_of (regroup (refers target low) q (is_named (doc_at d e.place)) (is_found d es) (docs d))
 
 -- a document whose place is among those of the entries is found
-at_entry : (d : Docs) (p : ℕ) (u : Tree) (es : List Entry) → is_named (doc_at d p) u ≡ true → is_here p es ≡ true → is_found d es u ≡ true
+at_entry : (d : Docs) (p : ℕ) (u : Tree) (es : List Entry) → is_named (doc_at d p) u ≡ true → is_here p (places_in es) ≡ true → is_found d es u ≡ true
 at_entry d p u [] n h = h
 at_entry d p u (e ∷ es) n h = by_test (at_entry d p u es n) (nat_eq e.place p) refl h where
   later : (b : Bool) → is_found d es u ≡ true → (b || is_found d es u) ≡ true
   later true g = refl
   later false g = g
 
-  by_test : (is_here p es ≡ true → is_found d es u ≡ true) → (b : Bool) → nat_eq e.place p ≡ b → (b || is_here p es) ≡ true → (is_named (doc_at d e.place) u || is_found d es u) ≡ true
+  by_test : (is_here p (places_in es) ≡ true → is_found d es u ≡ true) → (b : Bool) → nat_eq e.place p ≡ b → (b || is_here p (places_in es)) ≡ true → (is_named (doc_at d e.place) u || is_found d es u) ≡ true
   by_test ih true is g = ap (λ (x : ℕ). is_named (doc_at d x) u || is_found d es u) (eqb-true e.place p is) ∙ ap (λ b. b || is_found d es u) n
   by_test ih false is g = later (is_named (doc_at d e.place) u) (ih g)
 

@@ -1,6 +1,6 @@
 -- What a look-up picks. For private clauses.
 use denote.Ref.{Bor}
-use Rattle.std.specs.Prelude.{◌≡◌, ℕ, Bool, true, cond, ◌&&◌, ◌||◌, List, Option, Some, None}
+use Rattle.std.specs.Prelude.{◌≡◌, ℕ, Bool, true, cond, ◌&&◌, ◌||◌, List, map, Option, Some, None}
 use Rattle.std.specs.List.{All, list_any}
 use Rattle.std.specs.Option.{is_some}
 use Rattle.std.specs.BTreeSet.{BTreeSet, keys_between}
@@ -12,7 +12,8 @@ use Rattle.cs_view.specs.Keys.{has, has_all}
 use Rattle.cs_view.specs.declared.key.Key.{Key}
 use Rattle.cs_docs.specs.Store.{place_at, doc_at}
 use Rattle.cs_docs.specs.declared.docs.Docs.{Docs}
-use Rattle.cs_index.specs.Entries.{entry, entry_cmp}
+use Rattle.cs_codes.specs.declared.seed.Seed.{Seed}
+use Rattle.cs_index.specs.Entries.{AreEntriesOf, entry, entry_cmp}
 use Rattle.cs_index.specs.Index.{ArePlacesOf}
 use Rattle.cs_index.specs.declared.entry.Entry.{Entry}
 
@@ -53,9 +54,9 @@ abbrev pub is_found_at : Docs → List Key → ℕ → List ℕ → Bool
 is_found_at d ks p y =
     passes (λ t. same_id y (id_of t)) (doc_at d p) && is_some (wanted d ks y)
 
--- at the place of one of these entries
-abbrev pub is_found_among : Docs → List Key → List Entry → List ℕ → Bool
-is_found_among d ks es y = list_any (λ e. is_found_at d ks e.place y) es
+-- at one of these places
+abbrev pub is_found_among : Docs → List Key → List ℕ → List ℕ → Bool
+is_found_among d ks ps y = list_any (λ p. is_found_at d ks p y) ps
 
 -- ids that pass a test are added
 abbrev pub Finds : (List ℕ → Bool) → Hits → Hits → Type 0
@@ -66,6 +67,17 @@ abbrev pub ArePlacesIn : Hits → List ℕ → Type 0
 ArePlacesIn hs ps =
     (d : Docs) (ks : List Key) → AreWanted d ks hs → AreAll d ks hs → ArePlacesOf ks d ps
 
--- the entries of a code
+-- the entries of a code, and the places of entries
 abbrev pub under : BTreeSet Entry → ℕ → List Entry
 under m c = keys_between entry_cmp (Included (entry c 0)) (Included (entry c 4294967295)) m
+
+abbrev pub places_in : List Entry → List ℕ
+places_in es = map (λ e. e.place) es
+
+-- whoever is wanted stands at one of these places
+abbrev pub HoldWanted : Docs → List Key → List ℕ → Type 0
+HoldWanted d ks ps = (y : List ℕ) → is_found_among d ks ps y ≡ is_some (wanted d ks y)
+
+-- and so in each store that has these entries
+abbrev pub Narrow : Seed → BTreeSet Entry → List Key → List ℕ → Type 0
+Narrow seed m ks ps = (d : Docs) → AreEntriesOf seed m d → HoldWanted d ks ps

@@ -7,7 +7,7 @@ use crate::build::{list_all, set_of};
 use crate::delta::{Delta, delta_of};
 use crate::entry::Entry;
 use crate::narrow::{id_among, rarest};
-use crate::pick::{place_of_id, places_under};
+use crate::pick::{place_of_id, places_among};
 use crate::put::{enter_changes, put_in, take_out};
 use cs_codes::Seed;
 use cs_docs::Docs;
@@ -87,8 +87,8 @@ impl Index {
         if let Some(id) = id_among(keys) {
             return place_of_id(alloc, id, keys, docs);
         }
-        match rarest(&self.seed, &self.entries, keys, worth(docs)) {
-            Some(key) => places_under(alloc, &self.seed, &self.entries, key, keys, docs),
+        match rarest(alloc, &self.seed, &self.entries, keys, worth(docs))? {
+            Some(places) => places_among(alloc, &places, keys, docs),
             None => {
                 let places = docs.select_all(alloc, keys)?;
                 Ok(places)

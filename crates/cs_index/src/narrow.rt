@@ -1,13 +1,14 @@
-//! By which of several keys a look-up goes: the one under which few entries stand.
-ghost use Rattle.std.specs.Prelude.{◌≡◌, true, IfSome};
+//! By which of several keys a look-up goes: one under which few entries stand, and their places.
+ghost use Rattle.std.specs.Prelude.{◌≡◌, true, IfOk, IfSome};
 ghost use Rattle.cs_view.specs.declared.key.Key.TheVariants.{Id};
 ghost use Rattle.cs_codes.specs.Kept.{IsKept};
-ghost use Rattle.cs_index.specs.Picking.{IsImplied};
+ghost use Rattle.cs_index.specs.Picking.{IsImplied, Narrow, places_in, under};
 
 use crate::entry::Entry;
 use cs_codes::{Seed, key_code};
-use cs_value::Txt;
+use cs_value::{NoMemory, Txt};
 use cs_view::{Key, Scalar};
+use std::alloc::Global;
 use std::collections::BTreeSet;
 
 // Whether the index keeps the key.
@@ -24,21 +25,29 @@ fn is_kept(key: &Key) -> bool
     }
 }
 
-// Whether at most so many entries stand under the code. It looks at one entry more.
-fn stand_at_most(entries: &BTreeSet<Entry>, code: u64, most: usize) -> bool {
-    let mut left = most;
+// The places under the code, if they are at most so many. It looks at one entry more.
+fn few_under(
+    alloc: Global,
+    entries: &BTreeSet<Entry>,
+    code: u64,
+    most: usize,
+) -> Result<Option<Vec<u32>>, NoMemory>
+    ensures { IfOk result (λ few. IfSome few
+        (λ places. places.items ≡ places_in (under entries.now code))) }
+{
+    let mut places = Vec::new(alloc);
     let low = Entry { code, place: 0 };
     let high = Entry {
         code,
         place: 4_294_967_295,
     };
-    for _ in entries.range(low..=high) {
-        if left == 0 {
-            return false;
+    for entry in entries.range(low..=high) {
+        if places.len() == most {
+            return Ok(None);
         }
-        left -= 1;
+        places.push(entry.place)?;
     }
-    true
+    Ok(Some(places))
 }
 
 /// The id that is one of the keys, the first if there are several.
@@ -66,62 +75,68 @@ fn is_wide(key: &Key) -> bool {
     }
 }
 
-// Of the keys that are wide, or of the others, the first one that the index keeps and under which
-// at most so many entries stand.
-fn first_of_few<'k>(
+// The places under the first of the keys that are wide, or of the others, which the index keeps and
+// under which at most so many entries stand.
+fn first_of_few(
+    alloc: Global,
     seed: &Seed,
     entries: &BTreeSet<Entry>,
-    keys: &'k [Key],
+    keys: &[Key],
     wide: bool,
     most: usize,
-) -> Option<&'k Key>
-    ensures { IfSome result (λ key. IsKept key.now × IsImplied key.now keys.now) }
+) -> Result<Option<Vec<u32>>, NoMemory>
+    ensures { IfOk result (λ few. IfSome few
+        (λ places. Narrow seed.now entries.now keys.now places.items)) }
 {
     for key in keys {
-        if is_wide(key) == wide
-            && is_kept(key)
-            && stand_at_most(entries, key_code(seed, key), most)
-        {
-            return Some(key);
+        if is_wide(key) == wide && is_kept(key) {
+            if let Some(places) = few_under(alloc, entries, key_code(seed, key), most)? {
+                return Ok(Some(places));
+            }
         }
     }
-    None
+    Ok(None)
 }
 
-// A key that the index keeps and under which at most so many entries stand. Those that are not wide
-// are tried first.
-fn of_few<'k>(
+// The places under a key that the index keeps and under which at most so many entries stand. Those
+// that are not wide are tried first.
+fn of_few(
+    alloc: Global,
     seed: &Seed,
     entries: &BTreeSet<Entry>,
-    keys: &'k [Key],
+    keys: &[Key],
     most: usize,
-) -> Option<&'k Key>
-    ensures { IfSome result (λ key. IsKept key.now × IsImplied key.now keys.now) }
+) -> Result<Option<Vec<u32>>, NoMemory>
+    ensures { IfOk result (λ few. IfSome few
+        (λ places. Narrow seed.now entries.now keys.now places.items)) }
 {
-    match first_of_few(seed, entries, keys, false, most) {
-        Some(key) => Some(key),
-        None => first_of_few(seed, entries, keys, true, most),
+    match first_of_few(alloc, seed, entries, keys, false, most)? {
+        Some(places) => Ok(Some(places)),
+        None => first_of_few(alloc, seed, entries, keys, true, most),
     }
 }
 
-/// Of the keys that the index keeps one under which hardly more entries stand than under any other.
-/// To find it, no more than some twenty entries are counted for each that stands under it and each
-/// key. `None` where more than `most` entries stand under each of them.
-pub(crate) fn rarest<'k>(
+/// The places under one of the keys that the index keeps, under which hardly more entries stand
+/// than under any other. To find them, no more than some twenty entries are looked at for each of
+/// them and each key, or thirty where they are few. `None` where more than `most` entries stand
+/// under each of them. `NoMemory` where the allocator has no room for them.
+pub(crate) fn rarest(
+    alloc: Global,
     seed: &Seed,
     entries: &BTreeSet<Entry>,
-    keys: &'k [Key],
+    keys: &[Key],
     most: usize,
-) -> Option<&'k Key>
-    ensures { IfSome result (λ key. IsKept key.now × IsImplied key.now keys.now) }
+) -> Result<Option<Vec<u32>>, NoMemory>
+    ensures { IfOk result (λ few. IfSome few
+        (λ places. Narrow seed.now entries.now keys.now places.items)) }
 {
-    for few in [16, 256, 4_096, 65_536] {
+    for few in [32, 512, 8_192, 131_072] {
         if few >= most {
             break;
         }
-        if let Some(key) = of_few(seed, entries, keys, few) {
-            return Some(key);
+        if let Some(places) = of_few(alloc, seed, entries, keys, few)? {
+            return Ok(Some(places));
         }
     }
-    of_few(seed, entries, keys, most)
+    of_few(alloc, seed, entries, keys, most)
 }

@@ -1,18 +1,13 @@
 //! The places of the documents that have each of some keys.
 ghost use Rattle.std.specs.Prelude.{◌≡◌, ℕ, List, map, IfOk, OnOk};
 ghost use Rattle.cs_view.specs.declared.key.Key.TheVariants.{Id};
-ghost use Rattle.cs_codes.specs.Kept.{IsKept};
-ghost use Rattle.cs_index.specs.Entries.{AreEntriesOf};
 ghost use Rattle.cs_index.specs.Index.{ArePlacesOf};
-ghost use Rattle.cs_index.specs.Picking.{IsImplied, wanted, under, is_hit, is_found, is_found_at, is_found_among, AreWanted, Finds, ArePlacesIn};
+ghost use Rattle.cs_index.specs.Picking.{IsImplied, wanted, is_hit, is_found, is_found_at, is_found_among, AreWanted, Finds, ArePlacesIn, HoldWanted};
 
-use crate::entry::Entry;
-use cs_codes::{Seed, key_code};
 use cs_docs::Docs;
 use cs_value::{NoMemory, Txt};
 use cs_view::{Key, has_all};
 use std::alloc::Global;
-use std::collections::BTreeSet;
 
 // The place of the document with the id, if it has each of the keys.
 fn wanted(docs: &Docs, keys: &[Key], id: &Txt) -> Option<u32>
@@ -69,27 +64,21 @@ fn choose<'d>(
     Ok(())
 }
 
-// What stands under a code and has each of the keys.
+// What stands at one of the places and has each of the keys.
 #[tactic(auto, using(crate::proofs::Marks::or_more))]
-fn hits_under<'d>(
+fn hits_among<'d>(
     alloc: Global,
-    entries: &BTreeSet<Entry>,
-    code: u64,
+    places: &[u32],
     docs: &'d Docs,
     keys: &[Key],
 ) -> Result<Vec<(&'d Txt, u32)>, NoMemory>
     ensures wanted { IfOk result (λ hits. AreWanted docs.now keys.now hits.items) }
     ensures found { IfOk result (λ hits. (y : List ℕ)
-        → is_hit y hits.items ≡ is_found_among docs.now keys.now (under entries.now code) y) }
+        → is_hit y hits.items ≡ is_found_among docs.now keys.now places.now y) }
 {
     let mut hits = Vec::new(alloc);
-    let low = Entry { code, place: 0 };
-    let high = Entry {
-        code,
-        place: 4_294_967_295,
-    };
-    for entry in entries.range(low..=high) {
-        choose(docs, keys, entry.place, &mut hits)?;
+    for place in places {
+        choose(docs, keys, *place, &mut hits)?;
     }
     Ok(hits)
 }
@@ -115,21 +104,17 @@ fn places_of(alloc: Global, hits: Vec<(&Txt, u32)>) -> Result<Vec<u32>, NoMemory
     Ok(places)
 }
 
-// The places of the documents that have each of the keys, found under one that the index keeps.
-pub(crate) fn places_under(
+// Those of the places, among which all that are wanted stand, whose documents have each of the keys.
+pub(crate) fn places_among(
     alloc: Global,
-    seed: &Seed,
-    entries: &BTreeSet<Entry>,
-    key: &Key,
+    places: &[u32],
     keys: &[Key],
     docs: &Docs,
 ) -> Result<Vec<u32>, NoMemory>
-    requires kept { IsKept key.now }
-    requires implied { IsImplied key.now keys.now }
-    requires entries { AreEntriesOf seed.now entries.now docs.now }
+    requires { HoldWanted docs.now keys.now places.now }
     ensures { IfOk result (λ places. ArePlacesOf keys.now docs.now places.items) }
 {
-    let hits = hits_under(alloc, entries, key_code(seed, key), docs, keys)?;
+    let hits = hits_among(alloc, places, docs, keys)?;
     let places = places_of(alloc, hits)?;
     Ok(places)
 }
