@@ -1,4 +1,3 @@
 mod Found
 pub mod Simples
 mod Bounded
-pub mod Sole

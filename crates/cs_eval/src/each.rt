@@ -1,8 +1,6 @@
 //! Mapped queries, whose answer is made hit by hit: whether a query is one, and the share of a hit.
-ghost use Rattle.std.specs.Prelude.{◌≡◌, ◌++◌, ◌∷◌, [], Some, true, IfOk, OnOk, map, option_map};
-ghost use Rattle.cs_value.specs.Tree.{Tree};
+ghost use Rattle.std.specs.Prelude.{◌≡◌, ◌++◌, true, IfOk, OnOk, map};
 ghost use Rattle.cs_value.specs.View.{tree, fields};
-ghost use Rattle.cs_value.specs.Words.{list_of};
 ghost use Rattle.cs_syntax.specs.Expression.{steps_of};
 ghost use Rattle.cs_syntax.specs.Queries.{expression_of};
 ghost use Rattle.cs_syntax.specs.View.{step_of};
@@ -10,13 +8,13 @@ ghost use Rattle.cs_view.specs.View.{document_of};
 ghost use Rattle.cs_window.specs.Mapped.{has_pipe, is_elementwise, is_mapped, is_piped, maps_each, share, share_looked};
 
 use crate::queries::parts;
-use crate::windows::tail_over;
-use cs_parts::{Entrance, Form, entrance_of, first_kind, form_of, kinds};
+use cs_expr::through;
+use cs_parts::{Entrance, Form, Got, entrance_of, first_kind, form_of, kinds};
 use cs_plan::is_quiet;
 use cs_syntax::{Query, Step};
 use cs_value::{Fields, NoMemory, Steps, Val};
-use cs_view::{Doc, Record, View};
-use cs_window::{mapped_is_filtered, mapped_is_shares};
+use cs_view::{Doc, Record, Scope, View};
+use cs_window::mapped_is_filtered;
 use std::alloc::Global;
 use std::sync::ledger::Ledger;
 
@@ -76,16 +74,6 @@ pub fn mapped(alloc: Global, query: &Query) -> Result<bool, NoMemory>
     maps_each(alloc, later)
 }
 
-// The element of a list of one.
-fn sole(list: Val) -> Option<Val>
-    ensures { (t : Tree) → tree list ≡ list_of (t ∷ []) → option_map tree result ≡ Some t }
-{
-    match list {
-        Val::List(mut items) => items.pop(),
-        _ => None,
-    }
-}
-
 /// The share of a document in the answer of a mapped query: what the steps behind the filter make
 /// of it over the documents of a view. The record takes the key of each look-up. `NoMemory` where
 /// the allocator has no room for it.
@@ -105,11 +93,15 @@ pub fn share<V: View<L>, L: Ledger>(
         (expression_of query.now) (fields params.now) (document_of doc.now)) }
 {
     mapped_is_filtered();
-    mapped_is_shares();
-    let one = [doc.copy()?];
-    let list = tail_over(alloc, query, params, &one, view, keys, steps)?;
-    let Some(value) = sole(list) else {
+    let root = Scope {
+        this: query.null(),
+        parent: None,
+    };
+    let Some((_condition, later)) = parts(query.expr()) else {
         unreachable!()
     };
-    Ok(value)
+    let kinds = kinds(alloc, later)?;
+    let this = Got::Part(doc.val());
+    let share = through(alloc, later, &kinds, &root, params, view, this, keys, steps)?;
+    share.into_val(alloc)
 }

@@ -5,7 +5,7 @@ ghost use Rattle.cs_syntax.specs.Expression.{steps_of};
 ghost use Rattle.cs_syntax.specs.View.{expression, step_of};
 ghost use Rattle.cs_view.specs.Scopes.{scope_of};
 ghost use Rattle.cs_meaning.specs.Joining.{gives_array};
-ghost use Rattle.cs_meaning.specs.Values.{pipes_value, step_value};
+ghost use Rattle.cs_meaning.specs.Values.{pipes_value, rest_value, step_value};
 ghost use Rattle.cs_meaning.specs.Looked.{rest_looked, pipes_looked, step_looked};
 ghost use Rattle.cs_parts.specs.Parts.{got, item};
 ghost use Rattle.cs_parts.specs.Kinds.{kinds_of};
@@ -185,6 +185,28 @@ pub fn enter<'s, S: Source<C>, C>(
     let entrance = entrance_of(first_kind(kinds));
     let first = entering(entrance, value, Remaining { steps, kinds });
     climb(alloc, first, frame, params, source, keys, count)
+}
+
+/// A value goes through a rest as it is, also where it is an array.
+pub fn through<'s, S: Source<C>, C>(
+    alloc: Global,
+    steps: &'s [Step],
+    kinds: &[Kind],
+    frame: &Scope<'s>,
+    params: &'s Fields,
+    source: &'s S,
+    value: Got<'s>,
+    keys: &mut Record,
+    count: &mut C,
+) -> Result<Got<'s>, NoMemory>
+    requires { kinds.now ≡ kinds_of (map step_of steps.now) }
+    ensures value { IfOk result (λ g. got g ≡ rest_value (S.docs source.now) (fields params.now)
+        (steps_of (map step_of steps.now)) (scope_of frame.now) (got value.entry)) }
+    ensures keys { OnOk result (keys.new ≡ keys.old ++ rest_looked (S.docs source.now) (fields
+        params.now) (steps_of (map step_of steps.now)) (scope_of frame.now) (got value.entry)) }
+{
+    let whole = Reached::Whole(value, Remaining { steps, kinds });
+    climb(alloc, whole, frame, params, source, keys, count)
 }
 
 // How far a chain comes in a rest while one value goes through its steps.

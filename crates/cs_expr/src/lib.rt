@@ -8,7 +8,7 @@ mod past;
 mod steps;
 mod trail;
 
-pub use chains::{enter, pipes};
+pub use chains::{enter, pipes, through};
 pub use expressions::eval;
 pub use past::{are_quiet, compare_parts};
 pub use steps::{holds, keep_lent, rank_each, rank_keys};

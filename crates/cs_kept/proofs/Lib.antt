@@ -1,3 +1,4 @@
+mod Elements
 pub mod Coded
 pub mod Found
 mod Keyed

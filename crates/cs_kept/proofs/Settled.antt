@@ -8,7 +8,7 @@ use Rattle.cs_value.specs.Same.{same_tree}
 use Rattle.cs_value.specs.Tree.{Tree, null}
 use Rattle.cs_value.specs.Words.{list_of}
 use Rattle.cs_codes.specs.Codes.{is_among}
-use Rattle.cs_eval.proofs.Sole.{same-elements}
+use Rattle.cs_kept.proofs.Elements.{same-elements}
 use Rattle.cs_view.proofs.Booleans.{or-left, or-right}
 use Rattle.cs_view.proofs.Sames.{same-one, one-same}
 use Rattle.cs_hits.specs.Shares.{SameBut}

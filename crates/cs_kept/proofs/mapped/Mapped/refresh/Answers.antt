@@ -9,7 +9,7 @@ use Rattle.cs_view.specs.Dataset.{ascending}
 use Rattle.cs_view.specs.Touched.{touched}
 use Rattle.cs_view.specs.View.{edits}
 use Rattle.cs_view.proofs.Booleans.{and-left}
-use Rattle.cs_eval.proofs.Sole.{same-elements}
+use Rattle.cs_kept.proofs.Elements.{same-elements}
 use Rattle.cs_codes.specs.declared.seed.Seed.{Seed}
 use Rattle.cs_interest.specs.Interest.{interest_code}
 use Rattle.cs_hits.specs.Shares.{SameBut, SharesFollow, TellsCodes, share_docs, share_values, shares_looked}
