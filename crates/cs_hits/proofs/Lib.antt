@@ -1,3 +1,4 @@
+mod Digits
 mod Renewing
 pub mod Behinds
 pub mod Brought

@@ -1,10 +1,10 @@
 //! What finding a share looked up, so kept that most changes are soon told not to touch it.
-ghost use Rattle.std.specs.Prelude.{◌≡◌, true, IfOk};
+ghost use Rattle.std.specs.Prelude.{◌≡◌, ◌%◌, ◌^◌, true, IfOk};
 ghost use Rattle.cs_view.specs.Changes.{are_changes};
 ghost use Rattle.cs_view.specs.Touched.{touched};
 ghost use Rattle.cs_view.specs.View.{edits};
 ghost use Rattle.cs_codes.specs.Codes.{is_among};
-ghost use Rattle.cs_hits.specs.Looked.{mark as id_mark, marks, sole_mark};
+ghost use Rattle.cs_hits.specs.Looked.{PassBy, mark as id_mark, marks, number, sole_mark};
 
 use cs_value::{NoMemory, Txt};
 use cs_view::{Change, Key, Record, some_touched};
@@ -32,15 +32,22 @@ impl Model for Looked {
     ghost invariant = { λ l. l.mark ≡ sole_mark l.keys };
 }
 
+// The number of which the bytes are the digits, to 64 bits.
+fn number(bytes: &[u8]) -> u64
+    ensures { result ≡ number bytes.now % 2 ^ 64 }
+{
+    let mut low = 0u64;
+    for byte in bytes {
+        low = low.wrapping_mul(31).wrapping_add(u64::from(*byte));
+    }
+    low
+}
+
 #[tactic(auto, unfolding(crate::specs::Looked::mark))]
 fn mark_of(id: &Txt) -> u64
     ensures { result ≡ id_mark id.now }
 {
-    let mut mark = 0u64;
-    for byte in id.as_str().as_bytes() {
-        mark = mark.wrapping_mul(31).wrapping_add(u64::from(*byte));
-    }
-    mark
+    number(id.as_str().as_bytes())
 }
 
 /// The marks of the changes' ids, in their order. `NoMemory` where the allocator has no room for
@@ -93,17 +100,28 @@ impl Looked {
         self.keys.keys()
     }
 
-    /// Whether the changes, whose ids have these marks, touch one of the keys. It takes no memory.
+    /// Whether marks alone tell that no changes whose ids have these marks touch one of the keys. It
+    /// looks at no key.
     #[inline]
+    pub fn is_spared(&self, id_marks: &[u64]) -> bool
+        ensures { result ≡ true → PassBy id_marks.now self.now }
+    {
+        if let Some(mark) = self.mark {
+            if !has_mark(id_marks, mark) {
+                return true;
+            }
+        }
+        false
+    }
+
+    /// Whether the changes, whose ids have these marks, touch one of the keys. It takes no memory.
     pub fn touched(&self, id_marks: &[u64], changes: &[Change]) -> bool
         requires changes { are_changes (edits changes.now) ≡ true }
         requires marks { id_marks.now ≡ marks changes.now }
         ensures { result ≡ touched self.now (edits changes.now) }
     {
-        if let Some(mark) = self.mark {
-            if !has_mark(id_marks, mark) {
-                return false;
-            }
+        if self.is_spared(id_marks) {
+            return false;
         }
         some_touched(self.keys.keys(), changes)
     }

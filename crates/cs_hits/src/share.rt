@@ -111,6 +111,48 @@ impl Share {
         looked_settles_share();
         untouched_selects_the_same();
         changes_lead_back_and_on();
+        if self.looked.is_spared(id_marks) {
+            return Ok(false);
+        }
+        self.renew_by_keys(
+            alloc, seed, query, params, view, id_marks, changes, recoded, steps,
+        )
+    }
+
+    // The same, by the keys. It stands apart, so that a share that marks spare has no room made for
+    // another.
+    fn renew_by_keys<V: View<L>, L: Ledger>(
+        &mut self,
+        alloc: Global,
+        seed: &Seed,
+        query: &Query,
+        params: &Fields,
+        view: &V,
+        id_marks: &[u64],
+        changes: &[Change],
+        recoded: &mut bool,
+        steps: &mut Steps<L>,
+    ) -> Result<bool, NoMemory>
+        requires mapped { is_mapped (expression_of query.now) ≡ true }
+        requires changes { are_changes (edits changes.now) ≡ true }
+        requires marks { id_marks.now ≡ marks changes.now }
+        requires led { LeadTo (V.docs view.now) (edits changes.now) }
+        requires share { IsShare (before_changes (V.docs view.now) (edits changes.now))
+            (expression_of query.now) (fields params.now) self.old }
+        ensures share { OnOk result (IsShare (V.docs view.now) (expression_of query.now)
+            (fields params.now) self.new) }
+        ensures doc { OnOk result (share_doc self.new ≡ share_doc self.old) }
+        ensures same { IfOk result (λ b. b ≡ false → self.new ≡ self.old) }
+        ensures told { IfOk result (λ b. b ≡ touched self.old.looked (edits changes.now)) }
+        ensures codes { OnOk result (TellsCodes seed.now self.old.looked self.new.looked
+            recoded.old recoded.new) }
+        ensures unchanged { OnErr result (self.new ≡ self.old) }
+        ensures quiet { touched self.old.looked (edits changes.now) ≡ false
+            → steps.new ≡ steps.old }
+    {
+        looked_settles_share();
+        untouched_selects_the_same();
+        changes_lead_back_and_on();
         if !self.looked.touched(id_marks, changes) {
             return Ok(false);
         }
