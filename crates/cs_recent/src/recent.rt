@@ -53,7 +53,9 @@ impl Recent {
     pub fn recall(&mut self, text: &str) -> Option<&Query>
         ensures { IfSome result (λ found. verdict text.now ≡ query (expression_of found.now)) }
     {
-        self.queries.promote(text);
+        if !self.queries.promote(text) {
+            return None;
+        }
         self.queries.peek(text)
     }
 

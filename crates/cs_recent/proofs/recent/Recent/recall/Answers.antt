@@ -9,6 +9,12 @@ invariant_of-self c =
     (asked_again (λ k. bytes_eq c.args.text.now (string_bytes k)) c.self.inside.queries.entries
     c.self.invariant)
 
+pub invariant_of-self-2 : goal.invariant_of-self-2
+invariant_of-self-2 c =
+    subst AreRead (sym (ap (λ x. x.entries) c.promote.ensures.entries))
+    (asked_again (λ k. bytes_eq c.args.text.now (string_bytes k)) c.self.inside.queries.entries
+    c.self.invariant)
+
 pub returns : goal.returns
 returns c =
     recalled c.args.text.now c.promote.new.self.entries c.peek.result
