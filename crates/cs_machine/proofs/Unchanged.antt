@@ -6,7 +6,7 @@ use Rattle.cs_view.specs.Changes.{Edit, changes_between}
 use Rattle.cs_reply.specs.Reply as plain
 use Rattle.cs_listen.specs.Events.{events}
 use Rattle.cs_machine.specs.Fold.{Stepped}
-use Rattle.cs_machine.specs.Laws.{is_refusal, RefusedLinesChangeNothing}
+use Rattle.cs_machine.specs.Laws.{refuses, RefusedLinesChangeNothing}
 use Rattle.cs_live.specs.Lives.{Said, news}
 use Rattle.cs_machine.specs.Replies.{said}
 use Rattle.cs_machine.specs.Rows.{live_reply, commit_replies}
@@ -14,19 +14,19 @@ use Rattle.cs_machine.specs.State.{State}
 use Rattle.cs_machine.proofs.Steps.{Cases, step-case}
 
 abbrev Unchanged : State → Stepped State → Type 0
-Unchanged s out = list_any is_refusal out.replies ≡ true → out.state ≡ s
+Unchanged s out = list_any refuses out.replies ≡ true → out.state ≡ s
 
-lives_refuse_none : (ls : List Said) → list_any is_refusal (map said (map live_reply ls)) ≡ false
+lives_refuse_none : (ls : List Said) → list_any refuses (map said (map live_reply ls)) ≡ false
 lives_refuse_none [] = refl
 lives_refuse_none (l ∷ ls) = lives_refuse_none ls
 
 events_refuse_none : (es : List plain.Event) (ls : List Said)
-    → list_any is_refusal (map said (map plain.event es ++ map live_reply ls)) ≡ false
+    → list_any refuses (map said (map plain.event es ++ map live_reply ls)) ≡ false
 events_refuse_none [] ls = lives_refuse_none ls
 events_refuse_none (e ∷ es) ls = events_refuse_none es ls
 
 commits_refuse_none : (s : State) (tx : List ℕ) (docs : List Tree) (cs : List Edit)
-    → list_any is_refusal (map said (commit_replies s tx docs cs)) ≡ false
+    → list_any refuses (map said (commit_replies s tx docs cs)) ≡ false
 commits_refuse_none s tx docs cs =
     events_refuse_none (events tx s.moment cs s.listeners) (news docs s.lives)
 

@@ -7,7 +7,7 @@ use Rattle.cs_docs.specs.Limits.{most_documents}
 use Rattle.cs_docs.specs.References.{clean}
 use Rattle.std.specs.Str.{bytes_eq}
 use Rattle.cs_reply.specs.Reply.{live, committed}
-use Rattle.cs_gen.specs.Summary.{is_refusal as refuses}
+use Rattle.cs_gen.specs.Summary.{is_refusal}
 use Rattle.cs_machine.specs.DataFile.{dataset, loaded}
 use Rattle.cs_interest.specs.Limits.{most_subscriptions}
 use Rattle.cs_live.specs.Lives.{LiveQuery, value_of, has_live_name}
@@ -71,15 +71,15 @@ RunsStayWithinLimits =
     × (length (state_after (begun docs) n lines).listeners ≤ most_subscriptions)
 
 -- the reply says that its line is refused
-abbrev pub is_refusal : Reply → Bool
-is_refusal (said r) = refuses r
-is_refusal (not_done r) = true
+abbrev pub refuses : Reply → Bool
+refuses (said r) = is_refusal r
+refuses (not_done r) = true
 
 -- a line that has such a reply leaves the state as it is
 abbrev pub RefusedLinesChangeNothing : Type 0
 RefusedLinesChangeNothing =
     (s : State) (n : ℕ) (line : List ℕ)
-    → list_any is_refusal (step s n line).replies ≡ true
+    → list_any refuses (step s n line).replies ≡ true
     → (step s n line).state ≡ s
 
 -- the reply tells that the transaction of the id was accepted
