@@ -8,7 +8,7 @@ ghost use Rattle.cs_syntax.specs.Queries.{expression_of};
 ghost use Rattle.cs_syntax.specs.View.{step_of, order_key_of};
 ghost use Rattle.cs_view.specs.Scopes.{scope_of};
 ghost use Rattle.cs_view.specs.View.{document_of};
-ghost use Rattle.cs_plan.specs.Simple.{quiet_keys, steps_behind, tail_of};
+ghost use Rattle.cs_plan.specs.Simple.{steps_behind, tail_of};
 ghost use Rattle.cs_meaning.specs.Ordered.{directions as directions_of, ranked};
 ghost use Rattle.cs_order.specs.Ranked.{ranked as ranked_of};
 ghost use Rattle.cs_parts.specs.Parts.{item};

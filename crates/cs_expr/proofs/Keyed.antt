@@ -1,5 +1,5 @@
 -- The keys of an order at their places, and elements that are none of the first.
-use Rattle.std.proofs.Common.{◌≡◌, ◌∙◌, ℕ, zero, suc, ◌<◌, List, [], ◌∷◌, ◌++◌, map, length, get_or, refl, sym, ap, subst, Bool, true, false, ◌+◌, ◌≤◌, is_lt, Option, Some, None, arith}
+use Rattle.std.proofs.Common.{◌≡◌, ◌∙◌, ℕ, zero, suc, ◌<◌, List, [], ◌∷◌, ◌++◌, map, length, get_or, refl, sym, ap, subst, Bool, true, false, ◌+◌, ◌≤◌, is_lt, Option, Some, arith}
 use Rattle.cs_value.specs.Tree.{Tree, null, Pairs}
 use Rattle.cs_syntax.specs.Expression.{OrderKeys, no_keys, more_keys, order_key, keys_of}
 use Rattle.cs_syntax.specs.View.{expression, order_key_of}

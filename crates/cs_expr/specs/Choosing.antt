@@ -1,4 +1,5 @@
--- What an argument of `select` stands for: GROQ-1.revision1, "select()".
+-- What an argument of `select` stands for: GROQ-1.revision1, "select()". For private
+-- clauses.
 use Rattle.std.specs.Prelude.{List, [], Option, Some, None, if◌then◌else◌}
 use Rattle.cs_value.specs.Tree.{Tree, Pairs}
 use Rattle.cs_syntax.specs.Expression.{Expression, Argument, argument, when_argument}

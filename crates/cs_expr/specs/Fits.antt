@@ -1,4 +1,4 @@
--- What is left of a chain weighs no more than a chain does.
+-- What is left of a chain weighs no more than a chain does. For private clauses.
 use Rattle.std.specs.Prelude.{◌≡◌, ℕ, ◌≤◌, ⊤, List, [], ◌∷◌, map}
 use Rattle.cs_syntax.specs.View.{step_of}
 use Rattle.cs_parts.specs.Kinds.{kinds_of}

@@ -1,4 +1,5 @@
 -- How far a chain has come: to the end of a rest, or to what goes through a rest next.
+-- For private clauses.
 use Rattle.std.specs.Prelude.{Bool, true, false, List, []}
 use Rattle.cs_value.specs.Tree.{Tree, Pairs}
 use Rattle.cs_syntax.specs.Expression.{Steps, no_steps, more_steps}

@@ -1,5 +1,5 @@
 -- Steps that are names and dereferences alone, and what they make of a value: GROQ-1.revision1,
--- "Attribute access", "Dereference".
+-- "Attribute access", "Dereference". For private clauses.
 use Rattle.std.specs.Prelude.{Bool, ◌&&◌, true, false, List, [], ◌++◌}
 use Rattle.cs_value.specs.Tree.{Tree}
 use Rattle.cs_value.specs.Words.{field}

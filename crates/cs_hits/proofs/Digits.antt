@@ -1,5 +1,5 @@
 -- Numbers by their digits to the base 31, to 64 bits.
-use Rattle.std.proofs.Common.{◌≡◌, ◌∙◌, ℕ, List, ◌∷◌, ◌+◌, ◌*◌, ◌%◌, ◌^◌, ◌/◌, length, refl, sym, ap, arith}
+use Rattle.std.proofs.Common.{◌≡◌, ◌∙◌, ℕ, List, ◌∷◌, ◌+◌, ◌*◌, ◌%◌, ◌^◌, ◌/◌, length, sym, ap, arith}
 use Rattle.std.proofs.Math.Nat.{add-mul, add-mul-mod_self_right, mod-add-div', mul_assoc, mul_comm, pow-succ'}
 use Rattle.cs_hits.specs.Looked.{number}
 

@@ -1,6 +1,6 @@
 //! The documents near a bound, which settle an answer that is made of the first few of an order.
-ghost use Rattle.std.specs.Prelude.{◌≡◌, false, true, filter, map, IfOk, IfSome, OnOk, Some};
-ghost use Rattle.cs_value.specs.View.{tree, fields};
+ghost use Rattle.std.specs.Prelude.{◌≡◌, false, true, map, IfOk, IfSome, OnOk, Some};
+ghost use Rattle.cs_value.specs.View.{fields};
 ghost use Rattle.cs_syntax.specs.Queries.{expression_of};
 ghost use Rattle.cs_view.specs.Dataset.{ascending, kept_if, placed, without};
 ghost use Rattle.cs_view.specs.Document.{id_of};
