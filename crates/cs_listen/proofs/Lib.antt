@@ -1,5 +1,7 @@
 pub mod Concerned
 mod Examples
 pub mod Keeping
-pub mod Waited
+pub mod Merged
+pub mod Numbers
+pub mod Posted
 pub mod Without

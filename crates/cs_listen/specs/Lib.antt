@@ -1,4 +1,4 @@
-pub mod Coded
 pub mod Events
 pub mod Listeners
+pub mod Posted
 pub mod Told

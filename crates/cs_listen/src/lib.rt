@@ -4,7 +4,7 @@
 mod hearing;
 mod listeners;
 mod listening;
-mod sought;
+mod postings;
 mod transition;
 
 pub use cs_reply::{Event, Transition};

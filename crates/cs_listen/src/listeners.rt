@@ -1,21 +1,22 @@
 //! The listeners of a store.
-ghost use Rattle.std.specs.Prelude.{◌≡◌, [], Some, true, false, IfOk, IfErr, OnOk, OnErr, map};
-ghost use Rattle.std.specs.List.Sorted.{IsNonDecreasing};
+ghost use Rattle.std.specs.Prelude.{◌≡◌, [], Some, true, false, IfOk, IfErr, IfNone, IfSome, OnOk, OnErr, map};
+ghost use Rattle.std.specs.List.{All};
 ghost use Rattle.cs_value.specs.View.{fields};
 ghost use Rattle.cs_view.specs.View.{edits};
 ghost use Rattle.cs_syntax.specs.Queries.{expression_of};
 ghost use Rattle.cs_plain.specs.Predicates.{filter};
-ghost use Rattle.cs_listen.specs.Coded.{are_coded};
 ghost use Rattle.cs_listen.specs.Events.{events};
+ghost use Rattle.cs_listen.specs.Posted.{ArePosted, Ascend, filter_code};
 ghost use Rattle.cs_reply.specs.View.{event};
 
 use crate::hearing::hear_all;
 use crate::listening::Listening;
-use crate::sought::{filter_code, sought_codes, waiting_codes};
+use crate::postings::{Posting, post, sought_numbers, withdraw};
+use cs_codes::Seed;
 use cs_codes::laws::keys_are_listed;
-use cs_codes::{Seed, has_code};
 use cs_interest::laws::narrowest_is_had;
-use cs_plain::{Plain, true_has_predicate_keys};
+use cs_interest::narrowest_code;
+use cs_plain::{Plain, keys, true_has_predicate_keys};
 use cs_reply::Event;
 use cs_syntax::Query;
 use cs_value::{Fields, NoMemory, NoName, Txt};
@@ -25,6 +26,9 @@ use std::hash::RandomState;
 
 /// How many listeners may stand.
 pub const MOST_LISTENERS: u32 = 1024;
+
+// The highest number.
+const HIGHEST: u64 = 18_446_744_073_709_551_615;
 
 /// Why a listener is not taken.
 #[derive(Clone, Copy, Debug, Drop, PartialEq, Eq)]
@@ -42,22 +46,36 @@ pub enum ListenFault {
 /// The listeners of a store, in the order made. A name is looked for among all of them, which are
 /// few: that happens where one is made or stopped, and not at a change.
 ///
-/// Each is held with the code of the narrowest of its filter's keys. A change goes to those whose
-/// code is one that its document has, before it or after it, and to those whose filter gives no
-/// key. The codes of all stand in one list besides, in which the codes of a change are sought
-/// first: where none of them is found, and each filter gives a key, no listener is looked at.
+/// Each is posted under the code of the narrowest of its filter's keys, or under that of every
+/// document where its filter gives no key. A change goes to those alone that are posted under a
+/// code that its document has, before it or after it.
 #[derive(Drop)]
 pub struct Listeners {
     alloc: Global,
     seed: Seed,
     made: Vec<Listening>,
-    waiting: Vec<u64>,
-    pub ghost coded: { are_coded seed waiting.items made.items ≡ true },
-    pub ghost ascending: { IsNonDecreasing waiting.items },
+    postings: Vec<Posting>,
+    next: u64,
+    pub ghost posted: { ArePosted seed postings.items next made.items },
+    pub ghost ascend: { Ascend postings.items },
+}
+
+// The code of the narrowest of a predicate's keys.
+fn filter_code(
+    alloc: Global,
+    seed: &Seed,
+    predicate: &Plain,
+    params: &Fields,
+) -> Result<u64, NoMemory>
+    ensures { IfOk result (λ c. c
+        ≡ filter_code seed.now (filter predicate.now) (fields params.now)) }
+{
+    let keys = keys(alloc, predicate, params)?;
+    Ok(narrowest_code(seed, &keys))
 }
 
 impl Listeners {
-    ghost use Rattle.cs_listen.specs.Listeners.{HasRoom, NotAdded, NotTaken, is_listening, listeners, with_one, with_query, without};
+    ghost use Rattle.cs_listen.specs.Listeners.{HasRoom, NotAdded, NotTaken, has_name, is_listening, listener, listeners, with_one, with_query, without};
 
     /// No listener. Which keys share a code depends on the seed, which no one who chooses documents
     /// knows. It takes no memory.
@@ -68,7 +86,8 @@ impl Listeners {
             alloc,
             seed: Seed::new(&seed),
             made: Vec::new(alloc),
-            waiting: Vec::new(alloc),
+            postings: Vec::new(alloc),
+            next: 0,
         }
     }
 
@@ -76,12 +95,7 @@ impl Listeners {
     pub fn has(&self, name: &str) -> bool
         ensures { result ≡ is_listening name.now (listeners self.now) }
     {
-        for listening in &self.made {
-            if listening.is_named(name) {
-                return true;
-            }
-        }
-        false
+        self.number(name).is_some()
     }
 
     /// A listener more, the last, that watches the query. The first that holds is told: that a
@@ -131,27 +145,64 @@ impl Listeners {
         if self.made.len() >= MOST_LISTENERS as usize {
             return Err(ListenFault::Full);
         }
-        let Ok(code) = filter_code(self.alloc, &self.seed, &predicate, &params) else {
-            return Err(ListenFault::NoMemory);
-        };
-        let Ok(waiting) = waiting_codes(self.alloc, &self.made, code) else {
-            return Err(ListenFault::NoMemory);
-        };
+        match self.push(name, predicate, params, include_result, include_previous) {
+            Ok(()) => Ok(()),
+            Err(NoMemory) => Err(ListenFault::NoMemory),
+        }
+    }
+
+    // A listener more, the last, with a number of its own.
+    fn push(
+        &mut self,
+        name: Txt,
+        predicate: Plain,
+        params: Fields,
+        include_result: bool,
+        include_previous: bool,
+    ) -> Result<(), NoMemory>
+        ensures added { OnOk result (listeners self.new ≡ with_one name (filter predicate)
+            (fields params) include_result include_previous (listeners self.old)) }
+        ensures unchanged { OnErr result (listeners self.new ≡ listeners self.old) }
+    {
+        let number = self.next;
+        if number >= HIGHEST {
+            return Err(NoMemory);
+        }
+        let code = filter_code(self.alloc, &self.seed, &predicate, &params)?;
+        post(&mut self.postings, code, number)?;
         let listening = Listening {
             name,
+            number,
             predicate,
             params,
-            code,
             include_result,
             include_previous,
         };
         match self.made.push(listening) {
             Ok(()) => {
-                self.waiting = waiting;
+                self.next = number + 1;
                 Ok(())
             }
-            Err(_refused) => Err(ListenFault::NoMemory),
+            Err(_refused) => {
+                withdraw(&mut self.postings, number);
+                Err(NoMemory)
+            }
         }
+    }
+
+    // The number of the listener of the name.
+    fn number(&self, name: &str) -> Option<u64>
+        ensures own { IfSome result (λ n. All (λ l. l.number ≡ n → has_name name.now (listener l)
+            ≡ true) self.now.made.items) }
+        ensures had { IfSome result (λ _. is_listening name.now (listeners self.now) ≡ true) }
+        ensures none { IfNone result (is_listening name.now (listeners self.now) ≡ false) }
+    {
+        for listening in &self.made {
+            if listening.is_named(name) {
+                return Some(listening.number);
+            }
+        }
+        None
     }
 
     /// Takes out the listener of the name; the others stay in their order. `NoName` exactly where
@@ -162,10 +213,11 @@ impl Listeners {
         ensures none { OnErr result (is_listening name.now (listeners self.old) ≡ false) }
         ensures unchanged { OnErr result (listeners self.new ≡ listeners self.old) }
     {
-        if !self.has(name) {
+        let Some(number) = self.number(name) else {
             return Err(NoName);
-        }
+        };
         self.made.retain(|listening| !listening.is_named(name));
+        withdraw(&mut self.postings, number);
         Ok(())
     }
 
@@ -189,11 +241,7 @@ impl Listeners {
         if self.made.is_empty() {
             return Ok(Vec::new(alloc));
         }
-        let sought = sought_codes(alloc, &self.seed, &self.waiting, changes)?;
-        // Most changes concern no listener, and then none is looked at.
-        if sought.is_empty() && !has_code(&self.waiting, 0) {
-            return Ok(Vec::new(alloc));
-        }
-        hear_all(alloc, &self.made, &sought, tx, moment, changes)
+        let numbers = sought_numbers(alloc, &self.seed, &self.postings, changes)?;
+        hear_all(alloc, &self.made, &numbers, tx, moment, changes)
     }
 }

@@ -1,29 +1,26 @@
 //! One listener, and what it hears.
 ghost use Rattle.std.specs.Prelude.{◌≡◌, ◌++◌, OnOk, Some, map, filter_map, option_map, option_to_list};
-ghost use Rattle.std.specs.List.Sorted.{IsNonDecreasing};
 ghost use Rattle.cs_value.specs.View.{tree};
 ghost use Rattle.cs_view.specs.Document.{rev_of};
 ghost use Rattle.cs_view.specs.View.{document_of, edit, edits};
 ghost use Rattle.cs_listen.specs.Events.{where_asked, heard as heard_of};
 ghost use Rattle.cs_listen.specs.Listeners.{listener, has_name};
-ghost use Rattle.cs_listen.specs.Told.{told};
 ghost use Rattle.cs_reply.specs.View.{event as event_of};
 
-use crate::sought::is_sought;
 use crate::transition::transition_of;
 use cs_plain::Plain;
 use cs_reply::Event;
 use cs_value::{Fields, NoMemory, Txt, Val};
 use cs_view::{Change, Doc};
 
-/// A listener: its name, the predicate that it watches with the code of this one's key, and which
+/// A listener: its name, its number in the order made, the predicate that it watches, and which
 /// documents its events carry.
 #[derive(Drop)]
 pub(crate) struct Listening {
     pub(crate) name: Txt,
+    pub(crate) number: u64,
     pub(crate) predicate: Plain,
     pub(crate) params: Fields,
-    pub(crate) code: u64,
     pub(crate) include_result: bool,
     pub(crate) include_previous: bool,
 }
@@ -102,8 +99,8 @@ impl Listening {
         }
     }
 
-    // What it hears of the changes is put behind the others, in the order of the changes.
-    fn hear<'a>(
+    /// What it hears of the changes is put behind the others, in the order of the changes.
+    pub(crate) fn hear<'a>(
         &'a self,
         tx: &'a str,
         moment: &'a str,
@@ -117,25 +114,5 @@ impl Listening {
             self.hear_one(tx, moment, change, heard)?;
         }
         Ok(())
-    }
-
-    /// The same where its code is sought: else nothing is put, and no change is looked at.
-    pub(crate) fn hear_sought<'a>(
-        &'a self,
-        sought: &Vec<u64>,
-        tx: &'a str,
-        moment: &'a str,
-        changes: &'a [Change],
-        heard: &mut Vec<Event<'a>>,
-    ) -> Result<(), NoMemory>
-        requires { IsNonDecreasing sought.now.items }
-        ensures { OnOk result (map event_of heard.new.items ≡ map event_of heard.old.items
-            ++ told sought.now.items tx.now moment.now (edits changes.now) self.now) }
-    {
-        if is_sought(self.code, sought) {
-            self.hear(tx, moment, changes, heard)
-        } else {
-            Ok(())
-        }
     }
 }

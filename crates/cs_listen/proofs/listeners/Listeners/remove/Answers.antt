@@ -1,9 +1,9 @@
-use Rattle.std.proofs.Common.{rules, ◌∙◌, ap, map, not, Bool}
+use Rattle.std.proofs.Common.{rules, ◌∙◌, ap, map, not, subst, sym, Bool}
 use Rattle.std.proofs.lemmas.Fn.{filter_same}
-use Rattle.cs_listen.specs.Coded.{are_coded}
 use Rattle.cs_listen.specs.Listeners.{listener, has_name}
+use Rattle.cs_listen.specs.Posted.{ArePosted}
 use Rattle.cs_listen.specs.declared.listening.Listening.{Listening}
-use Rattle.cs_listen.proofs.Keeping.{coded_kept}
+use Rattle.cs_listen.proofs.Keeping.{posted_others}
 use Rattle.cs_listen.proofs.Without.{without_map}
 use Rattle.cs_listen.proofs.listeners.Listeners.remove.Goals as goal
 
@@ -14,9 +14,12 @@ returns-clause-removed c =
 
 pub invariant_of-self : goal.invariant_of-self
 invariant_of-self c =
+    let old = c.args.self.now in
     let others : Listening → Bool = λ l. not (has_name c.args.name.now (listener l)) in
+    let postings = c.withdraw.new.postings.items in
     record {
-      coded = ap (are_coded c.args.self.now.seed c.args.self.now.waiting.items) (filter_same _ others _ (λ x b f' k. search rules) _ _ c.retain.ensures.filtered)
-          ∙ coded_kept c.args.self.now.seed c.args.self.now.waiting.items others c.args.self.now.made.items c.args.self.now.coded;
-      ascending = c.args.self.now.ascending;
+      posted = subst (ArePosted old.seed postings old.next) (sym (filter_same _ others _ (λ x b f' k. search rules) _ _ c.retain.ensures.filtered))
+          (posted_others old.seed old.postings.items postings old.next c.in-Some.number c.args.name.now old.made.items
+          c.withdraw.ensures.withdrawn c.in-Some.ensures.own old.posted);
+      ascend = c.withdraw.ensures.ascend;
     }
