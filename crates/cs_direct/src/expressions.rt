@@ -55,7 +55,7 @@ fn evaluate<'s>(expr: &'s Expr, frame: &Scope<'s>, params: &'s Fields) -> Option
         Expr::Number(number) => Some(Operand::written(number.as_str())),
         Expr::Text(text) => Some(Operand::Text(text)),
         Expr::Param(name) => Some(Operand::or_null(params.get(name.as_str()))),
-        Expr::Word(name) => Some(Operand::or_null(up(frame, 0)).field(name.as_str())),
+        Expr::Word(name) => Some(Operand::or_null(up(frame, 0)).attribute(name)),
         Expr::This => Some(Operand::or_null(up(frame, 0))),
         Expr::Up(level) => Some(Operand::or_null(up(frame, *level))),
         Expr::Round(inner) => evaluate(inner, frame, params),

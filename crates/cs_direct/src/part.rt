@@ -34,7 +34,7 @@ fn named<'s>(expr: &Expr, frame: &Scope<'s>) -> Option<&'s Val>
     match expr {
         Expr::This => up(frame, 0),
         Expr::Up(level) => up(frame, *level),
-        Expr::Word(name) => up(frame, 0)?.field(name.as_str()),
+        Expr::Word(name) => up(frame, 0)?.attribute(name),
         Expr::Chain { base, steps } => behind(steps, named(base, frame)?),
         _ => None,
     }

@@ -19,7 +19,7 @@ use cs_levels::{
     put_element, put_entry,
 };
 use cs_parts::{
-    Got, Item, Source, all, at_level, decides, field, gather, is_true, param, path_arguments,
+    Got, Item, Source, all, at_level, attribute, decides, gather, is_true, param, path_arguments,
     prefixed, settle,
 };
 use cs_plan::literal;
@@ -51,7 +51,7 @@ pub fn eval<'s, S: Source<C>, C>(
         Expr::Number(number) => Ok(Got::Whole(literal(number.as_str()))),
         Expr::Text(text) => Ok(Got::Whole(Val::Text(text.copy(alloc)?))),
         Expr::Param(name) => Ok(param(params, name.as_str())),
-        Expr::Word(name) => Ok(field(at_level(frame, 0), name.as_str())),
+        Expr::Word(name) => Ok(attribute(at_level(frame, 0), name)),
         Expr::This => Ok(at_level(frame, 0)),
         Expr::All => all(alloc, source, keys, count),
         Expr::Up(level) => Ok(at_level(frame, *level)),

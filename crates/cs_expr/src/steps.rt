@@ -22,7 +22,7 @@ use cs_levels::{InBracket, in_bracket, list_in_order, ordered_elements};
 use cs_meaning::quiet_asks_nothing;
 use cs_order::{Ranked, admit, owned};
 use cs_parts::{
-    Got, Item, Source, deref, directions, each, field, gather, is_object, push, settle, sliced,
+    Got, Item, Source, attribute, deref, directions, each, gather, is_object, push, settle, sliced,
 };
 use cs_syntax::{Entry, Expr, OrderKey, Step};
 use cs_value::{Fields, NoMemory, Txt, Val};
@@ -48,7 +48,7 @@ pub(crate) fn one_step<'s, S: Source<C>, C>(
         params.now) (step_of step.now) (scope_of frame.now) (got value.entry)) }
 {
     match step {
-        Step::Attr(name) => Ok(field(value, name.as_str())),
+        Step::Attr(name) => Ok(attribute(value, name)),
         Step::Deref => deref(alloc, value, source, keys, count),
         Step::Each => Ok(each(value)),
         Step::Slice { from, to, closed } => sliced(alloc, value, from, to, *closed),

@@ -5,7 +5,7 @@ ghost use Rattle.cs_syntax.specs.View.{step_of};
 ghost use Rattle.cs_parts.specs.Parts.{got};
 ghost use Rattle.cs_expr.specs.Trail.{is_link, is_trail, linked, link_looked, trailed, trail_looked};
 
-use cs_parts::{Got, Source, deref, field};
+use cs_parts::{Got, Source, attribute, deref};
 use cs_syntax::Step;
 use cs_value::NoMemory;
 use cs_view::Record;
@@ -51,7 +51,7 @@ fn link<'s, S: Source<C>, C>(
         ≡ keys.old ++ link_looked (step_of step.now) (got value.entry)) }
 {
     match step {
-        Step::Attr(name) => Ok(field(value, name.as_str())),
+        Step::Attr(name) => Ok(attribute(value, name)),
         Step::Deref => deref(alloc, value, source, keys, count),
         Step::Each | Step::Slice { .. } | Step::Bracket(_) | Step::Project(_) | Step::Pipe { .. } =>
             Ok(value),

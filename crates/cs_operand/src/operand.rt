@@ -69,4 +69,15 @@ impl<'v> Operand<'v> {
             _ => Operand::Null,
         }
     }
+
+    /// The same as [`field`](Operand::field), with a look at the place first at which the name was
+    /// found last.
+    pub fn attribute(self, name: &Txt) -> Operand<'v>
+        ensures { operand result ≡ field name.now (operand self.entry) }
+    {
+        match self {
+            Operand::Object(object) => Operand::or_null(object.attribute(name)),
+            _ => Operand::Null,
+        }
+    }
 }

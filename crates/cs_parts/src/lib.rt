@@ -31,6 +31,6 @@ pub use members::{put_all, put_bare};
 pub use membership::{among, in_path, references};
 pub use positions::{element, sliced};
 pub use source::{NoDocs, Source};
-pub use take::{each, field, is_false, is_null, is_object, is_true, reference_of};
+pub use take::{attribute, each, field, is_false, is_null, is_object, is_true, reference_of};
 pub use turns::{ends, is_all, is_over, items_or_none, prefixed, turn};
 pub use visits::{all, deref};

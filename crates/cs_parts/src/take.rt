@@ -69,6 +69,20 @@ pub fn field<'s>(whole: Got<'s>, name: &str) -> Got<'s>
     }
 }
 
+/// The same as [`field`], with a look at the place first at which the name was found last.
+#[tactic(auto, using(crate::proofs::Trees::field_of_object, crate::proofs::Trees::tree_of_null))]
+pub fn attribute<'s>(whole: Got<'s>, name: &Txt) -> Got<'s>
+    ensures { got result ≡ field name.now (got whole.entry) }
+{
+    match whole {
+        Got::Part(val) => match val.attribute(name) {
+            Some(part) => Got::Part(part),
+            None => Got::Whole(Val::Null),
+        },
+        _ => field(whole, name.as_str()),
+    }
+}
+
 /// `[]`: a list itself, null of anything else.
 #[tactic(auto, using(crate::proofs::Sets::each))]
 pub fn each<'s>(whole: Got<'s>) -> Got<'s>

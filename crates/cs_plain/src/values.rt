@@ -30,7 +30,7 @@ fn chain_value<'v>(base: &Expr, steps: &[Step], doc: &'v Val) -> Operand<'v>
         (steps_of (map step_of steps.now)) (tree doc.now) }
 {
     match base {
-        Expr::Word(word) => Operand::or_null(at_names(doc.field(word.as_str()), steps)),
+        Expr::Word(word) => Operand::or_null(at_names(doc.attribute(word), steps)),
         _ => Operand::Null,
     }
 }
@@ -57,7 +57,7 @@ pub(crate) fn operand<'v>(expr: &'v Expr, params: &'v Fields, doc: &'v Val) -> O
         Expr::Number(number) => Operand::written(number.as_str()),
         Expr::Text(text) => Operand::Text(text),
         Expr::Param(name) => Operand::or_null(params.get(name.as_str())),
-        Expr::Word(word) => Operand::or_null(doc.field(word.as_str())),
+        Expr::Word(word) => Operand::or_null(doc.attribute(word)),
         Expr::This => Operand::of(doc),
         Expr::Chain { base, steps } => chain_value(base, steps, doc),
         Expr::Prefix { signs, operand } => negative(negative_of(signs, operand)),

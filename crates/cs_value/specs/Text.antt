@@ -6,7 +6,7 @@ use Rattle.cs_value.specs.declared.txt.Held.{Held}
 use Rattle.cs_value.specs.declared.txt.Held.TheVariants.{Inside, Outside}
 
 abbrev pub text_bytes : Held → List ℕ
-text_bytes (Inside text) = text
+text_bytes (Inside text place) = text
 text_bytes (Outside text) = string_bytes text
 
 -- and those of a name

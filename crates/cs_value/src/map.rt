@@ -129,6 +129,14 @@ impl<V> OrderedMap<V> {
         self.stored.get(name)
     }
 
+    /// The same as [`get`](OrderedMap::get), with a look at the place first at which the name was
+    /// found last.
+    pub fn find(&self, name: &Txt) -> Option<&V>
+        ensures value { option_copied result ≡ lookup (is_at (compares name.now)) self.now }
+    {
+        self.stored.find(name)
+    }
+
     /// Puts the value at the name, and gives back the value that it replaces: `Ok(None)` exactly
     /// where the name was not there. A name above all others goes last without a search while the
     /// pairs stand in one vector. `NoMemory` where the map cannot grow; it is unchanged then.

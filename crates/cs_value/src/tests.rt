@@ -63,3 +63,26 @@ fn an_object_keeps_what_was_put(rt: HostRuntime) -> Result<(), Fail> {
     keeps(&rt, rt.alloc(), 33)?;
     keeps(&rt, rt.alloc(), 100)
 }
+
+// The name is sought twice, since the second time its place is known.
+fn finds(rt: &impl Abort, alloc: Global, name: &Txt, many: u32) -> Result<(), Fail>
+    requires { many ≤ 100 }
+{
+    let object = Val::Obj(numbered(alloc, many)?);
+    assert!(rt; matches!(object.attribute(name), Some(Val::Num(14))));
+    assert!(rt; matches!(object.attribute(name), Some(Val::Num(14))));
+    Ok(())
+}
+
+#[test]
+fn a_name_is_found_wherever_it_stands(rt: HostRuntime) -> Result<(), Fail> {
+    let alloc = rt.alloc();
+    let name = Txt::copy_of(alloc, "0014")?;
+    finds(&rt, alloc, &name, 3)?;
+    finds(&rt, alloc, &name, 20)?;
+    finds(&rt, alloc, &name, 3)?;
+    finds(&rt, alloc, &name, 100)?;
+    assert!(rt; Val::Obj(numbered(alloc, 2)?).attribute(&name).is_none());
+    assert!(rt; Val::Null.attribute(&name).is_none());
+    Ok(())
+}

@@ -12,15 +12,20 @@ pub(crate) mod order;
 use crate::memory::NoMemory;
 use inside::Short;
 use std::alloc::Global;
+use std::cell::Cell;
 use std::cmp::Ordering;
 use std::convert::AsStr;
 use std::marker::Model;
 
 /// The most bytes of a text that lies in its value and takes no memory of its own.
-pub const MOST_INSIDE: usize = 30;
+pub const MOST_INSIDE: usize = 29;
 
-/// UTF-8 text. One of at most 30 bytes lies in the value itself and takes no memory of its own.
+/// UTF-8 text. One of at most 29 bytes lies in the value itself and takes no memory of its own.
 /// Contracts see it as the list of its bytes.
+///
+/// A text that lies in its value has a byte for the place in an object at which it was found last
+/// as the name of an attribute: [`Fields::attribute`](crate::Fields::attribute) looks there first.
+/// No answer depends on that byte.
 #[derive(Drop)]
 pub struct Txt {
     held: Held,
@@ -28,7 +33,7 @@ pub struct Txt {
 
 #[derive(Drop)]
 enum Held {
-    Inside(Short<MOST_INSIDE>),
+    Inside(Short<MOST_INSIDE>, Cell<u8>),
     Outside(String),
 }
 
@@ -42,7 +47,7 @@ impl Model for Txt {
 }
 
 impl Txt {
-    /// A copy of the text, which takes no memory if it is of at most 30 bytes. `NoMemory` where the
+    /// A copy of the text, which takes no memory if it is of at most 29 bytes. `NoMemory` where the
     /// allocator has no room for a longer one.
     pub fn copy_of(alloc: Global, text: &str) -> Result<Txt, NoMemory>
         ensures { IfOk result (λ t. t ≡ text.now) }
@@ -58,7 +63,25 @@ impl Txt {
         }
     }
 
-    /// The text itself, moved and not copied if it is of more than 30 bytes.
+    // The place in an object at which the name was found last, and the first one where that is not
+    // known.
+    pub(crate) fn place(&self) -> usize {
+        match &self.held {
+            Held::Inside(_, place) => place.get() as usize,
+            Held::Outside(_) => 0,
+        }
+    }
+
+    // From now on the name is looked for at this place first, where it keeps one.
+    pub(crate) fn note(&self, place: usize) {
+        if let Held::Inside(_, noted) = &self.held {
+            if place < 256 {
+                noted.set(place as u8);
+            }
+        }
+    }
+
+    /// The text itself, moved and not copied if it is of more than 29 bytes.
     pub fn from_string(text: String) -> Txt
         ensures { result ≡ string_bytes text }
     {
@@ -71,21 +94,21 @@ impl Txt {
     }
 
     fn short(text: &str) -> Txt
-        requires { length text.now ≤ 30 }
+        requires { length text.now ≤ 29 }
         ensures { result ≡ text.now }
     {
         Txt {
-            held: Held::Inside(Short::of(text)),
+            held: Held::Inside(Short::of(text), Cell::new(0)),
         }
     }
 
-    /// The same text again, which takes no memory if it is of at most 30 bytes. `NoMemory` where
+    /// The same text again, which takes no memory if it is of at most 29 bytes. `NoMemory` where
     /// the allocator has no room for a longer one.
     pub fn copy(&self, alloc: Global) -> Result<Txt, NoMemory>
         ensures { IfOk result (λ t. t ≡ self.now) }
     {
         let held = match &self.held {
-            Held::Inside(text) => Held::Inside(text.copy()),
+            Held::Inside(text, _) => Held::Inside(text.copy(), Cell::new(0)),
             Held::Outside(text) => Held::Outside(String::from_str(alloc, text.as_str())?),
         };
         Ok(Txt { held })
@@ -93,22 +116,22 @@ impl Txt {
 
     /// The text again, held in `N` places, where it lies in its value and is short enough.
     pub(crate) fn narrowed<const N: usize>(&self) -> Option<Short<N>>
-        requires { N ≤ 30 }
+        requires { N ≤ 29 }
         ensures { IfSome result (λ short. short ≡ self.now) }
     {
         match &self.held {
-            Held::Inside(text) => text.narrowed(),
+            Held::Inside(text, _) => text.narrowed(),
             Held::Outside(_) => None,
         }
     }
 
     /// The text again that is held in `N` places. It takes no memory.
     pub(crate) fn widened<const N: usize>(text: &Short<N>) -> Txt
-        requires { N ≤ 30 }
+        requires { N ≤ 29 }
         ensures { result ≡ text.now }
     {
         Txt {
-            held: Held::Inside(text.widened()),
+            held: Held::Inside(text.widened(), Cell::new(0)),
         }
     }
 
@@ -117,19 +140,19 @@ impl Txt {
         ensures { result.now ≡ self.now }
     {
         match &self.held {
-            Held::Inside(text) => text.as_str(),
+            Held::Inside(text, _) => text.as_str(),
             Held::Outside(text) => text.as_str(),
         }
     }
 
-    /// The text as a `String`. It is moved if it is of more than 30 bytes. `NoMemory` where the
+    /// The text as a `String`. It is moved if it is of more than 29 bytes. `NoMemory` where the
     /// allocator has no room for a shorter one.
     pub fn into_string(self, alloc: Global) -> Result<String, NoMemory>
         ensures { IfOk result (λ s. string_bytes s ≡ self) }
     {
         let Txt { held } = self;
         match held {
-            Held::Inside(text) => Ok(String::from_str(alloc, text.as_str())?),
+            Held::Inside(text, _) => Ok(String::from_str(alloc, text.as_str())?),
             Held::Outside(text) => Ok(text),
         }
     }

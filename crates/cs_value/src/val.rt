@@ -51,6 +51,18 @@ impl Val {
             None
         }
     }
+
+    /// The same as [`field`](Val::field), with a look at the place first at which the name was
+    /// found last.
+    pub fn attribute(&self, name: &Txt) -> Option<&Val>
+        ensures { option_map (λ v. tree v.now) result ≡ attribute name.now (tree self.now) }
+    {
+        if let Val::Obj(object) = self {
+            object.attribute(name)
+        } else {
+            None
+        }
+    }
 }
 
 impl Val {
@@ -120,6 +132,14 @@ impl Fields {
         ensures { option_map (λ v. tree v.now) result ≡ find name.now (fields self.now) }
     {
         self.pairs.get(name)
+    }
+
+    /// The same as [`get`](Fields::get), with a look at the place first at which the name was found
+    /// last.
+    pub fn attribute(&self, name: &Txt) -> Option<&Val>
+        ensures { option_map (λ v. tree v.now) result ≡ find name.now (fields self.now) }
+    {
+        self.pairs.find(name)
     }
 
     /// The text under `_ref`, by which an object refers to a document. `None` exactly where no text

@@ -48,6 +48,33 @@ pub(super) fn get<'a, V>(row: &'a [(Name, V)], name: &str) -> Option<&'a V>
     None
 }
 
+/// The same as [`get`], with a look at the place first at which the name was found last.
+pub(super) fn find<'a, V>(row: &'a [(Name, V)], name: &Txt) -> Option<&'a V>
+    requires { Ascend row.now }
+    ensures { option_copied result ≡ lookup (is_at (compares name.now)) row.now }
+{
+    if let Some((other, value)) = row.get(name.place()) {
+        if other.is(name.as_str()) {
+            return Some(value);
+        }
+    }
+    search(row, name)
+}
+
+// Seeks the name among all, and notes the place where it stands.
+fn search<'a, V>(row: &'a [(Name, V)], name: &Txt) -> Option<&'a V>
+    requires { Ascend row.now }
+    ensures { option_copied result ≡ lookup (is_at (compares name.now)) row.now }
+{
+    match place(row, name.as_str()) {
+        Ok(at) => {
+            name.note(at);
+            Some(&row[at].1)
+        }
+        Err(_) => None,
+    }
+}
+
 /// Takes the name out, and gives its value. `None` exactly where the row lacks the name.
 pub(super) fn take<V: Drop>(row: &mut Vec<(Name, V)>, name: &str) -> Option<V>
     requires { Ascend row.old.items }

@@ -70,6 +70,16 @@ impl<V> Stored<V> {
         }
     }
 
+    pub(super) fn find(&self, name: &Txt) -> Option<&V>
+        requires { Ascend (entries self.now) }
+        ensures { option_copied result ≡ lookup (is_at (compares name.now)) (entries self.now) }
+    {
+        match self {
+            Stored::Few(row) => row::find(row.as_slice(), name),
+            Stored::Many(tree) => tree::get(tree, name.as_str()),
+        }
+    }
+
     // Whether the vector is full and lacks the name.
     fn is_full_without(&self, name: &str) -> bool {
         match self {
