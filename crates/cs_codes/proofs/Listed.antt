@@ -28,20 +28,20 @@ use Rattle.cs_codes.specs.Kept.{IsKept}
 first : (c : ℕ) → is_among c (c ∷ []) ≡ true
 first c = ap (λ b. b || false) (eq-eqb c c refl)
 
-among-left : (c : ℕ) (xs ys : List ℕ) → is_among c xs ≡ true → is_among c (xs ++ ys) ≡ true
+pub among-left : (c : ℕ) (xs ys : List ℕ) → is_among c xs ≡ true → is_among c (xs ++ ys) ≡ true
 among-left c xs ys h = list_any-append (λ x. nat_eq c x) xs ys ∙ ap (λ b. b || is_among c ys) h
 
-among-right : (c : ℕ) (xs ys : List ℕ) → is_among c ys ≡ true → is_among c (xs ++ ys) ≡ true
+pub among-right : (c : ℕ) (xs ys : List ℕ) → is_among c ys ≡ true → is_among c (xs ++ ys) ≡ true
 among-right c xs ys h = list_any-append (λ x. nat_eq c x) xs ys ∙ ap (λ b. is_among c xs || b) h ∙ or-true (is_among c xs)
 
-scalar_listed : (s : Scalar) (hash : Hash) (t : Tree) → equals s t ≡ true → is_among (scalar_code hash s) (scalar_codes hash t) ≡ true
+pub scalar_listed : (s : Scalar) (hash : Hash) (t : Tree) → equals s t ≡ true → is_among (scalar_code hash s) (scalar_codes hash t) ≡ true
 scalar_listed (Boolean true) hash (boolean true) h = first (boolean_code hash true)
 scalar_listed (Boolean false) hash (boolean false) h = first (boolean_code hash false)
 scalar_listed (Num n) hash (integer m) h = subst (λ (k : ℤ). is_among (scalar_code hash (Num n)) (scalar_code hash (Num k) ∷ []) ≡ true) (sym ((Decides-int_eq m n).0 h)) (first (scalar_code hash (Num n)))
 scalar_listed (Text t) hash (text s) h = subst (λ (k : List ℕ). is_among (scalar_code hash (Text t)) (scalar_code hash (Text k) ∷ []) ≡ true) (sym ((bytes_eq-Decides s t).0 h)) (first (scalar_code hash (Text t)))
 scalar_listed s hash t h = absurd (true≢false (sym h))
 
-elements_listed : (s : Scalar) (hash : Hash) (ts : Trees) → list_any (equals s) (members ts) ≡ true → is_among (scalar_code hash s) (elements_codes hash ts) ≡ true
+pub elements_listed : (s : Scalar) (hash : Hash) (ts : Trees) → list_any (equals s) (members ts) ≡ true → is_among (scalar_code hash s) (elements_codes hash ts) ≡ true
 elements_listed s hash no_trees h = h
 elements_listed s hash (more_trees t ts) h = by_first (elements_listed s hash ts) (equals s t) refl h where
   by_first : (list_any (equals s) (members ts) ≡ true → is_among (scalar_code hash s) (elements_codes hash ts) ≡ true) → (b : Bool) → equals s t ≡ b → (b || list_any (equals s) (members ts)) ≡ true

@@ -1,3 +1,4 @@
 pub mod Codes
 pub mod Kept
+pub mod Kinds
 pub mod Laws

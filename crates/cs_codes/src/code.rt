@@ -52,7 +52,8 @@ fn code_of(hash: &FoldHasher) -> u64
     hash.finish()
 }
 
-fn with_names(hash: FoldHasher, names: &[Txt]) -> FoldHasher
+// The hash that has read the names too.
+pub(crate) fn with_names(hash: FoldHasher, names: &[Txt]) -> FoldHasher
     ensures { result ≡ with_names hash names.now }
 {
     let mut longer = hash;

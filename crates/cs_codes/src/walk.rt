@@ -21,7 +21,7 @@ const MOST_NAMES: u32 = 4;
 const USUAL_CODES: usize = 32;
 
 // The code of a scalar.
-fn put_scalar(hash: FoldHasher, val: &Val, out: &mut Vec<u64>) -> Result<(), NoMemory>
+pub(crate) fn put_scalar(hash: FoldHasher, val: &Val, out: &mut Vec<u64>) -> Result<(), NoMemory>
     ensures { OnOk result (out.new.items ≡ out.old.items ++ scalar_codes hash (tree val.now)) }
 {
     match val {
@@ -34,7 +34,11 @@ fn put_scalar(hash: FoldHasher, val: &Val, out: &mut Vec<u64>) -> Result<(), NoM
 }
 
 // The codes of the scalars among the elements of a list.
-fn put_elements(hash: FoldHasher, items: &Vec<Val>, out: &mut Vec<u64>) -> Result<(), NoMemory>
+pub(crate) fn put_elements(
+    hash: FoldHasher,
+    items: &Vec<Val>,
+    out: &mut Vec<u64>,
+) -> Result<(), NoMemory>
     ensures { OnOk result (out.new.items
         ≡ out.old.items ++ elements_codes hash (trees (list_tree items.now.items))) }
 {
@@ -91,7 +95,7 @@ fn put_fields_inside(
 
 // The codes of the references in a value.
 #[cycle(refs)]
-fn put_refs(seed: &Seed, val: &Val, out: &mut Vec<u64>) -> Result<(), NoMemory>
+pub(crate) fn put_refs(seed: &Seed, val: &Val, out: &mut Vec<u64>) -> Result<(), NoMemory>
     ensures { OnOk result (out.new.items ≡ out.old.items ++ refs seed.now (tree val.now)) }
 {
     match val {
