@@ -1,5 +1,6 @@
 -- A document that has a key of a kind that has codes has the key's code among those of the kind.
-use Rattle.std.proofs.Common.{◌≡◌, ℕ, List, [], ◌∷◌, ◌++◌, Option, Some, None, true, sym, subst, true≢false, ⊎_elim}
+use Rattle.std.proofs.Common.{◌≡◌, ℕ, List, [], ◌∷◌, ◌++◌, Option, Some, None, true, sym, subst, true≢false, ⊎_elim, inl, inr, ◌∙◌, ◌+◌, ◌<◌, ap, length, drop, get_or}
+use Rattle.std.proofs.lemmas.List.{drop_more}
 use Rattle.cs_value.specs.Tree.{Tree, null, boolean, integer, text, list, object}
 use Rattle.cs_value.specs.Words.{followed}
 use Rattle.cs_view.specs.Document.{passes}
@@ -53,3 +54,13 @@ of_some seed q (k ∷ ks) d is h =
 
 pub coded_listed : (coding : Coding) (q : Key) (d : Tree) → IsCoded coding q → has q d ≡ true → is_among (key_code coding.seed q) (coded coding d) ≡ true
 coded_listed coding q d is h = of_some coding.seed q coding.kinds.items d is h
+
+-- a key is of some of the kinds from a place on: of the one there, or of those behind it
+split_kinds : (ks : List KeyKind) (i : ℕ) (k : KeyKind) → i < length ks → k ≡ get_or ks i k → drop i ks ≡ k ∷ drop (i + 1) ks
+split_kinds ks i k low is = drop_more ks i k low ∙ ap (λ (x : KeyKind). x ∷ drop (i + 1) ks) (sym is)
+
+pub of_this : (q : Key) (ks : List KeyKind) (i : ℕ) (k : KeyKind) → i < length ks → k ≡ get_or ks i k → IsOfKind q k → IsOfSome q (drop i ks)
+of_this q ks i k low is h = subst (IsOfSome q) (sym (split_kinds ks i k low is)) (inl h)
+
+pub of_later : (q : Key) (ks : List KeyKind) (i : ℕ) (k : KeyKind) → i < length ks → k ≡ get_or ks i k → IsOfSome q (drop (i + 1) ks) → IsOfSome q (drop i ks)
+of_later q ks i k low is h = subst (IsOfSome q) (sym (split_kinds ks i k low is)) (inr h)

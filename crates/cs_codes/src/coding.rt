@@ -1,13 +1,14 @@
 //! The codes of the keys of some kinds.
-ghost use Rattle.std.specs.Prelude.{◌≡◌, ◌++◌, ◌∷◌, [], true, OnOk, OnErr, IfOk, option_map};
+ghost use Rattle.std.specs.Prelude.{◌≡◌, ℕ, List, ◌++◌, ◌∷◌, [], true, OnOk, OnErr, IfOk, option_map};
 ghost use Rattle.cs_value.specs.Tree.{Tree};
 ghost use Rattle.cs_value.specs.View.{tree};
 ghost use Rattle.cs_value.specs.Words.{followed};
 ghost use Rattle.cs_view.specs.View.{document_of};
-ghost use Rattle.cs_codes.specs.Codes.{start, with_names, key_code};
+ghost use Rattle.cs_codes.specs.Codes.{start, with_names, key_code, ref_code};
+ghost use Rattle.cs_view.specs.declared.key.Key.TheVariants.{Ref};
 ghost use Rattle.cs_codes.specs.Kinds.{coded, kind_codes, value_codes, element_codes, IsCoded};
 
-use crate::code::{key_code, start, with_element, with_names, with_value};
+use crate::code::{key_code, ref_code, start, with_element, with_names, with_value};
 use crate::kind::KeyKind;
 use crate::seed::Seed;
 use crate::walk::{put_elements, put_refs, put_scalar};
@@ -135,6 +136,25 @@ impl Coding {
             }
         }
         false
+    }
+
+    /// Whether references have codes.
+    pub fn codes_refs(&self) -> bool
+        ensures { result ≡ true → (target : List ℕ) → IsCoded self.now (Ref target) }
+    {
+        for kind in &self.kinds {
+            if let KeyKind::Ref = kind {
+                return true;
+            }
+        }
+        false
+    }
+
+    /// The code of the key of references to the target.
+    pub fn ref_code(&self, target: &Txt) -> u64
+        ensures { result ≡ ref_code self.now.seed target.now }
+    {
+        ref_code(&self.seed, target)
     }
 
     /// The code of a key.

@@ -1,5 +1,6 @@
 pub mod Applied
 pub mod Hits
+pub mod Keeping
 pub mod Marks
 pub mod Nearest
 pub mod Picked

@@ -26,14 +26,14 @@ use Rattle.cs_shelf.specs.Places.{Store, found, tree_at, trees_at}
 use Rattle.cs_shelf.proofs.Standing.{Entry as PlaceEntry, AreSound, at-documents, sound_entries, at-trees, ascending-trees, some-trees, ascending-documents}
 use Rattle.cs_docs.specs.Store.{docs, place_at, doc_at}
 use Rattle.cs_docs.specs.declared.docs.Docs.{Docs}
-use Rattle.cs_codes.specs.Codes.{is_among, key_code, side_codes}
-use Rattle.cs_codes.specs.declared.seed.Seed.{Seed}
+use Rattle.cs_codes.specs.Codes.{is_among, key_code}
+use Rattle.cs_codes.specs.Kinds.{side_coded, IsCoded}
+use Rattle.cs_codes.specs.declared.coding.Coding.{Coding}
 use Rattle.cs_index.specs.Entries.{entry_cmp, same_entry, entry, has_entry, AreEntriesOf}
-use Rattle.cs_codes.specs.Kept.{IsKept}
 use Rattle.cs_index.specs.Picking.{Hits, IsImplied, where_has, wanted, is_hit, is_found, is_found_at, is_found_among, places_in, under}
 use Rattle.cs_index.specs.declared.entry.Entry.{Entry}
 use Rattle.cs_index.proofs.Applied.{same_parts}
-use Rattle.cs_codes.proofs.Listed.{listed}
+use Rattle.cs_codes.proofs.Coded.{coded_listed}
 
 -- an id that is not wanted, and one that is
 pub none_found : (d : Docs) (k : List Key) (y i : List ℕ) (a : Bool) → wanted d k i ≡ None → a ≡ (is_found d k i y || a)
@@ -157,9 +157,9 @@ named d y p h = (sym (d.shelf.sound y p h), by_doc (doc_at d p) (d.shelf.sound y
   by_doc None g = absurd (cc)
   by_doc (Some t) g = let e : id_of t ≡ y = cc in ap (same_id y) e ∙ same_id-refl y
 
-pub has_codes : (seed : Seed) (k : Key) (o : Option Tree) → IsKept k → passes (has k) o ≡ true → is_among (key_code seed k) (side_codes seed o) ≡ true
-has_codes seed k None kept h = absurd (true≢false (sym h))
-has_codes seed k (Some t) kept h = listed seed k t kept h
+pub has_codes : (coding : Coding) (k : Key) (o : Option Tree) → IsCoded coding k → passes (has k) o ≡ true → is_among (key_code coding.seed k) (side_coded coding o) ≡ true
+has_codes coding k None kept h = absurd (true≢false (sym h))
+has_codes coding k (Some t) kept h = coded_listed coding k t kept h
 
 found_doc : (d : Docs) (y : List ℕ) (p : ℕ) → place_at d y ≡ Some p → standing y (docs d) ≡ doc_at d p
 found_doc d y p h = at-documents d.shelf y ∙ ap (found d.shelf.store) h
@@ -172,15 +172,15 @@ implied k ks (Some t) one h = one t h
 pub implied-here : (ks : List Key) (i : ℕ) (k : Key) → i < length ks → k ≡ get_or ks i k → ((t : Tree) → has_all ks t ≡ true → has_all (drop i ks) t ≡ true) → IsImplied k ks
 implied-here ks i k low is holds t all = and-left (has k t) _ (subst (λ (xs : List Key). has_all xs t ≡ true) (drop_more ks i k low ∙ ap (λ (x : Key). x ∷ drop (i + 1) ks) (sym is)) (holds t all))
 
-pub all_found : (seed : Seed) (d : Docs) (m : BTreeSet Entry) (k : Key) (ks : List Key) → IsKept k → IsImplied k ks → AreEntriesOf seed m d → (y : List ℕ) → is_found_among d ks (places_in (under m (key_code seed k))) y ≡ is_some (wanted d ks y)
-all_found seed d m k ks kept one are y = by_wanted (wanted d ks y) refl where
-  by_wanted : (o : Option ℕ) → wanted d ks y ≡ o → is_found_among d ks (places_in (under m (key_code seed k))) y ≡ is_some o
-  by_wanted None h = nothing_found d ks y (places_in (under m (key_code seed k))) h
+pub all_found : (coding : Coding) (d : Docs) (m : BTreeSet Entry) (k : Key) (ks : List Key) → IsCoded coding k → IsImplied k ks → AreEntriesOf coding m d → (y : List ℕ) → is_found_among d ks (places_in (under m (key_code coding.seed k))) y ≡ is_some (wanted d ks y)
+all_found coding d m k ks kept one are y = by_wanted (wanted d ks y) refl where
+  by_wanted : (o : Option ℕ) → wanted d ks y ≡ o → is_found_among d ks (places_in (under m (key_code coding.seed k))) y ≡ is_some o
+  by_wanted None h = nothing_found d ks y (places_in (under m (key_code coding.seed k))) h
   by_wanted (Some p) h =
       let w = wanted_place d ks y p h in
-      let stands : has_entry m (entry (key_code seed k) p) ≡ true = are y (key_code seed k) p w.0 (ap (λ (o : Option Tree). is_among (key_code seed k) (side_codes seed o)) (found_doc d y p w.0) ∙ has_codes seed k (doc_at d p) kept (implied k ks (doc_at d p) one w.1)) in
-      found_there d ks y p (places_in (under m (key_code seed k))) h (named d y p w.0).1
-      (here_filter (key_code seed k) p (range_contains entry_cmp (Included (entry (key_code seed k) 0)) (Included (entry (key_code seed k) 4294967295))) (inside_low (key_code seed k) p ∙ inside_all p (d.shelf.low y p w.0)) m.keys stands)
+      let stands : has_entry m (entry (key_code coding.seed k) p) ≡ true = are y (key_code coding.seed k) p w.0 (ap (λ (o : Option Tree). is_among (key_code coding.seed k) (side_coded coding o)) (found_doc d y p w.0) ∙ has_codes coding k (doc_at d p) kept (implied k ks (doc_at d p) one w.1)) in
+      found_there d ks y p (places_in (under m (key_code coding.seed k))) h (named d y p w.0).1
+      (here_filter (key_code coding.seed k) p (range_contains entry_cmp (Included (entry (key_code coding.seed k) 0)) (Included (entry (key_code coding.seed k) 4294967295))) (inside_low (key_code coding.seed k) p ∙ inside_all p (d.shelf.low y p w.0)) m.keys stands)
 
 -- ---- the documents at what was picked
 second : (s : Store) (es : List PlaceEntry) → map (tree_at s) (map (λ e. e.1) es) ≡ map (λ e. tree_at s e.1) es

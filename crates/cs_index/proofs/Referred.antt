@@ -18,8 +18,9 @@ use Rattle.cs_docs.specs.Store.{docs, place_at, doc_at}
 use Rattle.cs_docs.specs.Suspects.{lesser}
 use Rattle.cs_docs.specs.declared.docs.Docs.{Docs}
 use Rattle.cs_docs.proofs.Filters.{keep, first_at, first_lesser, filter_same, members}
-use Rattle.cs_codes.specs.Codes.{ref_code, is_among, side_codes}
-use Rattle.cs_codes.specs.declared.seed.Seed.{Seed}
+use Rattle.cs_codes.specs.Codes.{ref_code, is_among}
+use Rattle.cs_codes.specs.Kinds.{side_coded, IsCoded}
+use Rattle.cs_codes.specs.declared.coding.Coding.{Coding}
 use Rattle.cs_index.specs.Entries.{entry_cmp, entry, AreEntriesOf}
 use Rattle.cs_index.specs.Picking.{places_in, under}
 use Rattle.cs_index.specs.Referring.{refers, referrer_at, least}
@@ -117,40 +118,40 @@ abbrev is_doc : Option Tree → Bool
 is_doc None = false
 is_doc (Some t) = true
 
-module _ (seed : Seed) (d : Docs) (m : BTreeSet Entry) (target : List ℕ) (are : AreEntriesOf seed m d) where
+module _ (coding : Coding) (d : Docs) (m : BTreeSet Entry) (target : List ℕ) (kept : IsCoded coding (Ref target)) (are : AreEntriesOf coding m d) where
   -- each document that has the reference is found under its code
-  covered : (u : Tree) → standing (id_of u) (docs d) ≡ Some u → has_ref target u ≡ true → is_found d (under m (ref_code seed target)) u ≡ true
+  covered : (u : Tree) → standing (id_of u) (docs d) ≡ Some u → has_ref target u ≡ true → is_found d (under m (ref_code coding.seed target)) u ≡ true
   covered u at h = by_place (place_at d (id_of u)) refl where
     c : ℕ
-    c = ref_code seed target
+    c = ref_code coding.seed target
 
     no_doc : Some u ≡ None → ⊥
     no_doc e = true≢false (ap is_doc e)
 
-    by_place : (o : Option ℕ) → place_at d (id_of u) ≡ o → is_found d (under m (ref_code seed target)) u ≡ true
+    by_place : (o : Option ℕ) → place_at d (id_of u) ≡ o → is_found d (under m (ref_code coding.seed target)) u ≡ true
     by_place None g = absurd (no_doc (sym at ∙ at-documents d.shelf (id_of u) ∙ ap (found d.shelf.store) g))
     by_place (Some p) g =
         let there : doc_at d p ≡ Some u = sym (at-documents d.shelf (id_of u) ∙ ap (found d.shelf.store) g) ∙ at in
-        at_entry d p u (under m (ref_code seed target)) (is_own (doc_at d p) u there)
-        (here_filter (ref_code seed target) p (range_contains entry_cmp (Included (entry (ref_code seed target) 0)) (Included (entry (ref_code seed target) 4294967295)))
-        (inside_low (ref_code seed target) p ∙ inside_all p (d.shelf.low (id_of u) p g)) m.keys
-        (are (id_of u) (ref_code seed target) p g (ap (λ (o : Option Tree). is_among (ref_code seed target) (side_codes seed o)) at ∙ has_codes seed (Ref target) (Some u) tt h)))
+        at_entry d p u (under m (ref_code coding.seed target)) (is_own (doc_at d p) u there)
+        (here_filter (ref_code coding.seed target) p (range_contains entry_cmp (Included (entry (ref_code coding.seed target) 0)) (Included (entry (ref_code coding.seed target) 4294967295)))
+        (inside_low (ref_code coding.seed target) p ∙ inside_all p (d.shelf.low (id_of u) p g)) m.keys
+        (are (id_of u) (ref_code coding.seed target) p g (ap (λ (o : Option Tree). is_among (ref_code coding.seed target) (side_coded coding o)) at ∙ has_codes coding (Ref target) (Some u) kept h)))
 
   all_covered : (low : Option (List ℕ)) (us : List Tree) → AllByRecursion (λ u. standing (id_of u) (docs d) ≡ Some u) us
-      → AllByRecursion (λ u. (refers target low u && (false || is_found d (under m (ref_code seed target)) u)) ≡ refers target low u) us
+      → AllByRecursion (λ u. (refers target low u && (false || is_found d (under m (ref_code coding.seed target)) u)) ≡ refers target low u) us
   all_covered low [] h = tt
   all_covered low (u ∷ us) h = (one (has_ref target u) refl (above low (id_of u)), all_covered low us h.1) where
     drop_true : (b : Bool) → (b && true) ≡ b
     drop_true true = refl
     drop_true false = refl
 
-    one : (b : Bool) → has_ref target u ≡ b → (a : Bool) → ((b && a) && (false || is_found d (under m (ref_code seed target)) u)) ≡ (b && a)
+    one : (b : Bool) → has_ref target u ≡ b → (a : Bool) → ((b && a) && (false || is_found d (under m (ref_code coding.seed target)) u)) ≡ (b && a)
     one true g a = ap (λ z. a && z) (covered u h.0 g) ∙ drop_true a
     one false g a = refl
 
-  pub least_referrer : (low : Option (List ℕ)) → option_map id_of (least d target low (under m (ref_code seed target)) None) ≡ next_referrer (docs d) target low
+  pub least_referrer : (low : Option (List ℕ)) → option_map id_of (least d target low (under m (ref_code coding.seed target)) None) ≡ next_referrer (docs d) target low
   least_referrer low =
-      let es : List Entry = under m (ref_code seed target) in
+      let es : List Entry = under m (ref_code coding.seed target) in
       ap (option_map id_of)
       (ap (least d target low es) (sym (none_among (refers target low) (docs d)))
       ∙ walked d target low es (λ u. false)

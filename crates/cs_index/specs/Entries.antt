@@ -11,8 +11,9 @@ use Rattle.cs_view.specs.Changes.{Edit}
 use Rattle.cs_view.specs.Dataset.{standing}
 use Rattle.cs_docs.specs.Store.{docs, place_at}
 use Rattle.cs_docs.specs.declared.docs.Docs.{Docs}
-use Rattle.cs_codes.specs.Codes.{is_among, side_codes}
-use Rattle.cs_codes.specs.declared.seed.Seed.{Seed}
+use Rattle.cs_codes.specs.Codes.{is_among}
+use Rattle.cs_codes.specs.Kinds.{side_coded}
+use Rattle.cs_codes.specs.declared.coding.Coding.{Coding}
 use Rattle.cs_index.specs.declared.entry.Entry.{Entry}
 use Rattle.cs_index.specs.contracts.entry.EntryOrd.TheImpl as entry_order
 
@@ -35,10 +36,10 @@ abbrev pub is_in_some : Entry → List (Vec Entry Global) → Bool
 is_in_some q lists = list_any (λ es. is_in q es.items) lists
 
 -- under each code of a document of the store stands the document's place
-abbrev pub AreEntriesOf : Seed → BTreeSet Entry → Docs → Type 0
-AreEntriesOf seed m d =
+abbrev pub AreEntriesOf : Coding → BTreeSet Entry → Docs → Type 0
+AreEntriesOf coding m d =
     (x : List ℕ) (c p : ℕ) → place_at d x ≡ Some p
-    → is_among c (side_codes seed (standing x (docs d))) ≡ true → has_entry m (entry c p) ≡ true
+    → is_among c (side_coded coding (standing x (docs d))) ≡ true → has_entry m (entry c p) ≡ true
 
 -- the entry is that of the place and of one of the codes that are not left out
 abbrev pub is_put : (ℕ → Bool) → ℕ → List ℕ → Entry → Bool
@@ -49,29 +50,29 @@ is_put_at out None cs q = false
 is_put_at out (Some p) cs q = is_put out p cs q
 
 -- the entry is that of the place and of a code that the one side has and the other has not
-abbrev pub is_apart : Seed → Option Tree → Option Tree → ℕ → Entry → Bool
-is_apart seed other this p q =
-    is_put (λ x. is_among x (side_codes seed other)) p (side_codes seed this) q
+abbrev pub is_apart : Coding → Option Tree → Option Tree → ℕ → Entry → Bool
+is_apart coding other this p q =
+    is_put (λ x. is_among x (side_coded coding other)) p (side_coded coding this) q
 
 -- the change puts the entry: of a code that its document after has and the one before has not, at
 -- the place of its id
-abbrev pub puts : Seed → Docs → Entry → Edit → Bool
-puts seed d q c =
-    is_put_at (λ x. is_among x (side_codes seed c.1.0)) (place_at d c.0) (side_codes seed c.1.1) q
+abbrev pub puts : Coding → Docs → Entry → Edit → Bool
+puts coding d q c =
+    is_put_at (λ x. is_among x (side_coded coding c.1.0)) (place_at d c.0) (side_coded coding c.1.1) q
 
 -- the change parts with the entry: of a code that its document before has and the one after has
 -- not, at the place of its id
-abbrev pub parts : Seed → Docs → Entry → Edit → Bool
-parts seed d q c =
-    is_put_at (λ x. is_among x (side_codes seed c.1.1)) (place_at d c.0) (side_codes seed c.1.0) q
+abbrev pub parts : Coding → Docs → Entry → Edit → Bool
+parts coding d q c =
+    is_put_at (λ x. is_among x (side_coded coding c.1.1)) (place_at d c.0) (side_coded coding c.1.0) q
 
 -- the change puts the entry, of a document that stands before it
-abbrev pub gains : Seed → Docs → Entry → Edit → Bool
-gains seed d q c = is_some c.1.0 && puts seed d q c
+abbrev pub gains : Coding → Docs → Entry → Edit → Bool
+gains coding d q c = is_some c.1.0 && puts coding d q c
 
 -- the change puts the entry, of a document that it makes
-abbrev pub enters : Seed → Docs → Entry → Edit → Bool
-enters seed d q c = not (is_some c.1.0) && puts seed d q c
+abbrev pub enters : Coding → Docs → Entry → Edit → Bool
+enters coding d q c = not (is_some c.1.0) && puts coding d q c
 
 -- the flag, or true where one of the changes passes the test
 abbrev pub or_some : (Edit → Bool) → List Edit → Bool → Bool
@@ -82,6 +83,10 @@ or_some test (c ∷ cs) b = or_some test cs (cond (test c) true b)
 abbrev pub Gain : (Entry → Bool) → BTreeSet Entry → BTreeSet Entry → Type 0
 Gain put old new = (q : Entry) → has_entry new q ≡ cond (put q) true (has_entry old q)
 
+-- no entry is lost
+abbrev pub Grows : BTreeSet Entry → BTreeSet Entry → Type 0
+Grows old new = (q : Entry) → has_entry old q ≡ true → has_entry new q ≡ true
+
 abbrev pub Collect : (Entry → Bool) → List Entry → List Entry → Type 0
 Collect put old new = (q : Entry) → is_in q new ≡ cond (put q) true (is_in q old)
 
@@ -90,6 +95,6 @@ abbrev pub Lose : List Entry → BTreeSet Entry → BTreeSet Entry → Type 0
 Lose es old new = (q : Entry) → has_entry new q ≡ cond (is_in q es) false (has_entry old q)
 
 -- the entries of the documents that changes make are added
-abbrev pub EnterAll : Seed → Docs → List Edit → BTreeSet Entry → BTreeSet Entry → Type 0
-EnterAll seed d cs old new =
-    (q : Entry) → has_entry new q ≡ or_some (enters seed d q) cs (has_entry old q)
+abbrev pub EnterAll : Coding → Docs → List Edit → BTreeSet Entry → BTreeSet Entry → Type 0
+EnterAll coding d cs old new =
+    (q : Entry) → has_entry new q ≡ or_some (enters coding d q) cs (has_entry old q)

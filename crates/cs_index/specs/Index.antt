@@ -13,20 +13,20 @@ use Rattle.cs_index.specs.declared.index.Index.{Index}
 
 -- each document of the store is found under each code that it has
 abbrev pub IsIndexOf : Index → Docs → Type 0
-IsIndexOf index d = AreEntriesOf index.seed index.entries d
+IsIndexOf index d = AreEntriesOf index.coding index.entries d
 
 -- what changes of the store do to the entries of the documents that stand before them: those that
 -- they part with are lost, and those that they put are gained
 pub record IsDelta (index : Index) (d : Docs) (cs : List Edit) (delta : Delta) : Type 0 where
-  pub lost : (q : Entry) → is_in q delta.lost.items ≡ or_some (parts index.seed d q) cs false
-  pub gained : (q : Entry) → is_in q delta.gained.items ≡ or_some (gains index.seed d q) cs false
+  pub lost : (q : Entry) → is_in q delta.lost.items ≡ or_some (parts index.coding d q) cs false
+  pub gained : (q : Entry) → is_in q delta.gained.items ≡ or_some (gains index.coding d q) cs false
 
 -- the entries of the other index: those of the one without the lost, with the gained, and with
 -- those of the documents that changes made in the store
 abbrev pub AreApplied : Index → Index → Docs → List Edit → Delta → Type 0
 AreApplied old new d cs delta =
     (q : Entry) → has_entry new.entries q
-    ≡ or_some (enters old.seed d q) cs (cond (is_in q delta.gained.items) true
+    ≡ or_some (enters old.coding d q) cs (cond (is_in q delta.gained.items) true
     (cond (is_in q delta.lost.items) false (has_entry old.entries q)))
 
 -- the changes lead from one store to the other, in which what stands in both keeps its place

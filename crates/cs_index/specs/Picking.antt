@@ -12,7 +12,7 @@ use Rattle.cs_view.specs.Keys.{has, has_all}
 use Rattle.cs_view.specs.declared.key.Key.{Key}
 use Rattle.cs_docs.specs.Store.{place_at, doc_at}
 use Rattle.cs_docs.specs.declared.docs.Docs.{Docs}
-use Rattle.cs_codes.specs.declared.seed.Seed.{Seed}
+use Rattle.cs_codes.specs.declared.coding.Coding.{Coding}
 use Rattle.cs_index.specs.Entries.{AreEntriesOf, entry, entry_cmp}
 use Rattle.cs_index.specs.Index.{ArePlacesOf}
 use Rattle.cs_index.specs.declared.entry.Entry.{Entry}
@@ -79,5 +79,5 @@ abbrev pub HoldWanted : Docs → List Key → List ℕ → Type 0
 HoldWanted d ks ps = (y : List ℕ) → is_found_among d ks ps y ≡ is_some (wanted d ks y)
 
 -- and so in each store that has these entries
-abbrev pub Narrow : Seed → BTreeSet Entry → List Key → List ℕ → Type 0
-Narrow seed m ks ps = (d : Docs) → AreEntriesOf seed m d → HoldWanted d ks ps
+abbrev pub Narrow : Coding → BTreeSet Entry → List Key → List ℕ → Type 0
+Narrow coding m ks ps = (d : Docs) → AreEntriesOf coding m d → HoldWanted d ks ps

@@ -3,12 +3,13 @@
 ghost use Rattle.std.specs.Prelude.{◌≡◌, ℕ, Some, false, not, ◌&&◌, option_map, IfOk, OnOk};
 ghost use Rattle.std.specs.List.Sorted.{IsNonDecreasing};
 ghost use Rattle.cs_view.specs.View.{document_of, edit, edits};
-ghost use Rattle.cs_codes.specs.Codes.{key_codes, is_among, side_codes};
+ghost use Rattle.cs_codes.specs.Codes.{is_among};
+ghost use Rattle.cs_codes.specs.Kinds.{coded, side_coded};
 ghost use Rattle.cs_index.specs.Entries.{entry, same_entry, is_in, is_put, is_apart, parts, gains, or_some, Collect};
 ghost use Rattle.cs_index.specs.declared.entry.Entry.{Entry};
 
 use crate::entry::Entry;
-use cs_codes::{Seed, codes_of, has_code, sort_codes};
+use cs_codes::{Coding, has_code, sort_codes};
 use cs_docs::Docs;
 use cs_value::NoMemory;
 use cs_view::{Change, Doc};
@@ -23,24 +24,24 @@ pub struct Delta {
 }
 
 // The codes of a document in ascending order.
-fn sorted_codes(alloc: Global, seed: &Seed, doc: &Doc) -> Result<Vec<u64>, NoMemory>
+fn sorted_codes(alloc: Global, coding: &Coding, doc: &Doc) -> Result<Vec<u64>, NoMemory>
     ensures among { IfOk result (λ cs. (x : ℕ) → is_among x cs.items
-        ≡ is_among x (key_codes seed.now (document_of doc.now))) }
+        ≡ is_among x (coded coding.now (document_of doc.now))) }
     ensures ascending { IfOk result (λ cs. IsNonDecreasing cs.items) }
 {
-    let mut codes = codes_of(alloc, seed, doc)?;
+    let mut codes = coding.codes_of(alloc, doc)?;
     sort_codes(&mut codes);
     Ok(codes)
 }
 
 // The codes of what stands on a side of a change in ascending order.
-fn side_codes(alloc: Global, seed: &Seed, side: &Option<Doc>) -> Result<Vec<u64>, NoMemory>
+fn side_codes(alloc: Global, coding: &Coding, side: &Option<Doc>) -> Result<Vec<u64>, NoMemory>
     ensures among { IfOk result (λ cs. (x : ℕ) → is_among x cs.items
-        ≡ is_among x (side_codes seed.now (option_map document_of side.now))) }
+        ≡ is_among x (side_coded coding.now (option_map document_of side.now))) }
     ensures ascending { IfOk result (λ cs. IsNonDecreasing cs.items) }
 {
     match side {
-        Some(doc) => sorted_codes(alloc, seed, doc),
+        Some(doc) => sorted_codes(alloc, coding, doc),
         None => Ok(Vec::new(alloc)),
     }
 }
@@ -87,22 +88,22 @@ impl Delta {
     fn add_at(
         &mut self,
         alloc: Global,
-        seed: &Seed,
+        coding: &Coding,
         before: &Doc,
         after: &Option<Doc>,
         place: u32,
     ) -> Result<(), NoMemory>
         ensures lost { OnOk result (Collect
-            (is_apart seed.now (option_map document_of after.now)
+            (is_apart coding.now (option_map document_of after.now)
             (Some (document_of before.now)) place)
             self.old.lost.items self.new.lost.items) }
         ensures gained { OnOk result (Collect
-            (is_apart seed.now (Some (document_of before.now))
+            (is_apart coding.now (Some (document_of before.now))
             (option_map document_of after.now) place)
             self.old.gained.items self.new.gained.items) }
     {
-        let had = sorted_codes(alloc, seed, before)?;
-        let has = side_codes(alloc, seed, after)?;
+        let had = sorted_codes(alloc, coding, before)?;
+        let has = side_codes(alloc, coding, after)?;
         list_codes(&mut self.lost, &has, &had, place)?;
         list_codes(&mut self.gained, &had, &has, place)
     }
@@ -112,20 +113,20 @@ impl Delta {
     fn add(
         &mut self,
         alloc: Global,
-        seed: &Seed,
+        coding: &Coding,
         docs: &Docs,
         change: &Change,
     ) -> Result<(), NoMemory>
-        ensures lost { OnOk result (Collect (λ q. parts seed.now docs.now q (edit change.now))
+        ensures lost { OnOk result (Collect (λ q. parts coding.now docs.now q (edit change.now))
             self.old.lost.items self.new.lost.items) }
-        ensures gained { OnOk result (Collect (λ q. gains seed.now docs.now q (edit change.now))
+        ensures gained { OnOk result (Collect (λ q. gains coding.now docs.now q (edit change.now))
             self.old.gained.items self.new.gained.items) }
     {
         let Some(before) = &change.before else {
             return Ok(());
         };
         match docs.place(&change.id) {
-            Some(place) => self.add_at(alloc, seed, before, &change.after, place),
+            Some(place) => self.add_at(alloc, coding, before, &change.after, place),
             None => Ok(()),
         }
     }
@@ -134,21 +135,21 @@ impl Delta {
 // What changes do to the entries of the documents that stand before them.
 pub(crate) fn delta_of(
     alloc: Global,
-    seed: &Seed,
+    coding: &Coding,
     docs: &Docs,
     changes: &[Change],
 ) -> Result<Delta, NoMemory>
     ensures lost { IfOk result (λ delta. (q : Entry) → is_in q delta.lost.items
-        ≡ or_some (parts seed.now docs.now q) (edits changes.now) false) }
+        ≡ or_some (parts coding.now docs.now q) (edits changes.now) false) }
     ensures gained { IfOk result (λ delta. (q : Entry) → is_in q delta.gained.items
-        ≡ or_some (gains seed.now docs.now q) (edits changes.now) false) }
+        ≡ or_some (gains coding.now docs.now q) (edits changes.now) false) }
 {
     let mut delta = Delta {
         lost: Vec::new(alloc),
         gained: Vec::new(alloc),
     };
     for change in changes {
-        delta.add(alloc, seed, docs, change)?;
+        delta.add(alloc, coding, docs, change)?;
     }
     Ok(delta)
 }

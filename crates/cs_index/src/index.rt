@@ -1,15 +1,16 @@
 //! The index of a store.
 ghost use Rattle.std.specs.Prelude.{IfOk, OnOk};
+ghost use Rattle.cs_docs.specs.declared.docs.Docs.{Docs};
 ghost use Rattle.cs_view.specs.View.{edits};
 ghost use Rattle.cs_index.specs.Index.{IsIndexOf, IsDelta, AreApplied, FollowsChanges, ArePlacesOf};
 
-use crate::build::{list_all, set_of};
+use crate::build::list_all;
 use crate::delta::{Delta, delta_of};
 use crate::entry::Entry;
 use crate::narrow::{id_among, rarest};
 use crate::pick::{place_of_id, places_among};
 use crate::put::{enter_changes, put_in, take_out};
-use cs_codes::Seed;
+use cs_codes::{Coding, KeyKind, Seed};
 use cs_docs::Docs;
 use cs_value::NoMemory;
 use cs_view::{Change, Key};
@@ -17,16 +18,21 @@ use std::alloc::Global;
 use std::collections::BTreeSet;
 use std::hash::RandomState;
 
-/// The places of a store's documents by the codes of their keys. It keeps each scalar at an
-/// attribute path of at most four names, each scalar element of a list at such a path, and each
-/// `_ref`: for each of them the code and the place alone. The codes depend on its seed, which those
-/// who choose the documents don't know; no answer does.
+/// The places of a store's documents by the codes of their keys. It keeps the keys of the kinds
+/// that it was asked to keep, each of which is the scalars at an attribute path of at most four
+/// names, the scalar elements of the lists at such a path, or the references: for each of them the
+/// code and the place alone. The codes depend on its seed, which those who choose the documents
+/// don't know; no answer does.
 #[derive(Drop)]
 pub struct Index {
     pub(crate) entries: BTreeSet<Entry>,
-    pub(crate) seed: Seed,
+    pub(crate) coding: Coding,
     pub(crate) alloc: Global,
 }
+
+// No more kinds are kept, so that what a change costs doesn't follow how many paths were ever asked
+// for. Documents are found by other keys without the index.
+const MOST_KINDS: usize = 64;
 
 // Up to so many entries under a key it is worth to go by them: to test each document in turn costs
 // less than to find one in four by an entry and to bring what is found in order.
@@ -35,18 +41,58 @@ fn worth(docs: &Docs) -> usize {
 }
 
 impl Index {
-    /// The index of the documents of a store. `NoMemory` where the allocator has no room for it.
-    pub fn build(alloc: Global, seed: RandomState, docs: &Docs) -> Result<Index, NoMemory>
+    /// The index of the documents of a store, which keeps the keys of these kinds. `NoMemory` where
+    /// the allocator has no room for it.
+    pub fn build(
+        alloc: Global,
+        seed: RandomState,
+        docs: &Docs,
+        kinds: Vec<KeyKind>,
+    ) -> Result<Index, NoMemory>
         ensures { IfOk result (λ index. IsIndexOf index docs.now) }
     {
-        let seed = Seed::new(&seed);
-        let listed = list_all(alloc, &seed, docs)?;
-        let entries = set_of(alloc, listed)?;
-        Ok(Index {
-            entries,
-            seed,
+        let mut index = Index::new(alloc, seed);
+        index.keep(docs, kinds)?;
+        Ok(index)
+    }
+
+    /// An index that keeps no keys, and so is that of any store. It takes no memory.
+    pub fn new(alloc: Global, seed: RandomState) -> Index
+        ensures { (docs : Docs) → IsIndexOf result docs }
+    {
+        Index {
+            entries: BTreeSet::new(alloc),
+            coding: Coding::new(alloc, Seed::new(&seed)),
             alloc,
-        })
+        }
+    }
+
+    /// Keeps the keys of these kinds too. A kind that is kept already costs nothing, and one more
+    /// costs a walk over all documents; no more than 64 are kept. It is the index of the store also
+    /// after `NoMemory`, which comes where the allocator has no room.
+    pub fn keep(&mut self, docs: &Docs, kinds: Vec<KeyKind>) -> Result<(), NoMemory>
+        requires { IsIndexOf self.old docs.now }
+        ensures { IsIndexOf self.new docs.now }
+    {
+        for kind in kinds {
+            if self.coding.len() < MOST_KINDS && !self.coding.has(&kind) {
+                self.keep_one(docs, kind)?;
+            }
+        }
+        Ok(())
+    }
+
+    // Keeps the keys of one kind more. They come in ascending order of their codes.
+    fn keep_one(&mut self, docs: &Docs, kind: KeyKind) -> Result<(), NoMemory>
+        requires { IsIndexOf self.old docs.now }
+        ensures { IsIndexOf self.new docs.now }
+    {
+        let coding = self.coding.of_one(self.alloc, kind)?;
+        let listed = list_all(self.alloc, &coding, docs)?;
+        let ascending = listed.into_ascending(self.alloc)?;
+        put_in(&mut self.entries, ascending)?;
+        self.coding.append(coding)?;
+        Ok(())
     }
 
     /// What changes of a store do to the entries of the documents that stand before them: those of
@@ -57,7 +103,7 @@ impl Index {
     pub fn delta(&self, docs: &Docs, changes: &[Change]) -> Result<Delta, NoMemory>
         ensures { IfOk result (IsDelta self.now docs.now (edits changes.now)) }
     {
-        delta_of(self.alloc, &self.seed, docs, changes)
+        delta_of(self.alloc, &self.coding, docs, changes)
     }
 
     /// Takes the index of a store to that of the store in which the changes were installed. An
@@ -71,7 +117,7 @@ impl Index {
         let Delta { lost, gained } = delta;
         take_out(&mut self.entries, lost);
         put_in(&mut self.entries, gained)?;
-        enter_changes(self.alloc, &self.seed, &mut self.entries, docs, changes)?;
+        enter_changes(self.alloc, &self.coding, &mut self.entries, docs, changes)?;
         Ok(())
     }
 
@@ -87,7 +133,7 @@ impl Index {
         if let Some(id) = id_among(keys) {
             return place_of_id(alloc, id, keys, docs);
         }
-        match rarest(alloc, &self.seed, &self.entries, keys, worth(docs))? {
+        match rarest(alloc, &self.coding, &self.entries, keys, worth(docs))? {
             Some(places) => places_among(alloc, &places, keys, docs),
             None => {
                 let places = docs.select_all(alloc, keys)?;

@@ -1,29 +1,14 @@
 //! By which of several keys a look-up goes: one under which few entries stand, and their places.
-ghost use Rattle.std.specs.Prelude.{◌≡◌, true, IfOk, IfSome};
+ghost use Rattle.std.specs.Prelude.{◌≡◌, IfOk, IfSome};
 ghost use Rattle.cs_view.specs.declared.key.Key.TheVariants.{Id};
-ghost use Rattle.cs_codes.specs.Kept.{IsKept};
 ghost use Rattle.cs_index.specs.Picking.{IsImplied, Narrow, places_in, under};
 
 use crate::entry::Entry;
-use cs_codes::{Seed, key_code};
+use cs_codes::Coding;
 use cs_value::{NoMemory, Txt};
 use cs_view::{Key, Scalar};
 use std::alloc::Global;
 use std::collections::BTreeSet;
-
-// Whether the index keeps the key.
-fn is_kept(key: &Key) -> bool
-    ensures { result ≡ true → IsKept key.now }
-{
-    match key {
-        Key::All | Key::Id(_) => false,
-        Key::Path(names, _) | Key::Elem(names, _) => {
-            // There are one to four of them.
-            names.len() > 0
-        }
-        Key::Ref(_) => true,
-    }
-}
 
 // The places under the code, if they are at most so many. It looks at one entry more.
 fn few_under(
@@ -79,18 +64,18 @@ fn is_wide(key: &Key) -> bool {
 // under which at most so many entries stand.
 fn first_of_few(
     alloc: Global,
-    seed: &Seed,
+    coding: &Coding,
     entries: &BTreeSet<Entry>,
     keys: &[Key],
     wide: bool,
     most: usize,
 ) -> Result<Option<Vec<u32>>, NoMemory>
     ensures { IfOk result (λ few. IfSome few
-        (λ places. Narrow seed.now entries.now keys.now places.items)) }
+        (λ places. Narrow coding.now entries.now keys.now places.items)) }
 {
     for key in keys {
-        if is_wide(key) == wide && is_kept(key) {
-            if let Some(places) = few_under(alloc, entries, key_code(seed, key), most)? {
+        if is_wide(key) == wide && coding.codes(key) {
+            if let Some(places) = few_under(alloc, entries, coding.key_code(key), most)? {
                 return Ok(Some(places));
             }
         }
@@ -102,17 +87,17 @@ fn first_of_few(
 // that are not wide are tried first.
 fn of_few(
     alloc: Global,
-    seed: &Seed,
+    coding: &Coding,
     entries: &BTreeSet<Entry>,
     keys: &[Key],
     most: usize,
 ) -> Result<Option<Vec<u32>>, NoMemory>
     ensures { IfOk result (λ few. IfSome few
-        (λ places. Narrow seed.now entries.now keys.now places.items)) }
+        (λ places. Narrow coding.now entries.now keys.now places.items)) }
 {
-    match first_of_few(alloc, seed, entries, keys, false, most)? {
+    match first_of_few(alloc, coding, entries, keys, false, most)? {
         Some(places) => Ok(Some(places)),
-        None => first_of_few(alloc, seed, entries, keys, true, most),
+        None => first_of_few(alloc, coding, entries, keys, true, most),
     }
 }
 
@@ -122,21 +107,21 @@ fn of_few(
 /// under each of them. `NoMemory` where the allocator has no room for them.
 pub(crate) fn rarest(
     alloc: Global,
-    seed: &Seed,
+    coding: &Coding,
     entries: &BTreeSet<Entry>,
     keys: &[Key],
     most: usize,
 ) -> Result<Option<Vec<u32>>, NoMemory>
     ensures { IfOk result (λ few. IfSome few
-        (λ places. Narrow seed.now entries.now keys.now places.items)) }
+        (λ places. Narrow coding.now entries.now keys.now places.items)) }
 {
     for few in [32, 512, 8_192, 131_072] {
         if few >= most {
             break;
         }
-        if let Some(places) = of_few(alloc, seed, entries, keys, few)? {
+        if let Some(places) = of_few(alloc, coding, entries, keys, few)? {
             return Ok(Some(places));
         }
     }
-    of_few(alloc, seed, entries, keys, most)
+    of_few(alloc, coding, entries, keys, most)
 }

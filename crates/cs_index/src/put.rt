@@ -1,11 +1,11 @@
 //! Entries put among others, and taken out.
 ghost use Rattle.std.specs.Prelude.{false, OnOk};
 ghost use Rattle.cs_view.specs.View.{document_of, edit, edits};
-ghost use Rattle.cs_codes.specs.Codes.{key_codes};
-ghost use Rattle.cs_index.specs.Entries.{same_entry, is_in, is_put, enters, Gain, Lose, EnterAll};
+ghost use Rattle.cs_codes.specs.Kinds.{coded};
+ghost use Rattle.cs_index.specs.Entries.{same_entry, is_in, is_put, enters, Gain, Grows, Lose, EnterAll};
 
 use crate::entry::Entry;
-use cs_codes::{Seed, codes_of};
+use cs_codes::Coding;
 use cs_docs::Docs;
 use cs_value::NoMemory;
 use cs_view::{Change, Doc};
@@ -22,16 +22,18 @@ pub(crate) fn take_out(entries: &mut BTreeSet<Entry>, lost: Vec<Entry>)
 }
 
 fn put_entry(entries: &mut BTreeSet<Entry>, one: Entry) -> Result<(), NoMemory>
-    ensures { OnOk result (Gain (same_entry one) entries.old entries.new) }
+    ensures gain { OnOk result (Gain (same_entry one) entries.old entries.new) }
+    ensures grows { Grows entries.old entries.new }
 {
     entries.insert(one)?;
     Ok(())
 }
 
-// Puts the entries of a list.
+// Puts the entries of a list. Those that stand there stay in any case.
 #[tactic(auto, using(crate::proofs::Marks::one_more))]
 pub(crate) fn put_in(entries: &mut BTreeSet<Entry>, gained: Vec<Entry>) -> Result<(), NoMemory>
-    ensures { OnOk result (Gain (λ q. is_in q gained.items) entries.old entries.new) }
+    ensures gain { OnOk result (Gain (λ q. is_in q gained.items) entries.old entries.new) }
+    ensures grows { Grows entries.old entries.new }
 {
     for entry in gained {
         put_entry(entries, entry)?;
@@ -53,16 +55,16 @@ fn put_codes(entries: &mut BTreeSet<Entry>, codes: Vec<u64>, place: u32) -> Resu
 // Puts an entry at the place for each code of a document.
 fn put_at(
     alloc: Global,
-    seed: &Seed,
+    coding: &Coding,
     entries: &mut BTreeSet<Entry>,
     doc: &Doc,
     place: u32,
 ) -> Result<(), NoMemory>
     ensures { OnOk result (Gain
-        (is_put (λ x. false) place (key_codes seed.now (document_of doc.now)))
+        (is_put (λ x. false) place (coded coding.now (document_of doc.now)))
         entries.old entries.new) }
 {
-    let codes = codes_of(alloc, seed, doc)?;
+    let codes = coding.codes_of(alloc, doc)?;
     put_codes(entries, codes, place)
 }
 
@@ -70,17 +72,17 @@ fn put_at(
 #[tactic(auto, using(crate::proofs::Marks::nothing_put))]
 fn enter_change(
     alloc: Global,
-    seed: &Seed,
+    coding: &Coding,
     entries: &mut BTreeSet<Entry>,
     docs: &Docs,
     change: &Change,
 ) -> Result<(), NoMemory>
     ensures { OnOk result
-        (Gain (λ q. enters seed.now docs.now q (edit change.now)) entries.old entries.new) }
+        (Gain (λ q. enters coding.now docs.now q (edit change.now)) entries.old entries.new) }
 {
     match (&change.before, &change.after) {
         (None, Some(made)) => match docs.place(&change.id) {
-            Some(place) => put_at(alloc, seed, entries, made, place),
+            Some(place) => put_at(alloc, coding, entries, made, place),
             None => Ok(()),
         },
         _ => Ok(()),
@@ -90,16 +92,16 @@ fn enter_change(
 // Puts the entries of the documents that changes make.
 pub(crate) fn enter_changes(
     alloc: Global,
-    seed: &Seed,
+    coding: &Coding,
     entries: &mut BTreeSet<Entry>,
     docs: &Docs,
     changes: &[Change],
 ) -> Result<(), NoMemory>
     ensures { OnOk result
-        (EnterAll seed.now docs.now (edits changes.now) entries.old entries.new) }
+        (EnterAll coding.now docs.now (edits changes.now) entries.old entries.new) }
 {
     for change in changes {
-        enter_change(alloc, seed, entries, docs, change)?;
+        enter_change(alloc, coding, entries, docs, change)?;
     }
     Ok(())
 }

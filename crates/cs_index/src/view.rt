@@ -7,7 +7,6 @@ ghost use Rattle.cs_index.specs.View.{store_of, indexed, doc_at as document_at};
 use crate::index::Index;
 use crate::indexed::Indexed;
 use crate::referrers::next_under;
-use cs_codes::ref_code;
 use cs_docs::{Docs, Referrers};
 use cs_value::{NoMemory, Steps, Txt};
 use cs_view::{Doc, Key, View};
@@ -67,12 +66,16 @@ impl<'a, L: Ledger> View<L> for Indexed<'a> {
     }
 }
 
-/// It reads the documents that the index names under the reference, and takes no memory.
+/// It reads the documents that the index names under the reference, or all where the index keeps no
+/// references, and takes no memory.
 impl<'a> Referrers for Indexed<'a> {
     ghost dataset = { indexed };
 
     fn next_referrer(&self, target: &Txt, low: Option<&Txt>) -> Option<&Txt> {
-        let code = ref_code(&self.index.seed, target);
+        if !self.index.coding.codes_refs() {
+            return self.docs.next_referrer(target, low);
+        }
+        let code = self.index.coding.ref_code(target);
         match next_under(&self.index.entries, code, self.docs, target, low) {
             Some(doc) => Some(doc.id()),
             None => None,

@@ -28,11 +28,11 @@ loop-place-preserved c =
       s.more,
       s.others,
       λ q.
-          ap (or_some (puts c.args.seed.now d q) (entering s.more))
+          ap (or_some (puts c.args.coding.now d q) (entering s.more))
           (c.in_ok-list_doc.ensures q
-          ∙ ap (λ b. cond b true (is_spread q c.loop-place.spread)) (put_at_place c.args.seed.now d c.in-Some.place this q c.at-doc.ensures)
-          ∙ ap (λ (o : Option Tree). cond (puts c.args.seed.now d q (id_of (or_null o), (None, Some (or_null o)))) true (is_spread q c.loop-place.spread)) one)
-          ∙ sym (ap (λ ds. or_some (puts c.args.seed.now d q) (entering ds) (is_spread q c.loop-place.spread)) s.is)
+          ∙ ap (λ b. cond b true (is_spread q c.loop-place.spread)) (put_at_place c.args.coding.now d c.in-Some.place this q c.at-doc.ensures)
+          ∙ ap (λ (o : Option Tree). cond (puts c.args.coding.now d q (id_of (or_null o), (None, Some (or_null o)))) true (is_spread q c.loop-place.spread)) one)
+          ∙ sym (ap (λ ds. or_some (puts c.args.coding.now d q) (entering ds) (is_spread q c.loop-place.spread)) s.is)
           ∙ c.loop-place.invariant.2 q,
     )
 
@@ -40,5 +40,5 @@ pub returns : goal.returns
 returns c = λ q.
     let ended : into_iter_items c.loop-place.place-iterator ≡ [] = grind (arith, common_steps, c.in-None.ensures.steps.0) in
     let over : c.loop-place.invariant.0 ≡ [] = no_rest c.loop-place.invariant.0 (sym (ap (λ ps. map (doc_at c.args.docs.now) ps) ended) ∙ c.loop-place.invariant.1) in
-    sym (ap (λ ds. or_some (puts c.args.seed.now c.args.docs.now q) (entering ds) (is_spread q c.loop-place.spread)) over)
+    sym (ap (λ ds. or_some (puts c.args.coding.now c.args.docs.now q) (entering ds) (is_spread q c.loop-place.spread)) over)
     ∙ c.loop-place.invariant.2 q

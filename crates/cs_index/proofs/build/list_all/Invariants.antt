@@ -12,4 +12,4 @@ abbrev pub invariant-loop-place : goal.invariant-loop-place
 invariant-loop-place l =
     (rest : List Tree)
     × (map (doc_at l.docs) (into_iter_items l.place-iterator) ≡ map Some rest)
-    × ((q : Entry) → or_some (puts l.seed l.docs q) (entering rest) (is_spread q l.spread) ≡ or_some (puts l.seed l.docs q) (entering (docs l.docs)) false)
+    × ((q : Entry) → or_some (puts l.coding l.docs q) (entering rest) (is_spread q l.spread) ≡ or_some (puts l.coding l.docs q) (entering (docs l.docs)) false)

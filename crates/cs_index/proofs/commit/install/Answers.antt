@@ -7,7 +7,7 @@ use Rattle.cs_index.proofs.commit.install.Goals as goal
 
 pub returns-in-Err-clause-fits_still : goal.returns-in-Err-clause-fits_still
 returns-in-Err-clause-fits_still c e =
-    refitted c.args.index.now.seed c.args.docs.now c.install.new.self c.args.index.now.entries
+    refitted c.args.index.now.coding c.args.docs.now c.install.new.self c.args.index.now.entries
     c.install.ensures.steady c.in-Err.ensures.kept c.requires.fits
 
 pub returns-in-Ok-apply-clause-fits : goal.returns-in-Ok-apply-clause-fits

@@ -6,5 +6,5 @@ use Rattle.cs_index.proofs.delta.delta_of.Given as goal
 
 abbrev pub invariant-loop-change : goal.invariant-loop-change
 invariant-loop-change l =
-    ((q : Entry) → or_some (parts l.seed l.docs q) (edits (drop l.change-index l.changes)) (is_in q l.delta.lost.items) ≡ or_some (parts l.seed l.docs q) (edits l.changes) false)
-    × ((q : Entry) → or_some (gains l.seed l.docs q) (edits (drop l.change-index l.changes)) (is_in q l.delta.gained.items) ≡ or_some (gains l.seed l.docs q) (edits l.changes) false)
+    ((q : Entry) → or_some (parts l.coding l.docs q) (edits (drop l.change-index l.changes)) (is_in q l.delta.lost.items) ≡ or_some (parts l.coding l.docs q) (edits l.changes) false)
+    × ((q : Entry) → or_some (gains l.coding l.docs q) (edits (drop l.change-index l.changes)) (is_in q l.delta.gained.items) ≡ or_some (gains l.coding l.docs q) (edits l.changes) false)

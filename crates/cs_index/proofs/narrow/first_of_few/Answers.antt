@@ -10,4 +10,4 @@ returns-in-Some c = λ d are y.
     let few : c.in-Some.places.items ≡ places_in (under m c.key_code.result)
     = subst (λ o. IfSome o (λ (places : Vec ℕ Global). places.items ≡ places_in (under m c.key_code.result))) c.in-Some.is (c.in_ok-places.ensures) in
     ap (λ (ps : List ℕ). is_found_among d ks ps y) (few ∙ ap (λ (x : ℕ). places_in (under m x)) c.key_code.ensures)
-    ∙ all_found c.args.seed.now d m key ks (c.if-is_kept.ensures refl) (implied-here ks c.loop-key.key-index key c.loop-key-test.true c.key-item.is c.loop-key.invariant) are y
+    ∙ all_found c.args.coding.now d m key ks (c.if-codes.ensures refl) (implied-here ks c.loop-key.key-index key c.loop-key-test.true c.key-item.is c.loop-key.invariant) are y

@@ -6,4 +6,4 @@ use Rattle.cs_index.proofs.put.enter_changes.Given as goal
 
 abbrev pub invariant-loop-change : goal.invariant-loop-change
 invariant-loop-change l =
-    (q : Entry) → or_some (enters l.seed l.docs q) (edits (drop l.change-index l.changes)) (has_entry l.entries q) ≡ or_some (enters l.seed l.docs q) (edits l.changes) (has_entry l.fn.entries q)
+    (q : Entry) → or_some (enters l.coding l.docs q) (edits (drop l.change-index l.changes)) (has_entry l.entries q) ≡ or_some (enters l.coding l.docs q) (edits l.changes) (has_entry l.fn.entries q)

@@ -13,7 +13,7 @@ returns-in-Some c =
     ∙ ap (option_map id_of)
     (c.in-Some.ensures
     ∙ ap (λ (x : ℕ). least v.docs.now c.args.target.now low (under v.index.now.entries x) None) c.ref_code-code.ensures)
-    ∙ least_referrer v.index.now.seed v.docs.now v.index.now.entries c.args.target.now v.fits low
+    ∙ least_referrer v.index.now.coding v.docs.now v.index.now.entries c.args.target.now (c.codes_refs.ensures c.if-not-codes_refs.false c.args.target.now) v.fits low
 
 pub returns-in-None : goal.returns-in-None
 returns-in-None c =
@@ -22,4 +22,4 @@ returns-in-None c =
     ap (option_map id_of)
     (c.in-None.ensures
     ∙ ap (λ (x : ℕ). least v.docs.now c.args.target.now low (under v.index.now.entries x) None) c.ref_code-code.ensures)
-    ∙ least_referrer v.index.now.seed v.docs.now v.index.now.entries c.args.target.now v.fits low
+    ∙ least_referrer v.index.now.coding v.docs.now v.index.now.entries c.args.target.now (c.codes_refs.ensures c.if-not-codes_refs.false c.args.target.now) v.fits low
