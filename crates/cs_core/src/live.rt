@@ -78,6 +78,7 @@ impl Core {
             return self.state.refuse(Refusal::NameUsed { name }, line, out);
         }
         let named = name.copy(self.alloc)?;
+        self.state.make_ready(&query)?;
         match self.add_live(name, query, params, steps) {
             Ok(first) => match write_answer(self.alloc, &first, line, out) {
                 Ok(()) => Ok(ONE_ANSWER),

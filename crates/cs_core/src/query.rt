@@ -109,6 +109,7 @@ impl Core {
     {
         match parse(self.alloc, text) {
             Ok(query) => {
+                self.state.make_ready(&query)?;
                 find(self.alloc, &self.state, &query, params, line, steps, out)?;
                 self.recent.keep(text, query);
                 Ok(ONE_REPLY)

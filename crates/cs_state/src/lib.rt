@@ -2,6 +2,7 @@
 #![tactic(auto)]
 
 mod answer;
+mod ready;
 mod state;
 mod transact;
 

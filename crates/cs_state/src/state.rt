@@ -33,7 +33,8 @@ pub(crate) const ONE_REFUSAL: Tally = Tally {
 /// What the lines so far have left: the documents with their index, the moment, the ids of accepted
 /// transactions in the order in which they were, the live queries and the listeners.
 ///
-/// The index finds the documents that have a key. No reply depends on its seed.
+/// The index finds the documents that have a key, of the kinds that queries have asked by. No reply
+/// depends on its seed.
 ///
 /// A state is spent where a transaction's documents were installed and there was no memory then for
 /// their index, or for what the live queries answer. It can't be used on.
@@ -58,16 +59,15 @@ pub struct State {
 impl State {
     /// The state with these documents, at the first moment, and with nothing else. Which keys share
     /// a code in its index depends on the seed, which no one who chooses documents knows.
-    /// `NoMemory` where the allocator has no room for the index.
+    /// `NoMemory` where the allocator has no room for the moment.
     pub fn new(alloc: Global, seed: RandomState, docs: Docs) -> Result<State, NoMemory>
         ensures begun { IfOk result (λ held. state held ≡ begun (docs_of docs)) }
         ensures usable { IfOk result (λ held. IsUsable held) }
     {
-        let index = Index::build(alloc, seed, &docs)?;
         Ok(State {
             alloc,
             docs,
-            index,
+            index: Index::new(alloc, seed),
             moment: Txt::copy_of(alloc, FIRST_MOMENT)?,
             used: IndexSet::new(alloc),
             live: Live::new(alloc, seed),

@@ -179,8 +179,31 @@ impl State {
         }
     }
 
-    // A transaction that was read.
+    // A transaction that was read. The index is made ready for it first.
     fn transact<L: Ledger>(
+        &mut self,
+        txn: Txn,
+        line: u32,
+        steps: &mut Steps<L>,
+        out: &mut Vec<u8>,
+    ) -> Result<Tally, NoMemory>
+        requires few { length txn.mutations.items < 2 ^ 31 }
+        requires short { AreShort (plain txn).actions }
+        requires usable { IsUsable self.old }
+        ensures does { IfOk result (λ tally. Does out.old.items out.new.items tally self.new line
+            (by_transaction (state self.old) (plain txn))) }
+        ensures leaves { OnErr result (Leaves self.old self.new
+            (by_transaction (state self.old) (plain txn))) }
+        ensures visits { VisitsFew (are_simple (plain txn).actions)
+            (transaction_cost (state self.old) (plain txn)) self.old
+            (by_transaction (state self.old) (plain txn)) steps.old steps.new }
+    {
+        self.make_ready_for(txn.mutations.as_slice())?;
+        self.do_all(txn, line, steps, out)
+    }
+
+    // A transaction, once the index is ready.
+    fn do_all<L: Ledger>(
         &mut self,
         txn: Txn,
         line: u32,
