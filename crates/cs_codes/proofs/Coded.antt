@@ -1,5 +1,5 @@
 -- A document that has a key of a kind that has codes has the key's code among those of the kind.
-use Rattle.std.proofs.Common.{◌≡◌, ℕ, List, [], ◌∷◌, ◌++◌, Option, Some, None, true, sym, subst, true≢false, ⊎_elim, inl, inr, ◌∙◌, ◌+◌, ◌<◌, ap, length, drop, get_or}
+use Rattle.std.proofs.Common.{◌≡◌, ℕ, List, [], ◌∷◌, Option, Some, None, true, sym, subst, true≢false, ⊎_elim, inl, inr, ◌∙◌, ◌+◌, ◌<◌, ap, length, drop, get_or}
 use Rattle.std.proofs.lemmas.List.{drop_more}
 use Rattle.cs_value.specs.Tree.{Tree, null, boolean, integer, text, list, object}
 use Rattle.cs_value.specs.Words.{followed}
@@ -9,7 +9,7 @@ use Rattle.cs_view.specs.declared.key.Scalar.{Scalar}
 use Rattle.cs_view.specs.declared.key.Key.{Key}
 use Rattle.cs_view.specs.declared.key.Key.TheVariants.{All, Id, Path, Elem, Ref}
 use Rattle.cs_codes.specs.Codes.{Hash, start, with_names, with_value, with_element, scalar_code, key_code, is_among}
-use Rattle.cs_codes.specs.Kinds.{IsOfKind, IsOfSome, IsCoded, value_codes, list_codes, element_codes, kind_codes, kinds_codes, coded}
+use Rattle.cs_codes.specs.Kinds.{IsOfKind, IsOfSome, IsCoded, value_codes, element_codes, kind_codes, kinds_codes, coded}
 use Rattle.cs_codes.specs.declared.coding.Coding.{Coding}
 use Rattle.cs_codes.specs.declared.kind.KeyKind.{KeyKind}
 use Rattle.cs_codes.specs.declared.kind.KeyKind.TheVariants.{Path as Values, Elem as Elements, Ref as References}

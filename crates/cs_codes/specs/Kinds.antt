@@ -4,7 +4,7 @@ use Rattle.std.specs.Prelude.{◌≡◌, ◌⊎◌, ⊤, ℕ, List, [], ◌∷�
 use Rattle.cs_value.specs.Tree.{Tree, null, boolean, integer, text, list, object}
 use Rattle.cs_value.specs.Words.{followed}
 use Rattle.cs_view.specs.declared.key.Key.{Key}
-use Rattle.cs_view.specs.declared.key.Key.TheVariants.{All, Id, Path, Elem, Ref}
+use Rattle.cs_view.specs.declared.key.Key.TheVariants.{Path, Elem, Ref}
 use Rattle.cs_codes.specs.Codes.{Hash, start, with_names, with_value, with_element, scalar_codes, elements_codes, refs}
 use Rattle.cs_codes.specs.declared.coding.Coding.{Coding}
 use Rattle.cs_codes.specs.declared.kind.KeyKind.{KeyKind}

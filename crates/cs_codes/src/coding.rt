@@ -1,6 +1,5 @@
 //! The codes of the keys of some kinds.
 ghost use Rattle.std.specs.Prelude.{◌≡◌, ℕ, List, ◌++◌, ◌∷◌, [], true, OnOk, OnErr, IfOk, option_map};
-ghost use Rattle.cs_value.specs.Tree.{Tree};
 ghost use Rattle.cs_value.specs.View.{tree};
 ghost use Rattle.cs_value.specs.Words.{followed};
 ghost use Rattle.cs_view.specs.View.{document_of};
@@ -53,11 +52,8 @@ fn put_list(seed: &Seed, names: &Names, doc: &Doc, out: &mut Vec<u64>) -> Result
 {
     match followed(names.texts(), doc.val()) {
         Some(Val::List(items)) => {
-            put_elements(
-                with_element(with_names(start(seed), names.texts())),
-                items,
-                out,
-            )
+            let hash = with_names(start(seed), names.texts());
+            put_elements(with_element(hash), items, out)
         }
         _ => Ok(()),
     }

@@ -83,12 +83,12 @@ or_some test (c ∷ cs) b = or_some test cs (cond (test c) true b)
 abbrev pub Gain : (Entry → Bool) → BTreeSet Entry → BTreeSet Entry → Type 0
 Gain put old new = (q : Entry) → has_entry new q ≡ cond (put q) true (has_entry old q)
 
+abbrev pub Collect : (Entry → Bool) → List Entry → List Entry → Type 0
+Collect put old new = (q : Entry) → is_in q new ≡ cond (put q) true (is_in q old)
+
 -- no entry is lost
 abbrev pub Grows : BTreeSet Entry → BTreeSet Entry → Type 0
 Grows old new = (q : Entry) → has_entry old q ≡ true → has_entry new q ≡ true
-
-abbrev pub Collect : (Entry → Bool) → List Entry → List Entry → Type 0
-Collect put old new = (q : Entry) → is_in q new ≡ cond (put q) true (is_in q old)
 
 -- the entries of a list are taken out
 abbrev pub Lose : List Entry → BTreeSet Entry → BTreeSet Entry → Type 0

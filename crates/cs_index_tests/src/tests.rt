@@ -1,9 +1,11 @@
-//! An index as it is built, and as it follows commits, on three documents.
+//! An index as it is built, as it follows commits and as it keeps more kinds of keys, on three
+//! documents.
 ghost use Rattle.std.specs.Prelude.{◌≡◌, ◌<◌, [], ◌∷◌, IfOk, OnOk};
 ghost use Rattle.cs_view.specs.View.{document_of, edits};
 ghost use Rattle.cs_docs.specs.Gathered.{entering};
 ghost use Rattle.cs_index.specs.Index.{IsIndexOf};
 
+use cs_codes::KeyKind;
 use cs_docs::{Docs, Prepared, Referrers};
 use cs_index::{Index, Indexed, install};
 use cs_value::{Fields, NoMemory, Steps, Txt, Val};
@@ -156,18 +158,50 @@ fn put_three(alloc: Global, docs: &mut Docs, index: &mut Index) -> Result<(), Fa
     Ok(())
 }
 
+// The kinds of the keys that name attributes or refer.
+fn kinds(alloc: Global) -> Result<Vec<KeyKind>, Fail> {
+    let mut word = Vec::new(alloc);
+    word.push(Txt::copy_of(alloc, "word")?)?;
+    let mut tags = Vec::new(alloc);
+    tags.push(Txt::copy_of(alloc, "tags")?)?;
+    let mut kinds = Vec::new(alloc);
+    kinds.push(KeyKind::Path(Names::of(word)))?;
+    kinds.push(KeyKind::Elem(Names::of(tags)))?;
+    kinds.push(KeyKind::Ref)?;
+    Ok(kinds)
+}
+
+// What is found, whether the index keeps the keys or not.
+const FOUND: &str = "abc/b/ac/b/abc/ab";
+
 #[test]
 fn an_index_is_built_and_follows_commits(rt: HostRuntime) -> Result<(), Fail> {
     let Ok(seed) = RandomState::new(&rt) else {
         return Err(Fail::new("no random words"));
     };
     let mut docs = Docs::new(rt.alloc());
-    let mut index = Index::build(rt.alloc(), seed, &docs)?;
+    let mut index = Index::build(rt.alloc(), seed, &docs, kinds(rt.alloc())?)?;
     put_three(rt.alloc(), &mut docs, &mut index)?;
     let followed = seen::<Brand>(Blank::new(1), rt.alloc(), &Indexed::of(&docs, &index))?;
-    assert_eq!(rt; followed.as_str(), "abc/b/ac/b/abc/ab");
-    let again = Index::build(rt.alloc(), seed, &docs)?;
+    assert_eq!(rt; followed.as_str(), FOUND);
+    let again = Index::build(rt.alloc(), seed, &docs, kinds(rt.alloc())?)?;
     let built = seen::<Brand>(Blank::new(1), rt.alloc(), &Indexed::of(&docs, &again))?;
-    assert_eq!(rt; built.as_str(), "abc/b/ac/b/abc/ab");
+    assert_eq!(rt; built.as_str(), FOUND);
+    Ok(())
+}
+
+#[test]
+fn an_index_that_keeps_nothing_finds_the_same(rt: HostRuntime) -> Result<(), Fail> {
+    let Ok(seed) = RandomState::new(&rt) else {
+        return Err(Fail::new("no random words"));
+    };
+    let mut docs = Docs::new(rt.alloc());
+    let mut index = Index::new(rt.alloc(), seed);
+    put_three(rt.alloc(), &mut docs, &mut index)?;
+    let unkept = seen::<Brand>(Blank::new(1), rt.alloc(), &Indexed::of(&docs, &index))?;
+    assert_eq!(rt; unkept.as_str(), FOUND);
+    index.keep(&docs, kinds(rt.alloc())?)?;
+    let kept = seen::<Brand>(Blank::new(1), rt.alloc(), &Indexed::of(&docs, &index))?;
+    assert_eq!(rt; kept.as_str(), FOUND);
     Ok(())
 }

@@ -1,6 +1,7 @@
 //! What one filter asks for.
 use crate::paths::{LentPath, path_of};
 use cs_codes::KeyKind;
+use cs_plan::is_quiet;
 use cs_syntax::{BinSign, Expr, without_global};
 use cs_value::NoMemory;
 use std::alloc::Global;
@@ -24,15 +25,24 @@ impl Asked {
     }
 
     // The kinds that are wanted for the filter. None are where its documents are found by their
-    // ids, and the wide ones only where there are no others.
-    fn wanted(self, alloc: Global) -> Vec<KeyKind> {
-        if self.by_id {
-            Vec::new(alloc)
-        } else if self.narrow.is_empty() {
-            self.wide
-        } else {
-            self.narrow
+    // ids, and the wide ones only where there are no others; or where the filter looks something up
+    // itself, since it is tried then at all documents of one key, which may be a wide one.
+    fn wanted(self, is_quiet: bool, alloc: Global) -> Result<Vec<KeyKind>, NoMemory> {
+        let Asked {
+            by_id,
+            narrow,
+            wide,
+        } = self;
+        if by_id {
+            return Ok(Vec::new(alloc));
         }
+        if !narrow.is_empty() && is_quiet {
+            return Ok(narrow);
+        }
+        let mut kinds = narrow;
+        let mut others = wide;
+        kinds.append(&mut others)?;
+        Ok(kinds)
     }
 
     // Takes in that the values at the end of the path are compared with a value.
@@ -140,5 +150,5 @@ fn put_operands(
 pub(crate) fn wanted_of(filter: &Expr, alloc: Global) -> Result<Vec<KeyKind>, NoMemory> {
     let mut asked = Asked::none(alloc);
     put_conjuncts(filter, alloc, &mut asked)?;
-    Ok(asked.wanted(alloc))
+    asked.wanted(is_quiet(filter), alloc)
 }

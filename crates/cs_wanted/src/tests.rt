@@ -66,6 +66,7 @@ count(*['x' in tags && rank == 3]) wants path.rank
 *[(1 == a["b"].c.d && true)] wants path.a.b.c.d
 *[a.b.c.d.e == 1] wants
 *[a == b] wants
+*[_type == 'post' && n == 1 && count(*[m == 2]) > 0] wants path.n path._type path.m
 *[_type == 'a'] | order(count(*[n == 1]), m desc)[0..2]{..., x == 1 => {'y': *[o == 2]}} wants path._type path.n path.o
 [*[a == 1], -count(*[b == 1]) + 1 in [1, *[c == 1][0].n]] wants path.a path.b path.c
 x[y == 1] wants

@@ -1,5 +1,4 @@
-use Rattle.std.proofs.Common.{ℕ, List, refl, nat_eq}
-use Rattle.std.specs.Cmp.Lexicographic.{pointwise}
+use Rattle.std.proofs.Common.{ℕ, List}
 use Rattle.std.proofs.lemmas.Slice.Eq.{slice_eq-Decides, bytes_eq-Decides}
 use Rattle.cs_codes.proofs.kind.are_same.Goals as goal
 

@@ -1,4 +1,4 @@
-use Rattle.std.proofs.Common.{◌∙◌, ap, ◌++◌}
+use Rattle.std.proofs.Common.{◌∙◌}
 use Rattle.cs_index.proofs.Keeping.{joined, entered}
 use Rattle.cs_index.proofs.index.Index.keep_one.Goals as goal
 
