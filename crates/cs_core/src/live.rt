@@ -46,7 +46,10 @@ impl Core {
             + reading_cost (state self.old).docs (fields params) (verdict text.now) }
     {
         match parse(self.alloc, text) {
-            Ok(query) => self.subscribe(name, query, params, line, steps, out),
+            Ok(query) => {
+                self.make_ready(&query)?;
+                self.subscribe(name, query, params, line, steps, out)
+            }
             Err(fault) => match no_query(&fault) {
                 Some(why) => self.state.refuse(why, line, out),
                 None => Err(NoMemory),
@@ -78,7 +81,6 @@ impl Core {
             return self.state.refuse(Refusal::NameUsed { name }, line, out);
         }
         let named = name.copy(self.alloc)?;
-        self.state.make_ready(&query)?;
         match self.add_live(name, query, params, steps) {
             Ok(first) => match write_answer(self.alloc, &first, line, out) {
                 Ok(()) => Ok(ONE_ANSWER),

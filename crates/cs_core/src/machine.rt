@@ -100,8 +100,9 @@ impl Replies {
 /// the moment, the ids of accepted transactions in the order in which they were, the live queries
 /// and the listeners.
 ///
-/// Its index finds the documents that have a key. No reply depends on the seed of the index. It
-/// keeps the queries that were asked last, so that their texts are not read again.
+/// Its index finds the documents that have a key, of the kinds by which queries have asked. No reply
+/// depends on the seed of the index. It keeps the queries that were asked last, so that their texts
+/// are not read again.
 ///
 /// A machine is spent where a transaction's documents were installed and there was no memory then
 /// for their index, or for what its live queries answer. It can't be used on, and every step says
@@ -117,7 +118,7 @@ pub struct Core {
 impl Core {
     /// A machine with these documents, at the first moment, and with nothing else. Which keys share
     /// a code in its index depends on the seed, which no one who chooses documents knows.
-    /// `NoMemory` where the allocator has no room for the index.
+    /// `NoMemory` where the allocator has no room for it.
     pub fn new(alloc: Global, seed: RandomState, docs: Docs) -> Result<Core, NoMemory>
         ensures begun { IfOk result (λ core. state core ≡ begun (docs_of docs)) }
         ensures usable { IfOk result (λ core. IsUsable core) }

@@ -90,6 +90,16 @@ impl Core {
         self.new_query(text, params, line, steps, out)
     }
 
+    // Makes the index ready for a query that was read. Nothing else changes.
+    pub(crate) fn make_ready(&mut self, query: &Query) -> Result<(), NoMemory>
+        requires usable { IsUsable self.old }
+        ensures state { state self.new ≡ state self.old }
+        ensures usable { IsUsable self.new }
+        ensures live { self.new.state.live ≡ self.old.state.live }
+    {
+        self.state.make_ready(query)
+    }
+
     // The same of a text that is not kept.
     fn new_query<L: Ledger>(
         &mut self,
@@ -109,7 +119,7 @@ impl Core {
     {
         match parse(self.alloc, text) {
             Ok(query) => {
-                self.state.make_ready(&query)?;
+                self.make_ready(&query)?;
                 find(self.alloc, &self.state, &query, params, line, steps, out)?;
                 self.recent.keep(text, query);
                 Ok(ONE_REPLY)

@@ -5,6 +5,7 @@ use Rattle.cs_body.specs.Transaction.{Transaction}
 use Rattle.cs_txn.specs.Visits.{are_simple, costs}
 use Rattle.cs_docs.specs.Store.{docs}
 use Rattle.cs_live.specs.Fits.{IsUntouched}
+use Rattle.cs_live.specs.declared.live.Live.{Live}
 use Rattle.cs_machine.specs.Fold.{Stepped}
 use Rattle.cs_machine.specs.Rows.{installed, by_transaction}
 use Rattle.cs_machine.specs.State.{State}
@@ -49,3 +50,15 @@ pub few_refused : (held : Held) (x : Transaction) (old new : ℕ)
     (by_transaction (state held) x) old new
 few_refused held x old new unused few simple untouched =
     omega (arith, few simple, paid (state held) x unused)
+
+-- what a state that is the same in its contracts visits
+pub few_from : (b : Bool) (x : Transaction) (old mid : Held) (before after : ℕ)
+    → state mid ≡ state old → mid.live ≡ old.live
+    → VisitsFew b (transaction_cost (state mid) x) mid (by_transaction (state mid) x) before after
+    → VisitsFew b (transaction_cost (state old) x) old (by_transaction (state old) x) before after
+few_from b x old mid before after same live few simple untouched =
+    subst (λ (s : State). after ≤ before + transaction_cost s x) same (few simple back) where
+      back : IsUntouched mid.live (changes_between (docs mid.docs) (by_transaction (state mid) x).state.docs)
+      back =
+          subst (λ (l : Live). IsUntouched l (changes_between (docs mid.docs) (by_transaction (state mid) x).state.docs)) (sym live)
+          (subst (λ (s : State). IsUntouched old.live (changes_between s.docs (by_transaction s x).state.docs)) (sym same) untouched)

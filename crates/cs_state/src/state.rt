@@ -64,10 +64,11 @@ impl State {
         ensures begun { IfOk result (λ held. state held ≡ begun (docs_of docs)) }
         ensures usable { IfOk result (λ held. IsUsable held) }
     {
+        let index = Index::new(alloc, seed);
         Ok(State {
             alloc,
             docs,
-            index: Index::new(alloc, seed),
+            index,
             moment: Txt::copy_of(alloc, FIRST_MOMENT)?,
             used: IndexSet::new(alloc),
             live: Live::new(alloc, seed),

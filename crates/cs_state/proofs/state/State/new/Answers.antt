@@ -8,6 +8,6 @@ returns-clause-usable c =
       unspent = refl;
       fitting = record {
         lives = c.new-2.ensures.fits (docs c.args.docs);
-        index = c.in_ok-index.ensures;
+        index = c.new-index.ensures c.args.docs;
       };
     }

@@ -13,7 +13,7 @@ use Rattle.cs_state.proofs.Replying.{does_as, leaves_as, same_kept, kept_leaves,
 use Rattle.cs_state.proofs.Told.{told_both}
 use Rattle.cs_state.proofs.Transacting.{changes_known, row_known, row_refused, says_refused}
 use Rattle.cs_state.proofs.Visiting.{few_accepted, few_refused}
-use Rattle.cs_state.proofs.state.State.transact.Goals as goal
+use Rattle.cs_state.proofs.state.State.do_all.Goals as goal
 
 pub returns-in-Ok-clause-does : goal.returns-in-Ok-clause-does
 returns-in-Ok-clause-does g c =
