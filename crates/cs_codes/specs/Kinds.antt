@@ -18,6 +18,7 @@ IsOfKind (Elem ns s) (Elements ms) = ns ≡ ms
 IsOfKind (Ref t) References = ⊤
 IsOfKind k kind = ⊥
 
+-- the key is of one of the kinds
 abbrev pub IsOfSome : Key → List KeyKind → Type 0
 IsOfSome k [] = ⊥
 IsOfSome k (x ∷ xs) = IsOfKind k x ⊎ IsOfSome k xs
@@ -45,6 +46,7 @@ kind_codes seed (Values ns) d = value_codes (with_names (start seed) ns) (follow
 kind_codes seed (Elements ns) d = element_codes (with_names (start seed) ns) (followed ns d)
 kind_codes seed References d = refs seed d
 
+-- those of some kinds, one kind after the other
 abbrev pub kinds_codes : Seed → List KeyKind → Tree → List ℕ
 kinds_codes seed [] d = []
 kinds_codes seed (k ∷ ks) d = kind_codes seed k d ++ kinds_codes seed ks d

@@ -6,7 +6,8 @@ pub fn keys_are_listed()
     ensures { KeysAreListed }
 {}
 
-/// A document that has a key of a kind that has codes has the key's code among those of these kinds.
+/// A document that has a key of a kind that has codes has the key's code among those of these
+/// kinds.
 pub fn coded_keys_are_listed()
     ensures { CodedKeysAreListed }
 {}

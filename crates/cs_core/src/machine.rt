@@ -100,9 +100,9 @@ impl Replies {
 /// the moment, the ids of accepted transactions in the order in which they were, the live queries
 /// and the listeners.
 ///
-/// Its index finds the documents that have a key, of the kinds by which queries have asked. No reply
-/// depends on the seed of the index. It keeps the queries that were asked last, so that their texts
-/// are not read again.
+/// Its index finds the documents that have a key, of the kinds by which queries have asked. No
+/// reply depends on the seed of the index. It keeps the queries that were asked last, so that their
+/// texts are not read again.
 ///
 /// A machine is spent where a transaction's documents were installed and there was no memory then
 /// for their index, or for what its live queries answer. It can't be used on, and every step says

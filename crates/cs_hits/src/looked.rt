@@ -100,8 +100,8 @@ impl Looked {
         self.keys.keys()
     }
 
-    /// Whether marks alone tell that no changes whose ids have these marks touch one of the keys. It
-    /// looks at no key.
+    /// Whether marks alone tell that no changes whose ids have these marks touch one of the keys.
+    /// It looks at no key.
     #[inline]
     pub fn is_spared(&self, id_marks: &[u64]) -> bool
         ensures { result ≡ true → PassBy id_marks.now self.now }

@@ -75,10 +75,10 @@ impl Share {
         })
     }
 
-    /// Brings the share to the dataset after the changes, whose ids have these marks: whether it was
-    /// found anew, which it is where the changes touch what finding it looked up. `recoded` is set
-    /// where interest in what finding it looks up now is held under other codes. `NoMemory` where
-    /// the allocator has no room for it; it is as before then.
+    /// Brings the share to the dataset after the changes, whose ids have these marks: whether it
+    /// was found anew, which it is where the changes touch what finding it looked up. `recoded` is
+    /// set where interest in what finding it looks up now is held under other codes. `NoMemory`
+    /// where the allocator has no room for it; it is as before then.
     pub fn renew<V: View<L>, L: Ledger>(
         &mut self,
         alloc: Global,

@@ -58,13 +58,15 @@ is_apart coding other this p q =
 -- the place of its id
 abbrev pub puts : Coding → Docs → Entry → Edit → Bool
 puts coding d q c =
-    is_put_at (λ x. is_among x (side_coded coding c.1.0)) (place_at d c.0) (side_coded coding c.1.1) q
+    is_put_at (λ x. is_among x (side_coded coding c.1.0)) (place_at d c.0)
+    (side_coded coding c.1.1) q
 
 -- the change parts with the entry: of a code that its document before has and the one after has
 -- not, at the place of its id
 abbrev pub parts : Coding → Docs → Entry → Edit → Bool
 parts coding d q c =
-    is_put_at (λ x. is_among x (side_coded coding c.1.1)) (place_at d c.0) (side_coded coding c.1.0) q
+    is_put_at (λ x. is_among x (side_coded coding c.1.1)) (place_at d c.0)
+    (side_coded coding c.1.0) q
 
 -- the change puts the entry, of a document that stands before it
 abbrev pub gains : Coding → Docs → Entry → Edit → Bool

@@ -45,7 +45,8 @@ fn list_doc(
     list_codes(spread, room, place)
 }
 
-// The entries of all documents, of the kinds of keys that are coded. The walk is over their places, so none is sought by its id.
+// The entries of all documents, of the kinds of keys that are coded. The walk is over their places,
+// so that none is sought by its id.
 pub(crate) fn list_all(alloc: Global, coding: &Coding, docs: &Docs) -> Result<Spread, NoMemory>
     ensures { IfOk result (λ spread. (q : Entry) → is_spread q spread
         ≡ or_some (puts coding.now docs.now q) (entering (dataset docs.now)) false) }

@@ -123,9 +123,9 @@ impl Index {
 
     /// The places of the documents that have each of the keys, in the order of their ids. Of the
     /// documents that the index names under one of the keys each is tested: under an id if there is
-    /// one, else under a key of few documents. Where it keeps none of the keys, or more than 16 stand
-    /// under each that it keeps, and more than a quarter of all, every document is tested. `NoMemory`
-    /// where the allocator has no room for them.
+    /// one, else under a key of few documents. Where it keeps none of the keys, or more than 16
+    /// stand under each that it keeps, and more than a quarter of all, every document is tested.
+    /// `NoMemory` where the allocator has no room for them.
     pub fn select_all(&self, alloc: Global, keys: &[Key], docs: &Docs) -> Result<Vec<u32>, NoMemory>
         requires { IsIndexOf self.now docs.now }
         ensures { IfOk result (λ places. ArePlacesOf keys.now docs.now places.items) }

@@ -104,7 +104,8 @@ fn places_of(alloc: Global, hits: Vec<(&Txt, u32)>) -> Result<Vec<u32>, NoMemory
     Ok(places)
 }
 
-// Those of the places, among which all that are wanted stand, whose documents have each of the keys.
+// Those of the places, among which all that are wanted stand, whose documents have each of the
+// keys.
 pub(crate) fn places_among(
     alloc: Global,
     places: &[u32],

@@ -37,8 +37,8 @@ codes_of (ByRecord r) = r.keys.codes.items
 codes_of (InRows r) = r.codes.items
 codes_of (InShares m) = m.codes.items
 
--- the codes of a mapped query: that of its own key, and behind it, ascending, those of the keys that
--- finding its shares looked up
+-- the codes of a mapped query: that of its own key, and behind it, ascending, those of the keys
+-- that finding its shares looked up
 pub record AreListed (seed : Seed) (own : Key) (looked : List Key) (cs : List ℕ) : Type 0 where
   pub first : cs ≡ interest_code seed own ∷ drop 1 cs
   pub behind : AreSought seed looked (drop 1 cs)

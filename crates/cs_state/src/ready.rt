@@ -1,5 +1,5 @@
-//! The index made ready for what is asked of the documents next: it keeps the kinds of keys by which
-//! queries ask.
+//! The index made ready for what is asked of the documents next: it keeps the kinds of keys by
+//! which queries ask.
 ghost use Rattle.std.specs.Prelude.{◌≡◌};
 ghost use Rattle.cs_state.specs.State.{state, IsUsable};
 

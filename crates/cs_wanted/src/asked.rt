@@ -64,7 +64,7 @@ impl Asked {
         Ok(())
     }
 
-    // Takes in `left == right`. Of two paths none is compared with a value that is known beforehand.
+    // Takes in `left == right`. Of two paths none is compared with a value that is known before.
     fn put_equality(&mut self, left: &Expr, right: &Expr, alloc: Global) -> Result<(), NoMemory> {
         match (path_of(left), path_of(right)) {
             (Some(path), None) => self.put_path(&path, right, alloc),
@@ -145,8 +145,8 @@ fn put_operands(
     Ok(())
 }
 
-/// The kinds of keys that are wanted for a filter of `*`. `NoMemory` where the allocator has no room
-/// for them.
+/// The kinds of keys that are wanted for a filter of `*`. `NoMemory` where the allocator has no
+/// room for them.
 pub(crate) fn wanted_of(filter: &Expr, alloc: Global) -> Result<Vec<KeyKind>, NoMemory> {
     let mut asked = Asked::none(alloc);
     put_conjuncts(filter, alloc, &mut asked)?;

@@ -154,9 +154,9 @@ fn put_keys(keys: &[OrderKey], alloc: Global, found: &mut Vec<KeyKind>) -> Resul
     Ok(())
 }
 
-/// The kinds of keys by which the filters of a query ask for documents, for an index that is to have
-/// them. One may be there several times. Nothing but time hangs on the answer, so no clause speaks
-/// of it. `NoMemory` where the allocator has no room for them.
+/// The kinds of keys by which the filters of a query ask for documents, for an index that is to
+/// have them. One may be there several times. Nothing but time hangs on the answer, so no clause
+/// speaks of it. `NoMemory` where the allocator has no room for them.
 pub fn wanted_kinds(alloc: Global, query: &Query) -> Result<Vec<KeyKind>, NoMemory> {
     let mut found = Vec::new(alloc);
     put(query.expr(), alloc, &mut found)?;
