@@ -2,6 +2,8 @@ mod Chars
 mod Complete
 mod Examples
 mod Fault
+mod Following
+mod Names
 mod Readings
 mod Sound
 mod Verdicts

@@ -194,13 +194,21 @@ at_start : (ms : Path) (v : Tree) (l : Trail) → some_leads (true ∷ []) ms v 
 at_start [] v l = refl
 at_start (m ∷ ms) v l = or-false (leads (m ∷ ms) v l)
 
-kept_start : (b : Bool) (l : Trail) (ls ks : List Trail) → map (λ k. [] ++ parts k) ls ≡ map parts ks → map (λ k. [] ++ parts k) (cond b (l ∷ ls) ls) ≡ map parts (cond b (l ∷ ks) ks)
-kept_start true l ls ks h = ap (λ r. parts l ∷ r) h
-kept_start false l ls ks h = h
+kept_start : (b : Bool) (above : Location) (l : Trail) (ls ks : List Trail) → map (λ k. above ++ parts k) ls ≡ map (λ k. above ++ k) (map parts ks)
+    → map (λ k. above ++ parts k) (cond b (l ∷ ls) ls) ≡ map (λ k. above ++ k) (map parts (cond b (l ∷ ks) ks))
+kept_start true above l ls ks h = ap (λ r. (above ++ parts l) ∷ r) h
+kept_start false above l ls ks h = h
 
-pub reached_start : (ms : Path) (v : Tree) (ls : List Trail) → reached [] (true ∷ []) ms v ls ≡ map parts (filter (leads ms v) ls)
-reached_start ms v [] = refl
-reached_start ms v (l ∷ ls) = rw (at_start ms v l) (kept_start (leads ms v l) l _ _ (reached_start ms v ls))
+reached_start : (above : Location) (ms : Path) (v : Tree) (ls : List Trail) → reached above (true ∷ []) ms v ls ≡ map (λ k. above ++ k) (map parts (filter (leads ms v) ls))
+reached_start above ms v [] = refl
+reached_start above ms v (l ∷ ls) = rw (at_start ms v l) (kept_start (leads ms v l) above l _ _ (reached_start above ms v ls))
+
+-- where no steps are left, the path leads to the value itself
+pub at_path_end : (above : Location) (v : Tree) → map (λ k. above ++ k) (places [] v) ≡ above ∷ []
+at_path_end above v =
+    let inside = none_inside above (true ∷ []) [] v refl v in
+    sym (reached_start above [] v (trails v)) ∙ ap (reached above (true ∷ []) [] v) inside.1
+    ∙ reached_here above (true ∷ []) [] v inside.0 ∙ ap (λ r. above ∷ r) inside.2
 
 -- past the last flag or the last step one more rest waits
 next_end : (p : Item → Bool) (h : Bool) (ws : List Bool) → next p h ws [] ≡ h ∷ []
@@ -314,14 +322,8 @@ on_ok (Err e) P Q f h = h
 pub none_reached : (found : List Location) (above : Location) (ws : List Bool) (ms : Path) (v : Tree) (ls : List Trail) → list_any (λ b. b) ws ≡ false → found ≡ found ++ reached above ws ms v ls
 none_reached found above ws ms v ls h = sym (ap (λ r. found ++ r) (reached_none above ws ms v ls h) ∙ append-nil found)
 
--- the walk from the whole value, with the whole path waiting
-pub whole : (after found : List Location) (above : Location) (ws : List Bool) (given ss : List CodeStep) (v : Tree)
-    → found ≡ [] → above ≡ [] → ws ≡ true ∷ [] → given ≡ ss
-    → after ≡ found ++ reached above ws (path_of given) v (trails v) → after ≡ places (path_of ss) v
-whole after found above ws given ss v none top first same walked =
-    walked
-    ∙ ap (λ f. f ++ reached above ws (path_of given) v (trails v)) none
-    ∙ ap (λ a. reached a ws (path_of given) v (trails v)) top
-    ∙ ap (λ b. reached [] b (path_of given) v (trails v)) first
-    ∙ ap (λ s. reached [] (true ∷ []) (path_of s) v (trails v)) same
-    ∙ reached_start (path_of ss) v (trails v)
+-- the walk from a value, with the whole path waiting
+pub whole : (after found : List Location) (above : Location) (ss : List CodeStep) (v : Tree)
+    → found ≡ [] → after ≡ found ++ reached above (true ∷ []) (path_of ss) v (trails v) → after ≡ map (λ l. above ++ l) (places (path_of ss) v)
+whole after found above ss v none walked =
+    walked ∙ ap (λ f. f ++ reached above (true ∷ []) (path_of ss) v (trails v)) none ∙ reached_start above (path_of ss) v (trails v)

@@ -3,6 +3,7 @@ pub mod Machine
 pub mod Path
 pub mod Places
 pub mod Reading
+pub mod Sole
 pub mod Verdict
 pub mod View
 pub mod Walk

@@ -10,6 +10,7 @@ mod path;
 mod places;
 mod read;
 mod select;
+mod sole;
 mod steps;
 mod walk;
 

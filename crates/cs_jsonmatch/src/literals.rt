@@ -1,12 +1,13 @@
 //! Names, numbers and texts in a path.
-ghost use Rattle.std.specs.Prelude.{ℕ, pos, neg_ℤ, ◌≡◌, ◌≢◌, ◌⊎◌, ◌<◌, ◌≤◌, ◌^◌, ◌++◌, ◌∷◌, [], List, Bool, cond, length, encode_utf8, MatchOption, MatchResult, IfOk};
+ghost use Rattle.std.specs.Prelude.{ℕ, pos, neg_ℤ, ◌≡◌, ◌≢◌, ◌⊎◌, ◌<◌, ◌≤◌, ◌^◌, ◌++◌, ◌∷◌, [], List, Bool, cond, length, take, drop, encode_utf8, MatchBool, MatchOption, MatchResult, IfOk};
+ghost use Rattle.std.specs.Str.{IsCharBoundary};
 ghost use Rattle.cs_jsonmatch.specs.Path.{Item, Path};
 ghost use Rattle.cs_jsonmatch.specs.declared.class.Class.TheVariants.{Letter, Digit, Quote};
 ghost use Rattle.cs_jsonmatch.specs.Grammar.{class};
 ghost use Rattle.cs_jsonmatch.specs.Machine.{Slot, State, text_item, quoted, after};
-ghost use Rattle.cs_jsonmatch.specs.Reading.{reading, next_class, Took, Missed, IsStop, IsRead, Moved, IsNameRead, AreDigitsRead, IsIntRead, before_int, TakesQuote};
+ghost use Rattle.cs_jsonmatch.specs.Reading.{reading, next_class, Missed, IsStop, IsRead, Moved, IsNameRead, AreDigitsRead, IsIntRead, before_int, TakesQuote};
 
-use crate::class::Class;
+use crate::class::{Class, class_of};
 use crate::cursor::{Cursor, Stop};
 use cs_value::{NoMemory, Txt};
 use std::alloc::Global;
@@ -23,31 +24,40 @@ fn signed(negative: bool, number: u64) -> i64
     }
 }
 
-impl<'t> Cursor<'t> {
-    fn letter_or_digit(&mut self) -> Option<char>
-        ensures { MatchOption result
-            (Missed Letter self.old.rest.now self.new.rest.now
-            × Missed Digit self.old.rest.now self.new.rest.now)
-            (λ c. Took Letter c self.old.rest.now self.new.rest.now
-            ⊎ Took Digit c self.old.rest.now self.new.rest.now) }
-    {
-        match self.take(Class::Letter) {
-            Some(c) => Some(c),
-            None => self.take(Class::Digit),
+// Whether a byte may stand in a name, behind its first letter.
+fn is_in_name(byte: u8) -> bool
+    ensures { MatchBool result ((class byte ≡ Letter) ⊎ (class byte ≡ Digit))
+        ((class byte ≡ Letter → ⊥) × (class byte ≡ Digit → ⊥)) }
+{
+    matches!(class_of(byte as char), Class::Letter | Class::Digit)
+}
+
+// The length of the name that the text begins with. All its characters are ASCII.
+fn name_len(text: &str) -> usize
+    requires { next_class text.now ≡ Letter }
+    ensures name { IsNameRead (take result text.now) text.now (drop result text.now) }
+    ensures cut { IsCharBoundary text.now result }
+{
+    let bytes = text.as_bytes();
+    for (at, byte) in bytes.iter().enumerate() {
+        if !is_in_name(*byte) {
+            return at;
         }
     }
+    bytes.len()
+}
 
+impl<'t> Cursor<'t> {
     // The name whose first letter stands next.
     pub fn name(&mut self, alloc: Global) -> Result<Txt, NoMemory>
         requires { next_class self.old.rest.now ≡ Letter }
         ensures name { IfOk result (λ n. IsNameRead n self.old.rest.now self.new.rest.now) }
         ensures shorter { length self.new.rest.now ≤ length self.old.rest.now }
     {
-        let mut name = String::new(alloc);
-        while let Some(c) = self.letter_or_digit() {
-            name.push(c)?;
-        }
-        Ok(Txt::from_string(name))
+        let end = name_len(self.rest);
+        let name = Txt::copy_of(alloc, &self.rest[..end])?;
+        self.rest = &self.rest[end..];
+        Ok(name)
     }
 
     // The number that the next digits spell, at most eighteen of them.

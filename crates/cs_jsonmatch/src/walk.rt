@@ -1,13 +1,13 @@
 //! One walk over a value, to the places that a path selects.
-ghost use Rattle.std.specs.Prelude.{◌≡◌, ◌++◌, ◌∷◌, [], length, take, false, unwrap_or, slice_get, IfOk, OnOk, cond};
+ghost use Rattle.std.specs.Prelude.{◌≡◌, ◌++◌, ◌∷◌, [], map, length, take, false, unwrap_or, slice_get, IfOk, OnOk, cond};
 ghost use Rattle.std.specs.List.{list_any};
 ghost use Rattle.cs_value.specs.Tree.{list, object as object_of, trees};
 ghost use Rattle.cs_value.specs.View.{tree, list_tree, fields};
 ghost use Rattle.cs_jsonmatch.specs.Places.{selects, trails, item_trails, pair_trails, places as places_of};
-ghost use Rattle.cs_jsonmatch.specs.View.{path_of, path, part_of, locations};
+ghost use Rattle.cs_jsonmatch.specs.View.{path_of, part_of, locations};
 ghost use Rattle.cs_jsonmatch.specs.Walk.{next as next_waiting, reached};
 
-use crate::path::{JsonPath, Step};
+use crate::path::Step;
 use crate::places::{Key, Part, Place, copy_parts};
 use crate::select::step_selects;
 use cs_value::{Fields, NoMemory, Txt, Val};
@@ -171,18 +171,18 @@ fn walk_pairs(
     Ok(())
 }
 
-impl JsonPath {
-    /// The places of the value that the path selects, in document order, each once. It walks the
-    /// value once, and does not enter what no rest of the path can lead into: it keeps a flag for
-    /// each rest, of which one more can wait at each level. `NoMemory` where the allocator has no
-    /// room for the flags or for the places.
-    pub fn places(&self, alloc: Global, val: &Val) -> Result<Vec<Place>, NoMemory>
-        ensures { IfOk result (λ found. locations found.items
-            ≡ places_of (path self.now) (tree val.now)) }
-    {
-        let mut above = Vec::new(alloc);
-        let mut found = Vec::new(alloc);
-        walk(alloc, &self.steps, &[true], val, &mut above, &mut found)?;
-        Ok(found)
-    }
+// The places inside a value to which the parts lead, by a walk over it.
+pub(crate) fn walked(
+    alloc: Global,
+    steps: &[Step],
+    val: &Val,
+    above: Vec<Part>,
+) -> Result<Vec<Place>, NoMemory>
+    ensures { IfOk result (λ found. locations found.items
+        ≡ map (λ l. above.items ++ l) (places_of (path_of steps.now) (tree val.now))) }
+{
+    let mut above = above;
+    let mut found = Vec::new(alloc);
+    walk(alloc, steps, &[true], val, &mut above, &mut found)?;
+    Ok(found)
 }
