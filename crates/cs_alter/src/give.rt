@@ -25,7 +25,8 @@ fn or_null(val: Option<Val>) -> Val
     }
 }
 
-// The member is taken out, changed and put back; null holds its place meanwhile.
+// The member is taken out, changed and put back; null holds its place meanwhile. Under the last
+// name the value is put at once.
 pub(crate) fn give(alloc: Global, val: Val, names: &[Txt], new: Val) -> Result<Val, NoMemory>
     ensures { IfOk result (λ v. tree v ≡ given names.now (tree new) (tree val)) }
 {
@@ -33,6 +34,10 @@ pub(crate) fn give(alloc: Global, val: Val, names: &[Txt], new: Val) -> Result<V
         return Ok(new);
     };
     let mut object = object_of(alloc, val);
+    if rest.is_empty() {
+        object.set(name.copy(alloc)?, new)?;
+        return Ok(Val::Obj(object));
+    }
     let old = object.put(name.copy(alloc)?, Val::Null)?;
     let inner = give(alloc, or_null(old), rest, new)?;
     object.set(name.copy(alloc)?, inner)?;
