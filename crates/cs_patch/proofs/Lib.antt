@@ -5,6 +5,7 @@ mod Examples
 pub mod Fixed
 mod Giving
 mod Holding
+mod Inserting
 mod Kept
 mod Looked
 mod Missing

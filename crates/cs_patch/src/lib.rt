@@ -8,6 +8,7 @@ mod entries;
 mod fault;
 mod insert;
 pub mod laws;
+mod lists;
 mod outer;
 mod patch;
 mod read;

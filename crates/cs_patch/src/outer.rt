@@ -1,5 +1,5 @@
-//! The targets that are inside no other one. The locations of all are held in a set, in which each
-//! location that a target lies in is looked up.
+//! The targets that are inside no other one. Where there are several, the locations of all are held
+//! in a set, in which each location that a target lies in is looked up.
 ghost use Rattle.std.specs.Prelude.{◌≡◌, IfOk, OnOk, List, ℕ, map, cond, true};
 ghost use Rattle.std.specs.List.{list_any};
 ghost use Rattle.cs_jsonmatch.specs.Places.{Location};
@@ -44,11 +44,8 @@ fn is_inside_some(location: &[Part], held: &BTreeSet<&[Part]>) -> bool
     false
 }
 
-// The targets that are inside no other one.
-pub(crate) fn outermost<'t>(
-    alloc: Global,
-    targets: &'t [Target],
-) -> Result<Vec<&'t Target>, NoMemory>
+// The targets that are inside no other one, by a set of the locations of all.
+fn outside_all<'t>(alloc: Global, targets: &'t [Target]) -> Result<Vec<&'t Target>, NoMemory>
     ensures { (ns : List (List ℕ)) → IfOk result
         (λ kept. map (λ t. seen ns t.now) kept.items ≡ outer_seen (map (seen ns) targets.now)) }
 {
@@ -57,5 +54,22 @@ pub(crate) fn outermost<'t>(
     for target in targets {
         keep(!is_inside_some(&target.location, &held), target, &mut kept)?;
     }
+    Ok(kept)
+}
+
+// The targets that are inside no other one. A target is never inside itself, so one alone is kept,
+// and no set is made.
+pub(crate) fn outermost<'t>(
+    alloc: Global,
+    targets: &'t [Target],
+) -> Result<Vec<&'t Target>, NoMemory>
+    ensures { (ns : List (List ℕ)) → IfOk result
+        (λ kept. map (λ t. seen ns t.now) kept.items ≡ outer_seen (map (seen ns) targets.now)) }
+{
+    let [target] = targets else {
+        return outside_all(alloc, targets);
+    };
+    let mut kept = Vec::with_capacity(alloc, 1)?;
+    kept.push(target)?;
     Ok(kept)
 }

@@ -12,6 +12,7 @@ ghost use Rattle.cs_patch.specs.Readings.{AreShort, names_of, numbered, paths_of
 
 use crate::entries::{InsertAt, NumberAt, RemovalAt, ValueAt};
 use crate::fault::PathsFault;
+use crate::lists::lists_by;
 use crate::patch::Insert;
 use crate::run::take_run;
 use cs_jsonmatch::{JsonPath, PathFault};
@@ -139,10 +140,12 @@ pub(crate) fn insert_at<'p>(
     let Some(insert) = insert else {
         return Ok(None);
     };
-    drop(read_path(alloc, insert.path.as_str())?);
+    let path = read_path(alloc, insert.path.as_str())?;
+    let lists = lists_by(alloc, path, insert.side, &insert.items)?;
     Ok(Some(InsertAt {
         text: insert.path.as_str(),
         side: insert.side,
         items: &insert.items,
+        lists,
     }))
 }

@@ -2,7 +2,7 @@ use Rattle.std.proofs.Common.{◌≡◌, drop, map}
 use Rattle.std.specs.List.{list_any}
 use Rattle.cs_jsonmatch.specs.View.{item_of}
 use Rattle.cs_alter.specs.Inserted.{is_name}
-use Rattle.cs_patch.proofs.insert.has_name.Given as goal
+use Rattle.cs_patch.proofs.lists.has_name.Given as goal
 
 abbrev pub invariant-loop-item : goal.invariant-loop-item
 invariant-loop-item l =

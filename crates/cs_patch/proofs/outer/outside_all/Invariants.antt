@@ -2,7 +2,7 @@ use Rattle.std.proofs.Common.{◌≡◌, ℕ, List, ◌++◌, drop, map, filter,
 use Rattle.std.specs.List.{list_any}
 use Rattle.cs_alter.specs.Within.{is_inside}
 use Rattle.cs_patch.specs.Seen.{seen, outer_seen}
-use Rattle.cs_patch.proofs.outer.outermost.Given as goal
+use Rattle.cs_patch.proofs.outer.outside_all.Given as goal
 
 abbrev pub invariant-loop-target : goal.invariant-loop-target
 invariant-loop-target l =
