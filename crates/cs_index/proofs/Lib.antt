@@ -1,5 +1,6 @@
 pub mod Applied
 pub mod Hits
+pub mod Joining
 pub mod Keeping
 pub mod Marks
 pub mod Nearest

@@ -1,5 +1,5 @@
 //! The index of a store.
-ghost use Rattle.std.specs.Prelude.{IfOk, OnOk};
+ghost use Rattle.std.specs.Prelude.{◌≡◌, IfOk, IfSome, OnOk};
 ghost use Rattle.cs_docs.specs.declared.docs.Docs.{Docs};
 ghost use Rattle.cs_view.specs.View.{edits};
 ghost use Rattle.cs_index.specs.Index.{IsIndexOf, IsDelta, AreApplied, FollowsChanges, ArePlacesOf};
@@ -9,7 +9,7 @@ use crate::delta::{Delta, delta_of};
 use crate::entry::Entry;
 use crate::narrow::{id_among, rarest};
 use crate::pick::{place_of_id, places_among};
-use crate::put::{enter_changes, put_in, take_out};
+use crate::put::{enter_changes, put_ascending, put_in, take_out};
 use cs_codes::{Coding, KeyKind, Seed};
 use cs_docs::Docs;
 use cs_value::NoMemory;
@@ -40,6 +40,21 @@ fn worth(docs: &Docs) -> usize {
     (docs.len() as usize / 4).max(16)
 }
 
+// The coding of one kind, and of those of another coding before it.
+fn with(others: Option<Coding>, one: Coding) -> Result<Coding, NoMemory>
+    requires { IfSome others (λ before. before.seed ≡ one.seed) }
+    ensures { IfOk result (λ all. all.seed ≡ one.seed) }
+{
+    match others {
+        Some(before) => {
+            let mut all = before;
+            all.append(one)?;
+            Ok(all)
+        }
+        None => Ok(one),
+    }
+}
+
 impl Index {
     /// The index of the documents of a store, which keeps the keys of these kinds. `NoMemory` where
     /// the allocator has no room for it.
@@ -67,31 +82,54 @@ impl Index {
         }
     }
 
-    /// Keeps the keys of these kinds too. A kind that is kept already costs nothing, and one more
-    /// costs a walk over all documents; no more than 64 are kept. It is the index of the store also
-    /// after `NoMemory`, which comes where the allocator has no room.
+    /// Keeps the keys of these kinds too. A kind that is kept already costs nothing, and for all
+    /// others there is one walk over the documents; no more than 64 are kept. It is the index of
+    /// the store also after `NoMemory`, which comes where the allocator has no room.
     pub fn keep(&mut self, docs: &Docs, kinds: Vec<KeyKind>) -> Result<(), NoMemory>
         requires { IsIndexOf self.old docs.now }
         ensures { IsIndexOf self.new docs.now }
     {
-        for kind in kinds {
-            if self.coding.len() < MOST_KINDS && !self.coding.has(&kind) {
-                self.keep_one(docs, kind)?;
-            }
+        match self.coding_of_others(kinds)? {
+            Some(others) => self.keep_others(docs, others),
+            None => Ok(()),
         }
-        Ok(())
     }
 
-    // Keeps the keys of one kind more. They come in ascending order of their codes.
-    fn keep_one(&mut self, docs: &Docs, kind: KeyKind) -> Result<(), NoMemory>
-        requires { IsIndexOf self.old docs.now }
+    // The coding of those of the kinds that are not kept yet, if there are any. Nothing but time
+    // hangs on which they are.
+    fn coding_of_others(&self, kinds: Vec<KeyKind>) -> Result<Option<Coding>, NoMemory>
+        ensures { IfOk result (λ o. IfSome o (λ others. others.seed ≡ self.now.coding.seed)) }
+    {
+        let mut others: Option<Coding> = None;
+        for kind in kinds {
+            if !self.coding.has(&kind) && self.has_room(&others, &kind) {
+                let one = self.coding.of_one(self.alloc, kind)?;
+                others = Some(with(others, one)?);
+            }
+        }
+        Ok(others)
+    }
+
+    // Whether the kind is none of the others, and they are few enough for one more. Nothing but
+    // time hangs on the answer.
+    fn has_room(&self, others: &Option<Coding>, kind: &KeyKind) -> bool {
+        let kept = self.coding.len();
+        match others {
+            Some(others) => !others.has(kind) && kept.saturating_add(others.len()) < MOST_KINDS,
+            None => kept < MOST_KINDS,
+        }
+    }
+
+    // Keeps the keys of the kinds that another coding has too.
+    fn keep_others(&mut self, docs: &Docs, others: Coding) -> Result<(), NoMemory>
+        requires seed { others.seed ≡ self.old.coding.seed }
+        requires was { IsIndexOf self.old docs.now }
         ensures { IsIndexOf self.new docs.now }
     {
-        let coding = self.coding.of_one(self.alloc, kind)?;
-        let listed = list_all(self.alloc, &coding, docs)?;
+        let listed = list_all(self.alloc, &others, docs)?;
         let ascending = listed.into_ascending(self.alloc)?;
-        put_in(&mut self.entries, ascending)?;
-        self.coding.append(coding)?;
+        put_ascending(self.alloc, &mut self.entries, ascending)?;
+        self.coding.append(others)?;
         Ok(())
     }
 
