@@ -2,6 +2,7 @@
 //! read again.
 #![tactic(auto)]
 
+mod marks;
 mod recent;
 
 pub use recent::Recent;

@@ -3,6 +3,7 @@ ghost use Rattle.std.specs.Prelude.{◌≡◌, IfOk, IfSome, string_bytes};
 ghost use Rattle.cs_syntax.specs.Queries.{expression_of};
 ghost use Rattle.cs_parse.specs.Verdict.{query, verdict};
 
+use crate::marks::Marks;
 use cs_syntax::Query;
 use cs_value::NoMemory;
 use lru::LruCache;
@@ -16,14 +17,17 @@ const MOST_KEPT: usize = 64;
 // How many bytes the text of a query that is kept has at most, so that what is kept stays small.
 const LONGEST_KEPT: usize = 1_024;
 
-/// The queries of texts that were read before, at most 64 of them: those that were asked for last.
-/// A text of more than 1,024 bytes is not kept. Whoever chooses texts that meet in memory makes a
-/// look at one a look at 64 at most, so they are spread by a hash without a seed. Contracts see how
-/// many they are, and that each is what its text is read as.
+/// The queries of texts that were read twice, at most 64 of them: those that were asked for last. A
+/// text that comes once is not kept, since most of those never come again: of such a text a mark is
+/// noted, by which it is known when it comes next. A text of more than 1,024 bytes is not kept.
+/// Whoever chooses texts that meet in memory makes a look at one a look at 64 at most, so they are
+/// spread by a hash without a seed. Contracts see how many they are, and that each is what its text
+/// is read as.
 #[derive(Drop)]
 pub struct Recent {
     alloc: Global,
     queries: LruCache<String, Query>,
+    marks: Marks,
 }
 
 impl Model for Recent {
@@ -46,7 +50,12 @@ impl Recent {
             unreachable!();
         };
         let queries = LruCache::new(alloc, most)?;
-        Ok(Recent { alloc, queries })
+        let marks = Marks::new(alloc)?;
+        Ok(Recent {
+            alloc,
+            queries,
+            marks,
+        })
     }
 
     /// The query that is kept of the text, if one is: what the text is read as.
@@ -59,11 +68,14 @@ impl Recent {
         self.queries.peek(text)
     }
 
-    /// Keeps the query, which is what the text is read as. Where there is no memory for it, or the
-    /// text is long, it is not kept.
+    /// Keeps the query, which is what the text is read as, where the text came before. Where there
+    /// is no memory for it, or the text is long, it is not kept.
     pub fn keep(&mut self, text: &str, read: Query)
         requires { verdict text.now ≡ query (expression_of read) }
     {
+        if !self.marks.note(text) {
+            return;
+        }
         match short_copy(self.alloc, text) {
             Some(copy) => drop(self.queries.put(copy, read)),
             None => drop(read),

@@ -4,14 +4,20 @@ use cs_parse::parse;
 use std::alloc::Global;
 use std::test::Fail;
 
-// Keeps the query that the text is, where it is one.
-fn keep(alloc: Global, recent: &mut Recent, text: &str) {
+// The query that the text is comes once, where it is one.
+fn come(alloc: Global, recent: &mut Recent, text: &str) {
     if text.len() > 4_096 {
         return;
     }
     if let Ok(query) = parse(alloc, text) {
         recent.keep(text, query);
     }
+}
+
+// It comes twice, and so is kept.
+fn keep(alloc: Global, recent: &mut Recent, text: &str) {
+    come(alloc, recent, text);
+    come(alloc, recent, text);
 }
 
 fn is_kept(recent: &mut Recent, text: &str) -> bool {
@@ -33,6 +39,19 @@ fn the_queries_that_were_asked_last_are_kept(rt: HostRuntime) -> Result<(), Fail
     assert!(rt; is_kept(&mut recent, "62"));
     assert!(rt; !is_kept(&mut recent, "0"));
     assert!(rt; !is_kept(&mut recent, "63"));
+    Ok(())
+}
+
+#[test]
+fn a_text_is_kept_when_it_comes_again(rt: HostRuntime) -> Result<(), Fail> {
+    let mut recent = Recent::new(rt.alloc())?;
+    come(rt.alloc(), &mut recent, "first");
+    assert!(rt; !is_kept(&mut recent, "first"));
+    come(rt.alloc(), &mut recent, "another");
+    assert!(rt; !is_kept(&mut recent, "another"));
+    come(rt.alloc(), &mut recent, "first");
+    assert!(rt; is_kept(&mut recent, "first"));
+    assert!(rt; !is_kept(&mut recent, "another"));
     Ok(())
 }
 
