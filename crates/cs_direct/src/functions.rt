@@ -36,13 +36,21 @@ pub(crate) fn of_two<'s>(function: Function, a: Operand<'s>, b: Operand<'s>) -> 
     }
 }
 
-/// The function of values that a name calls. `None` says nothing.
+/// The function of values that a name calls. `None` says nothing. The names of those that need no
+/// memory are told at once, since a filter asks for each document; every other name, theirs with
+/// `global::` in front too, is sought among all.
 pub(crate) fn function_of(name: &str) -> Option<Function>
     ensures { IfSome result (λ f. callee name.now ≡ applying (Some f)) }
 {
-    match callee_of(name) {
-        Callee::Values(Some(function)) => Some(function),
-        _ => None,
+    match name {
+        "count" => Some(Function::Count),
+        "length" => Some(Function::Length),
+        "defined" => Some(Function::Defined),
+        "string::startsWith" => Some(Function::StartsWith),
+        _ => match callee_of(name) {
+            Callee::Values(Some(function)) => Some(function),
+            _ => None,
+        },
     }
 }
 
