@@ -280,10 +280,12 @@ pub fn rank_each<'k, 's: 'k, S: Source<C>, C>(
     Ok(kept)
 }
 
-// Puts an element beside the values of its keys, where it is one of those that are kept. Where the
-// keys are silent no more of them are found than it takes to see that it is none of them.
+/// Puts an element beside the values of its keys into `kept`, the first `limit` (`None`: all) of
+/// those so far in their order, where it is one of them. `silent` says that no key looks anything
+/// up: then no more of them are found than it takes to see that the element is past the limit.
+/// `NoMemory` where the allocator has no room for a value or for the element.
 #[cycle(eval)]
-fn rank_into<'k, 's: 'k, S: Source<C>, C>(
+pub fn rank_into<'k, 's: 'k, S: Source<C>, C>(
     alloc: Global,
     order: &'k [OrderKey],
     directions: &[bool],
