@@ -1,3 +1,4 @@
 mod Found
 pub mod Simples
 mod Bounded
+mod Orders

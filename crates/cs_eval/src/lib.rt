@@ -2,6 +2,7 @@
 #![tactic(auto)]
 
 mod each;
+mod ordered;
 mod queries;
 mod windows;
 

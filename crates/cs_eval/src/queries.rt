@@ -18,7 +18,10 @@ ghost use Rattle.cs_meaning.specs.Values.{value as value_of, pipes_value, query_
 ghost use Rattle.cs_expr.specs.Starts.{enter_value};
 ghost use Rattle.cs_window.specs.Windowed.{is_filtered};
 
+use crate::ordered::hits_in_order;
+use crate::windows::order_of;
 use cs_expr::{enter, eval as evaluate, holds, keep_lent, pipes};
+use cs_order::first_asked;
 use cs_parts::{Got, NoDocs, Source, head_filter, kinds, push};
 use cs_plan::{choose, filter_keys, first_by_kind, simple};
 use cs_syntax::{Expr, Query, Step};
@@ -276,6 +279,11 @@ fn tail_of_hits<'s>(
         (x ∷ scope_of frame.now)))
         (map (λ r. tree r.now) docs.entry.items))))) }
 {
+    if let Some((order, behind)) = order_of(steps) {
+        let limit = first_asked(behind);
+        let first = hits_in_order(alloc, condition, order, limit, frame, params, docs)?;
+        return tail_from(alloc, behind, frame, params, first);
+    }
     let mut aside = Record::new(alloc);
     let mut nothing = ();
     let kept = keep_lent(

@@ -29,7 +29,7 @@ use std::sync::ledger::Ledger;
 
 // The keys of the order that stands first among steps, and the steps behind it.
 #[tactic(auto, using(crate::proofs::Bounded::order))]
-fn order_of(steps: &[Step]) -> Option<(&[OrderKey], &[Step])>
+pub(crate) fn order_of(steps: &[Step]) -> Option<(&[OrderKey], &[Step])>
     ensures order { option_map (λ x. keys_of (map order_key_of x.0.now)) result
         ≡ order_of (steps_of (map step_of steps.now)) }
     ensures behind { IfSome result (λ x. steps_of (map step_of x.1.now)
