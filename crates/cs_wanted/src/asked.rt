@@ -64,7 +64,7 @@ impl Asked {
         Ok(())
     }
 
-    // Takes in `left == right`. Of two paths none is compared with a value that is known before.
+    // Takes in `left == right`. Of two paths none is compared with a value known beforehand.
     fn put_equality(&mut self, left: &Expr, right: &Expr, alloc: Global) -> Result<(), NoMemory> {
         match (path_of(left), path_of(right)) {
             (Some(path), None) => self.put_path(&path, right, alloc),
