@@ -14,10 +14,11 @@ ghost use Rattle.cs_order.specs.Ranked.{ranked as ranked_of};
 ghost use Rattle.cs_parts.specs.Parts.{got};
 
 use crate::queries::NO_DOCS;
-use cs_expr::{are_quiet, holds, rank_into};
+use cs_expr::{holds, rank_into};
 use cs_levels::list_in_order;
 use cs_order::Ranked;
 use cs_parts::{Got, Item, directions};
+use cs_past::are_quiet;
 use cs_syntax::{Expr, OrderKey};
 use cs_value::{Fields, NoMemory, Val};
 use cs_view::{Record, Scope};

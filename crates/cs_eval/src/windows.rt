@@ -17,9 +17,10 @@ ghost use Rattle.cs_window.specs.Windowed.{is_filtered, is_windowed};
 ghost use Rattle.cs_window.specs.Window.{by_order, is_near, keys_at, not_behind, order_keys, order_of, window};
 
 use crate::queries::{NO_DOCS, parts, vals_of};
-use cs_expr::{are_quiet, compare_parts, enter, pipes, rank_each, rank_keys};
+use cs_expr::{enter, pipes, rank_each, rank_keys};
 use cs_order::{Ranked, first_asked, is_above, pipe_of};
 use cs_parts::{Got, Item, directions, kinds, lend_all, push};
+use cs_past::{are_quiet, compare_parts};
 use cs_plan::is_quiet;
 use cs_syntax::{OrderKey, Query, Step};
 use cs_value::{Fields, NoMemory, Steps, Val};

@@ -9,7 +9,7 @@ use Rattle.cs_meaning.specs.Operators.{reference_of, sought}
 use Rattle.cs_meaning.specs.Values.{value, rest_value, pipes_value}
 use Rattle.cs_meaning.specs.Looked.{looked, rest_looked, pipes_looked, is_everything, id_looked}
 use Rattle.cs_value.specs.Words.{field}
-use Rattle.cs_expr.specs.Trail.{is_trail, trailed, trail_looked}
+use Rattle.cs_trail.specs.Trail.{is_trail, trailed, trail_looked}
 use Rattle.cs_expr.specs.Starts.{start_value, start_looked}
 
 -- the rest is what the steps make one after the other

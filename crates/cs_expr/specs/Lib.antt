@@ -2,5 +2,4 @@ pub mod Choosing
 pub mod Fits
 pub mod Starts
 pub mod Stops
-pub mod Trail
 pub mod Weight

@@ -13,12 +13,11 @@ ghost use Rattle.cs_expr.specs.Fits.{ReachedFits, reached_weight};
 ghost use Rattle.cs_expr.specs.Stops.{is_whole, stop, stop_value, stop_looked, stopped};
 ghost use Rattle.cs_expr.specs.Weight.{steps_weight};
 ghost use Rattle.cs_levels.specs.Nodes.{steps_in};
-ghost use Rattle.cs_expr.specs.Trail.{is_trail};
+ghost use Rattle.cs_trail.specs.Trail.{is_trail};
 ghost use Rattle.cs_expr.specs.Starts.{start_value, start_looked, enter_value, enter_looked, once, once_looked};
 
 use crate::expressions::eval;
 use crate::steps::{keep_lent, one_step, ordered};
-use crate::trail::{follow, is_trail};
 use cs_levels::{
     Reached, Remaining, Task, base_entrance, entering, filter_of_all, look_up, next_pipe,
     next_task, push_got,
@@ -29,6 +28,7 @@ use cs_parts::{
     form_of, gather, gives_array, is_over, kinds, turn, way_of,
 };
 use cs_syntax::{Expr, Step};
+use cs_trail::{follow, is_trail};
 use cs_value::{Fields, NoMemory, Val};
 use cs_view::{Record, Scope};
 use std::alloc::Global;

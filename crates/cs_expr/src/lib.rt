@@ -4,11 +4,8 @@
 mod calls;
 mod chains;
 mod expressions;
-mod past;
 mod steps;
-mod trail;
 
 pub use chains::{enter, pipes, through};
 pub use expressions::eval;
-pub use past::{are_quiet, compare_parts};
 pub use steps::{holds, keep_lent, rank_each, rank_into, rank_keys};

@@ -17,13 +17,13 @@ ghost use Rattle.cs_order.specs.Ranked.{ranked as ranked_of};
 ghost use Rattle.cs_parts.specs.Parts.{got, item};
 
 use crate::expressions::{is_met, object, settled};
-use crate::past::{are_quiet, is_past};
 use cs_levels::{InBracket, in_bracket, list_in_order, ordered_elements};
 use cs_meaning::quiet_asks_nothing;
 use cs_order::{Ranked, admit, owned};
 use cs_parts::{
     Got, Item, Source, attribute, deref, directions, each, gather, is_object, push, settle, sliced,
 };
+use cs_past::{are_quiet, is_past};
 use cs_syntax::{Entry, Expr, OrderKey, Step};
 use cs_value::{Fields, NoMemory, Txt, Val};
 use cs_view::{Record, Scope};

@@ -41,7 +41,7 @@ fn worth(docs: &Docs) -> usize {
 }
 
 // The coding of one kind, and of those of another coding before it.
-fn with(others: Option<Coding>, one: Coding) -> Result<Coding, NoMemory>
+fn joined(others: Option<Coding>, one: Coding) -> Result<Coding, NoMemory>
     requires { IfSome others (λ before. before.seed ≡ one.seed) }
     ensures { IfOk result (λ all. all.seed ≡ one.seed) }
 {
@@ -104,7 +104,7 @@ impl Index {
         for kind in kinds {
             if !self.coding.has(&kind) && self.has_room(&others, &kind) {
                 let one = self.coding.of_one(self.alloc, kind)?;
-                others = Some(with(others, one)?);
+                others = Some(joined(others, one)?);
             }
         }
         Ok(others)

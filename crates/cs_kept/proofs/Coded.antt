@@ -7,7 +7,7 @@ use Rattle.cs_view.specs.declared.key.Key.{Key}
 use Rattle.cs_codes.specs.Codes.{is_among}
 use Rattle.cs_codes.specs.declared.seed.Seed.{Seed}
 use Rattle.cs_interest.specs.Interest.{interest_code}
-use Rattle.cs_kept.specs.Fits.{SameKeys}
+use Rattle.cs_keys.specs.Keys.{SameKeys}
 use Rattle.cs_hits.specs.Codes.{has_code}
 use Rattle.cs_hits.proofs.Coding.{among-map}
 use Rattle.cs_kept.specs.Found.{AreListed, IsCoded, codes_of, interests}

@@ -1,7 +1,6 @@
 mod Elements
 pub mod Coded
 pub mod Found
-mod Keyed
 pub mod Refreshing
 pub mod Sames
 mod Settled

@@ -22,19 +22,19 @@ use Rattle.cs_window.specs.Laws.{LookedSettlesTail, WindowedIsFiltered, Windowed
 use Rattle.cs_window.specs.Windowed.{is_windowed}
 use Rattle.cs_codes.specs.declared.seed.Seed.{Seed}
 use Rattle.cs_hits.proofs.Brought.{stays}
-use Rattle.cs_kept.specs.Fits.{is_by_hits, FitsRecord, FitsWindow, RefreshesKept, SameKeys}
+use Rattle.cs_kept.specs.Fits.{is_by_hits, FitsRecord, FitsWindow, RefreshesKept}
 use Rattle.cs_hits.specs.Behind.{Follows}
 use Rattle.cs_kept.specs.Followed.{AreHeld, CanFollow, Followed, FollowedBy, KeepsAnswer, StayBy, Stays, StaysSettled}
 use Rattle.cs_hits.specs.Behind.{AreBehind}
-use Rattle.cs_kept.specs.Keys.{all_keys, rest_of}
+use Rattle.cs_keys.specs.Keys.{SameKeys, all_keys, own_of, rest_of}
 use Rattle.cs_kept.specs.declared.kept.Kept.TheVariants.{ByRecord}
 use Rattle.cs_hits.specs.declared.behind.Behind.{Behind}
 use Rattle.cs_kept.specs.Evaluated.{IsEvaluated}
 use Rattle.cs_kept.specs.declared.evaluated.Evaluated.{Evaluated}
-use Rattle.cs_kept.specs.declared.keys.Keys.{Keys}
+use Rattle.cs_keys.specs.declared.keys.Keys.{Keys}
 use Rattle.cs_kept.specs.declared.recorded.Recorded.{Recorded}
 use Rattle.cs_hits.proofs.Behinds.{are_by, behind_after, behind_ascend, enough_by, enough_still, stay_settles}
-use Rattle.cs_kept.proofs.Keyed.{are_one, in_turn}
+use Rattle.cs_keys.proofs.Keyed.{are_one, in_turn}
 
 -- the same documents, under names of the other list
 same-keys : (ks xs ys : List Key) → SameKeys ks xs → xs ≡ ys → SameKeys ks ys
@@ -78,7 +78,7 @@ module _ (docs : List Tree) (cs : List Edit) (sorted : ascending docs ≡ true) 
           compound = fits.compound;
           last = fits.last ∙ settled.0;
           keys = same-keys (all_keys r.keys) (query_looked before params e) (query_looked docs params e) fits.keys settled.1;
-          behind = some-still e params (all_keys r.keys) (rest_of r.keys) r.keys.own refl quiet fits.keys r.behind fits.behind;
+          behind = some-still e params (all_keys r.keys) (rest_of r.keys) (own_of r.keys) refl quiet fits.keys r.behind fits.behind;
         }
 
     pub untouched-refreshed : LookedSettlesValue → (r : Recorded) → touched (all_keys r.keys) cs ≡ false → FitsRecord before r → RefreshesKept docs cs (ByRecord r) (ByRecord r)

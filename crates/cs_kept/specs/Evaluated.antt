@@ -7,9 +7,8 @@ use Rattle.cs_meaning.specs.Looked.{query_looked}
 use Rattle.cs_meaning.specs.Values.{query_value}
 use Rattle.cs_codes.specs.Codes.{is_among}
 use Rattle.cs_codes.specs.declared.seed.Seed.{Seed}
-use Rattle.cs_kept.specs.Fits.{SameKeys}
 use Rattle.cs_hits.specs.Codes.{has_code}
-use Rattle.cs_kept.specs.Keys.{all_keys}
+use Rattle.cs_keys.specs.Keys.{SameKeys, all_keys}
 use Rattle.cs_kept.specs.declared.evaluated.Evaluated.{Evaluated}
 
 -- the answer is the value over the dataset, the keys are those that finding it looks up, and no

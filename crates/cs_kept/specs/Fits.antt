@@ -1,6 +1,6 @@
 -- When a last answer that is kept fits a dataset: it is the value over it, and what is kept beside
 -- it belongs to it. This project's profile.
-use Rattle.std.specs.Prelude.{Bool, ◌||◌, ◌≡◌, List, false, IsTrue, IfSome, Contains, ⊤}
+use Rattle.std.specs.Prelude.{Bool, ◌||◌, ◌≡◌, List, false, IsTrue, IfSome, ⊤}
 use Rattle.cs_value.specs.Tree.{Tree, Pairs}
 use Rattle.cs_value.specs.View.{tree, fields}
 use Rattle.cs_value.specs.Words.{list_of}
@@ -16,7 +16,7 @@ use Rattle.cs_meaning.specs.Values.{query_value}
 use Rattle.cs_window.specs.Mapped.{is_mapped}
 use Rattle.cs_window.specs.Windowed.{is_windowed}
 use Rattle.cs_hits.specs.Behind.{AreBehind, AreEnoughBehind}
-use Rattle.cs_kept.specs.Keys.{all_keys, rest_of}
+use Rattle.cs_keys.specs.Keys.{SameKeys, all_keys, rest_of}
 use Rattle.cs_kept.specs.Rows.{rows as rows_of, IsSettled}
 use Rattle.cs_hits.specs.Shares.{AreShares, share_docs, share_values}
 use Rattle.cs_kept.specs.Mapped.{mapped_keys}
@@ -27,11 +27,6 @@ use Rattle.cs_kept.specs.declared.kept.Kept.{Kept}
 use Rattle.cs_kept.specs.declared.kept.Kept.TheVariants.{ByRecord, InRows, InShares}
 use Rattle.cs_kept.specs.declared.mapped.Mapped.{Mapped}
 use Rattle.cs_kept.specs.declared.rows.Rows.{Rows}
-
--- the same keys, order and repeats aside
-pub record SameKeys (one other : List Key) : Type 0 where
-  pub there : (k : Key) → Contains one k → Contains other k
-  pub back : (k : Key) → Contains other k → Contains one k
 
 -- documents that are kept beside a record fit a dataset: the query is windowed, they are its hits,
 -- or those of them near its window, and enough; and the rest of the keys are those that the steps

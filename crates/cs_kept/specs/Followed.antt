@@ -9,7 +9,7 @@ use Rattle.cs_view.specs.Dataset.{ascending}
 use Rattle.cs_view.specs.Touched.{touched}
 use Rattle.cs_window.specs.Windowed.{is_filtered, is_windowed}
 use Rattle.cs_hits.specs.Behind.{AreBehind, Follows, held_docs}
-use Rattle.cs_kept.specs.Keys.{rest_of}
+use Rattle.cs_keys.specs.Keys.{rest_of}
 use Rattle.cs_hits.specs.declared.behind.Behind.{Behind}
 use Rattle.cs_kept.specs.declared.recorded.Recorded.{Recorded}
 

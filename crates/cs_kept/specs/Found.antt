@@ -15,7 +15,7 @@ use Rattle.cs_interest.specs.Narrow.{narrowest}
 use Rattle.cs_interest.specs.declared.interest.Interest.{Interest}
 use Rattle.cs_hits.specs.Codes.{AreCodesOf, AreSought}
 use Rattle.cs_hits.specs.Shares.{shares_looked}
-use Rattle.cs_kept.specs.Keys.{all_keys}
+use Rattle.cs_keys.specs.Keys.{all_keys}
 use Rattle.cs_kept.specs.Mapped.{mapped_keys}
 use Rattle.cs_kept.specs.declared.kept.Kept.{Kept}
 use Rattle.cs_kept.specs.declared.kept.Kept.TheVariants.{ByRecord, InRows, InShares}

@@ -3,6 +3,5 @@ pub mod Fits
 pub mod Followed
 pub mod Found
 pub mod Kept
-pub mod Keys
 pub mod Mapped
 pub mod Rows

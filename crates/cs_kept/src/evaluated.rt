@@ -6,12 +6,12 @@ ghost use Rattle.cs_window.specs.Windowed.{is_windowed};
 ghost use Rattle.cs_hits.specs.Behind.{AreBehind};
 ghost use Rattle.cs_kept.specs.Evaluated.{IsEvaluated};
 ghost use Rattle.cs_kept.specs.Fits.{FitsWindow};
-ghost use Rattle.cs_kept.specs.Keys.{rest_of};
+ghost use Rattle.cs_keys.specs.Keys.{rest_of};
 
-use crate::keys::Keys;
 use cs_codes::Seed;
 use cs_eval::{eval, query_key, tail_over};
 use cs_hits::Behind;
+use cs_keys::Keys;
 use cs_syntax::Query;
 use cs_value::{Fields, NoMemory, Steps, Val};
 use cs_view::{Record, View};

@@ -3,7 +3,6 @@
 
 mod evaluated;
 mod kept;
-mod keys;
 mod mapped;
 mod recorded;
 mod rows;

@@ -11,16 +11,16 @@ ghost use Rattle.cs_kept.specs.Evaluated.{IsEvaluated};
 ghost use Rattle.cs_kept.specs.Fits.{is_by_hits, Answers, FitsRecord, FitsWindow, RefreshesKept};
 ghost use Rattle.cs_kept.specs.Followed.{AreHeld, CanFollow, Followed, KeepsAnswer, StaysSettled};
 ghost use Rattle.cs_kept.specs.Found.{IsCoded, IsFound, KeepsOthers};
-ghost use Rattle.cs_kept.specs.Keys.{all_keys, rest_of};
+ghost use Rattle.cs_keys.specs.Keys.{all_keys, rest_of};
 ghost use Rattle.cs_kept.specs.declared.kept.Kept.{Kept};
 
 use crate::evaluated::{Evaluated, evaluate, evaluate_behind};
-use crate::keys::Keys;
 use crate::same::is_same;
 use cs_codes::Seed;
 use cs_eval::{hits_have_key, looked_settles_value, windowed};
 use cs_hits::Behind;
 use cs_interest::Interest;
+use cs_keys::Keys;
 use cs_syntax::Query;
 use cs_value::{Fields, NoMemory, Steps, Val};
 use cs_view::laws::{changes_lead_back_and_on, filter_follows_changes, untouched_selects_the_same};

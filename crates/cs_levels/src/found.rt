@@ -13,12 +13,13 @@ ghost use Rattle.cs_order.specs.First.{in_order as ranked_in_order};
 ghost use Rattle.cs_order.specs.Ranked.{ranked as ranked_of};
 ghost use Rattle.cs_parts.specs.Parts.{got, item};
 
+use cs_calls::{applied, sole};
 use cs_func::Function;
 use cs_ops::between;
 use cs_order::{Ranked, in_order, items_of};
 use cs_parts::{
-    Got, Item, among, applied, at_level, gather, in_path, operated, push, put_all, put_bare,
-    references, settle, sole,
+    Got, Item, among, at_level, gather, in_path, operated, push, put_all, put_bare, references,
+    settle,
 };
 use cs_syntax::{BinSign, Expr};
 use cs_value::{Fields, NoMemory, Txt};

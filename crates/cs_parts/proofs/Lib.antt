@@ -1,4 +1,3 @@
-pub mod Arities
 pub mod DescendingKeys
 pub mod ListPlaces
 pub mod Places

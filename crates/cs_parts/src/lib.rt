@@ -20,7 +20,7 @@ mod visits;
 
 pub use answer::Got;
 pub use brackets::{Bracket, bracket_of, head_filter, position_of};
-pub use calls::{Callee, applied, callee_of, path_arguments, sole};
+pub use calls::{Callee, callee_of, path_arguments};
 pub use cs_meaning::{Entrance, Form, Kind, Shape, Way};
 pub use gathering::{append, elements, flat_elements, gather, lend_all, settle};
 pub use item::{Item, push};

@@ -2,7 +2,7 @@
 use Rattle.std.proofs.Common.{◌≡◌, ℕ, List, Some, None, Result, sym, ap, subst, ◌∙◌}
 use Rattle.cs_value.specs.Tree.{Tree}
 use Rattle.cs_view.specs.Document.{rev_of}
-use Rattle.cs_patch.specs.Targets.{if_some}
+use Rattle.cs_targets.specs.Targets.{if_some}
 use Rattle.cs_patch.specs.Operations.{Refusal, Outcome, document, refused, and_then}
 use Rattle.cs_patch.specs.Patched.{Patch, in_turn, operations, stamped, revision_refusal, worked, patched}
 use Rattle.cs_patch.specs.Faults.{IsPatchFault}

@@ -10,7 +10,7 @@ use Rattle.cs_jsonmatch.specs.Places.{Location, Trail, parts, trails, leads, pla
 use Rattle.cs_jsonmatch.specs.Verdict.{spelled, IsPathRead, path_verdict}
 use Rattle.cs_jsonmatch.specs.declared.places.Part.TheVariants.{Name}
 use Rattle.cs_alter.specs.Within.{at, Reach, present, absent, blocked, reach, is_inside}
-use Rattle.cs_patch.specs.Targets.{if_some, plain_name, cut, run_of, prefix_of, Target, location, target_by, targets_from, made_targets, place_targets}
+use Rattle.cs_targets.specs.Targets.{if_some, plain_name, cut, run_of, prefix_of, Target, location, target_by, targets_from, made_targets, place_targets}
 use Rattle.cs_view.proofs.Booleans.{and-left, and-right}
 use Rattle.cs_patch.proofs.Kept.{is_below}
 

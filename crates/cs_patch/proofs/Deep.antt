@@ -12,9 +12,9 @@ use Rattle.cs_jsonmatch.specs.Places.{Location}
 use Rattle.cs_jsonmatch.specs.declared.places.Part.TheVariants.{Name, Pos}
 use Rattle.cs_alter.specs.Within.{at, nth, update_pair, update_item, changed, given, object_pairs, is_inside, Reach, present, absent, blocked, reach}
 use Rattle.cs_value.specs.Words.{field}
-use Rattle.cs_patch.specs.Targets.{if_some, Target, target_by, targets_from}
+use Rattle.cs_targets.specs.Targets.{if_some, Target, target_by, targets_from}
 use Rattle.cs_patch.specs.Operations.{document, refused, too_deep, bounded}
-use Rattle.cs_patch.specs.Seen.{Seen, seen_of, outer_seen, is_missing, each_seen, are_standing}
+use Rattle.cs_targets.specs.Seen.{Seen, seen_of, outer_seen, is_missing, each_seen, are_standing}
 use Rattle.cs_patch.specs.Asked.{check_of, first_seen}
 use Rattle.cs_patch.specs.Outcomes.{outcome_of}
 use Rattle.cs_patch.specs.declared.refusal.Ask.TheVariants as ask

@@ -2,14 +2,14 @@
 use Rattle.std.proofs.Common.{◌≡◌, ◌<◌, ℕ, List, [], ◌∷◌, map, length, Bool, ◌&&◌, cond, Option, Some, None, option_map, is_some, nat_le, Bor, refl, sym, ap, ◌∙◌, arith}
 use Rattle.cs_value.specs.Tree.{Tree, depth}
 use Rattle.cs_alter.specs.Within.{at, changed}
-use Rattle.cs_patch.specs.Targets.{if_some}
+use Rattle.cs_targets.specs.Targets.{if_some}
 use Rattle.cs_patch.specs.Operations.{document, refused, too_deep, bounded}
-use Rattle.cs_patch.specs.Seen.{Seen, seen, each_seen, are_standing}
+use Rattle.cs_targets.specs.Seen.{Seen, seen, each_seen, are_standing}
 use Rattle.cs_patch.specs.Asked.{refusal_of, check_of, first_seen}
 use Rattle.cs_patch.specs.Outcomes.{outcome_of}
 use Rattle.cs_patch.specs.declared.refusal.Ask.TheVariants as ask
 use Rattle.cs_patch.specs.declared.refusal.Cause.{Cause}
-use Rattle.cs_patch.specs.declared.targets.Target.{Target}
+use Rattle.cs_targets.specs.declared.target.Target.{Target}
 
 abbrev pub seen_all : List (List ℕ) → List (Bor Target) → List Seen
 seen_all ns ts = map (λ t. seen ns t.now) ts

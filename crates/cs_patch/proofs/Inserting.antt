@@ -10,9 +10,9 @@ use Rattle.cs_jsonmatch.specs.Verdict.{PathReading, spelled, bad_path}
 use Rattle.cs_alter.specs.Alterations.{altered}
 use Rattle.cs_alter.specs.Inserted.{Side, insert_into, is_misplaced}
 use Rattle.cs_patch.specs.Readings.{lists_before, lists_at, put_last, put_by}
-use Rattle.cs_patch.specs.Targets.{targets_from}
+use Rattle.cs_targets.specs.Targets.{targets_from}
 use Rattle.cs_patch.specs.Operations.{refused, not_array, insert_last, insert_by, by_reading}
-use Rattle.cs_patch.specs.Seen.{seen_of, outer_seen}
+use Rattle.cs_targets.specs.Seen.{seen_of, outer_seen}
 use Rattle.cs_patch.specs.Outcomes.{outcome_of, Answers}
 use Rattle.cs_patch.specs.declared.entries.Lists.{Lists}
 use Rattle.cs_patch.specs.declared.refusal.Ask.TheVariants as ask

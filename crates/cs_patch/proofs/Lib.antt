@@ -4,10 +4,8 @@ mod Deep
 mod Examples
 pub mod Fixed
 mod Giving
-mod Holding
 mod Inserting
 mod Kept
-mod Looked
 mod Missing
 mod Named
 mod Reading

@@ -6,9 +6,9 @@ use Rattle.cs_jsonmatch.specs.Verdict.{PathReading, spelled, bad_path}
 use Rattle.cs_patch.specs.Readings.{starts_at}
 use Rattle.cs_jsonmatch.specs.Places.{Location, places}
 use Rattle.cs_alter.specs.Within.{changed, given}
-use Rattle.cs_patch.specs.Targets.{Target, if_some, targets_from, outermost, run_of, prefix_of}
+use Rattle.cs_targets.specs.Targets.{Target, if_some, targets_from, outermost, run_of, prefix_of}
 use Rattle.cs_patch.specs.Operations.{Refusal, refused, bounded, each, first_refusal, missing_check, set_missing_at, set_missing_by, by_reading}
-use Rattle.cs_patch.specs.Seen.{Seen, seen_of, value_of, outer_seen, each_seen, is_absent, is_missing}
+use Rattle.cs_targets.specs.Seen.{Seen, seen_of, value_of, outer_seen, each_seen, is_absent, is_missing}
 use Rattle.cs_patch.specs.Asked.{check_of, first_seen}
 use Rattle.cs_patch.specs.Outcomes.{outcome_of, Answers}
 use Rattle.cs_patch.specs.declared.refusal.Ask.TheVariants as ask

@@ -8,9 +8,9 @@ use Rattle.cs_jsonmatch.specs.Verdict.{PathReading, spelled, bad_path}
 use Rattle.cs_patch.specs.Readings.{starts_at}
 use Rattle.cs_jsonmatch.specs.Places.{Location, places}
 use Rattle.cs_alter.specs.Within.{changed, given, at, Reach, present, absent, blocked, reach}
-use Rattle.cs_patch.specs.Targets.{Target, if_some, target_by, targets_from, outermost, run_of, prefix_of, cut}
+use Rattle.cs_targets.specs.Targets.{Target, if_some, target_by, targets_from, outermost, run_of, prefix_of, cut}
 use Rattle.cs_patch.specs.Operations.{refused, bounded, each, first_refusal, fixed_check, set_at, set_by, by_reading}
-use Rattle.cs_patch.specs.Seen.{seen_of, outer_seen, each_seen}
+use Rattle.cs_targets.specs.Seen.{seen_of, outer_seen, each_seen}
 use Rattle.cs_patch.specs.Asked.{check_of}
 use Rattle.cs_patch.specs.Outcomes.{outcome_of, Answers}
 use Rattle.cs_patch.specs.declared.refusal.Ask.TheVariants as ask

@@ -4,7 +4,7 @@ use Rattle.std.specs.Prelude.{IfErr, IsErrAnd}
 use Rattle.std.specs.Option.{option_to_list}
 use Rattle.cs_jsonmatch.specs.Verdict.{spelled, path_verdict}
 use Rattle.cs_jsonmatch.specs.Path.{Path}
-use Rattle.cs_patch.specs.Targets.{if_some}
+use Rattle.cs_targets.specs.Targets.{if_some}
 use Rattle.cs_patch.specs.Operations.{Refusal}
 use Rattle.cs_patch.specs.Patched.{Patch, paths, first_fault, fault_of}
 use Rattle.cs_patch.specs.Readings.{AreShort, ArePathsShort}

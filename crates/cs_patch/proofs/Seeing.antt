@@ -8,10 +8,10 @@ use Rattle.cs_jsonmatch.specs.Places.{Location, places}
 use Rattle.cs_alter.specs.Within.{changed, removed, is_inside, recount}
 use Rattle.cs_alter.specs.Inserted.{Side, insert_into}
 use Rattle.cs_patch.specs.Readings.{places_at}
-use Rattle.cs_patch.specs.Targets.{Target, location, if_some, targets_from, outermost}
+use Rattle.cs_targets.specs.Targets.{Target, location, if_some, targets_from, outermost}
 use Rattle.cs_patch.specs.Operations.{Refusal, refused, bounded, each, first_refusal, or_else, fixed_at, number_refusal, list_refusal, number_check, list_check, insert_at_parents, count_by, fixed_check, unset_by, by_reading}
 use Rattle.cs_alter.specs.Alterations.{counted}
-use Rattle.cs_patch.specs.Seen.{Seen, seen_of, value_of, outer_seen, each_seen}
+use Rattle.cs_targets.specs.Seen.{Seen, seen_of, value_of, outer_seen, each_seen}
 use Rattle.cs_patch.specs.Asked.{number_of, list_at, check_of, first_seen}
 use Rattle.cs_patch.specs.Outcomes.{outcome_of, removal, Answers}
 use Rattle.cs_alter.specs.declared.alteration.Change.{Change}

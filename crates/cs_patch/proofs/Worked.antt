@@ -9,7 +9,7 @@ use Rattle.cs_jsonmatch.specs.Verdict.{PathReading, spelled, bad_path, IsPathRea
 use Rattle.cs_jsonmatch.specs.declared.places.Part.TheVariants.{Name}
 use Rattle.cs_alter.specs.Inserted.{Side, is_misplaced}
 use Rattle.cs_alter.specs.Within.{recount}
-use Rattle.cs_patch.specs.Targets.{if_some, Target, location, made_targets, place_targets}
+use Rattle.cs_targets.specs.Targets.{if_some, Target, location, made_targets, place_targets}
 use Rattle.cs_patch.specs.Operations.{Refusal, Outcome, document, refused, not_array, too_deep, and_then, first_refusal, fixed_at, or_else, number_refusal, list_refusal, fixed_check, missing_check, number_check, list_check, set_at, set_missing_at, unset_at, count_at, insert_at, each, bounded, at_targets, set_by, set_missing_by, unset_by, count_by, insert_at_parents, insert_last, insert_by, by_reading, along, set_path, set_missing_path, unset_path, inc_path, dec_path, Insertion}
 use Rattle.cs_patch.specs.Patched.{Patch, in_turn, maybe_insert, operations}
 use Rattle.cs_patch.proofs.Kept.{Keeps, keeps, keeps_on, set-keeps, changed-keeps, removed-keeps, inserted-keeps}

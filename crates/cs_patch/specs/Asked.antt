@@ -1,13 +1,13 @@
 -- The causes of the code, and what it asks of targets. For private clauses.
 use Rattle.std.specs.Prelude.{ℕ, List, [], ◌∷◌, Option, Some, None, codes, cond}
 use Rattle.cs_ops.specs.Arithmetic.{is_of_64_bits}
-use Rattle.cs_patch.specs.Targets.{if_some}
+use Rattle.cs_targets.specs.Targets.{if_some}
 use Rattle.cs_patch.specs.Operations.{Refusal, immutable, not_number, overflow, not_array, fixed_at, or_else}
 use Rattle.cs_alter.specs.Alterations.{counted}
-use Rattle.cs_patch.specs.Seen.{Seen}
+use Rattle.cs_targets.specs.Seen.{Seen}
 use Rattle.cs_alter.specs.declared.alteration.Change.{Change}
-use Rattle.cs_patch.specs.declared.targets.Stands.{Stands}
-use Rattle.cs_patch.specs.declared.targets.Stands.TheVariants as stands
+use Rattle.cs_targets.specs.declared.target.Stands.{Stands}
+use Rattle.cs_targets.specs.declared.target.Stands.TheVariants as stands
 use Rattle.cs_patch.specs.declared.refusal.Fixed.{Fixed}
 use Rattle.cs_patch.specs.declared.refusal.Fixed.TheVariants as name
 use Rattle.cs_patch.specs.declared.refusal.Cause.{Cause}

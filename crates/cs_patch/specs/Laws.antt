@@ -5,7 +5,7 @@ use Rattle.cs_value.specs.Pairs.{attribute}
 use Rattle.cs_view.specs.Document.{is_document, is_shallow, id_of}
 use Rattle.cs_jsonmatch.specs.Path.{Step, Path}
 use Rattle.cs_jsonmatch.specs.Verdict.{spelled, path_verdict}
-use Rattle.cs_patch.specs.Targets.{made_targets, place_targets}
+use Rattle.cs_targets.specs.Targets.{made_targets, place_targets}
 use Rattle.cs_alter.specs.Inserted.{is_misplaced}
 use Rattle.cs_patch.specs.Operations.{document, set_path, set_missing_path, unset_path, inc_path, dec_path, Insertion, insert_path}
 use Rattle.cs_patch.specs.Patched.{Patch, paths, patched}

@@ -1,14 +1,10 @@
 pub mod Asked
 pub mod Entries
 pub mod Faults
-pub mod Held
 pub mod Laws
 pub mod Operations
 pub mod Outcomes
 pub mod Patched
 pub mod Read
 pub mod Readings
-pub mod Runs
-pub mod Seen
-pub mod Targets
 pub mod View

@@ -10,7 +10,7 @@ use Rattle.cs_jsonmatch.specs.Places.{Location}
 use Rattle.cs_jsonmatch.specs.Verdict.{PathReading, spelled, bad_path, path_verdict}
 use Rattle.cs_jsonmatch.specs.declared.places.Part.TheVariants.{Name}
 use Rattle.cs_alter.specs.Within.{changed, removed, given, recount}
-use Rattle.cs_patch.specs.Targets.{if_some, Target, location, made_targets, place_targets}
+use Rattle.cs_targets.specs.Targets.{if_some, Target, location, made_targets, place_targets}
 use Rattle.cs_alter.specs.Inserted.{Side, insert_into, is_misplaced}
 
 -- Why a patch is refused: another revision than the expected one, with both; a text that is no

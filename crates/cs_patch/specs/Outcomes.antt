@@ -3,9 +3,9 @@ use Rattle.std.specs.Prelude.{◌≡◌, ℕ, List, ⊤, MatchResult}
 use Rattle.std.specs.declared.result.Result.{Result}
 use Rattle.cs_value.specs.Tree.{Tree}
 use Rattle.cs_alter.specs.Within.{changed, removed}
-use Rattle.cs_patch.specs.Targets.{if_some}
+use Rattle.cs_targets.specs.Targets.{if_some}
 use Rattle.cs_patch.specs.Operations.{Outcome, document, refused, too_deep, bounded}
-use Rattle.cs_patch.specs.Seen.{Seen, each_seen}
+use Rattle.cs_targets.specs.Seen.{Seen, each_seen}
 use Rattle.cs_patch.specs.Asked.{refusal_of, check_of, first_seen}
 use Rattle.cs_patch.specs.Faults.{IsPatchFault}
 use Rattle.cs_patch.specs.declared.fault.PatchFault.{PatchFault}

@@ -6,7 +6,7 @@ use Rattle.cs_value.specs.Tree.{Tree, text, object}
 use Rattle.cs_value.specs.Pairs.{put}
 use Rattle.cs_view.specs.Document.{rev_of}
 use Rattle.cs_jsonmatch.specs.Verdict.{PathReading, spelled, bad_path, path_verdict}
-use Rattle.cs_patch.specs.Targets.{if_some}
+use Rattle.cs_targets.specs.Targets.{if_some}
 use Rattle.cs_patch.specs.Operations.{Refusal, revision, no_path, Outcome, document, refused, and_then, Insertion, set_path, set_missing_path, unset_path, inc_path, dec_path, insert_path}
 
 -- A patch: the paths of each operation as texts, in the order of their bytes, those of `unset` in

@@ -9,7 +9,7 @@ use Rattle.cs_jsonmatch.specs.Path.{Path}
 use Rattle.cs_jsonmatch.specs.Places.{Location, places}
 use Rattle.cs_jsonmatch.specs.Verdict.{PathReading, spelled, bad_path}
 use Rattle.cs_alter.specs.Inserted.{Side, insert_into, is_misplaced}
-use Rattle.cs_patch.specs.Targets.{run_of, prefix_of}
+use Rattle.cs_targets.specs.Targets.{run_of, prefix_of}
 use Rattle.cs_patch.specs.Patched.{Patch, paths}
 use Rattle.cs_patch.specs.View.{insertion}
 use Rattle.cs_patch.specs.declared.patch.Insert.{Insert}

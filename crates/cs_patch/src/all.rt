@@ -4,10 +4,10 @@ ghost use Rattle.std.specs.Prelude.{◌≡◌, OnOk, List, ℕ, map};
 ghost use Rattle.cs_value.specs.View.{tree};
 ghost use Rattle.cs_alter.specs.Within.{changed, removed};
 ghost use Rattle.cs_alter.specs.Alterations.{altered};
-ghost use Rattle.cs_patch.specs.Seen.{seen, each_seen};
+ghost use Rattle.cs_targets.specs.Seen.{seen, each_seen};
 
-use crate::targets::Target;
 use cs_alter::{Alteration, alter, remove};
+use cs_targets::Target;
 use cs_value::{NoMemory, Val};
 use std::alloc::Global;
 

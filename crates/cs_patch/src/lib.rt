@@ -9,16 +9,13 @@ mod fault;
 mod insert;
 pub mod laws;
 mod lists;
-mod outer;
 mod patch;
 mod read;
 mod read_patch;
 mod refusal;
-mod run;
 mod set;
 mod stamp;
 mod stop;
-mod targets;
 mod turns;
 mod unset;
 

@@ -14,8 +14,8 @@ use crate::entries::{InsertAt, NumberAt, RemovalAt, ValueAt};
 use crate::fault::PathsFault;
 use crate::lists::lists_by;
 use crate::patch::Insert;
-use crate::run::take_run;
 use cs_jsonmatch::{JsonPath, PathFault};
+use cs_targets::take_run;
 use cs_value::{Fields, NoMemory, Txt, Val};
 use std::alloc::Global;
 

@@ -2,12 +2,12 @@
 ghost use Rattle.std.specs.Prelude.{◌≡◌, ℕ, List, Option, Some, None, option_map, bytes_eq, cond, map};
 ghost use Rattle.std.specs.List.{list_any};
 ghost use Rattle.cs_patch.specs.Operations.{fixed, fixed_at};
-ghost use Rattle.cs_patch.specs.Seen.{seen};
+ghost use Rattle.cs_targets.specs.Seen.{seen};
 ghost use Rattle.cs_patch.specs.Asked.{name_of, refusal_of, number_of, list_at, check_of, first_seen};
 
-use crate::targets::{Stands, Target};
 use cs_alter::Change;
 use cs_jsonmatch::Part;
+use cs_targets::{Stands, Target};
 
 // The attributes that only the store writes.
 #[derive(Clone, Copy, Drop)]

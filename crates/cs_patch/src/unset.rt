@@ -2,20 +2,19 @@
 ghost use Rattle.std.specs.Prelude.{[], ℕ, List, map};
 ghost use Rattle.cs_value.specs.View.{tree};
 ghost use Rattle.cs_jsonmatch.specs.View.{locations};
-ghost use Rattle.cs_patch.specs.Targets.{targets_from};
+ghost use Rattle.cs_targets.specs.Targets.{targets_from};
 ghost use Rattle.cs_patch.specs.Operations.{unset_path};
-ghost use Rattle.cs_patch.specs.Seen.{seen_of, outer_seen};
+ghost use Rattle.cs_targets.specs.Seen.{seen_of, outer_seen};
 ghost use Rattle.cs_patch.specs.Entries.{removal_at};
 ghost use Rattle.cs_patch.specs.Outcomes.{Answers, Tells, removal};
 
 use crate::all::remove_each;
 use crate::entries::RemovalAt;
 use crate::fault::PatchFault;
-use crate::outer::outermost;
 use crate::refusal::{Ask, first_cause};
 use crate::stop::{Stop, told};
-use crate::targets::targets;
 use cs_jsonmatch::Place;
+use cs_targets::{outermost, targets};
 use cs_value::Val;
 use cs_view::DEEPEST_DOCUMENT;
 use std::alloc::Global;

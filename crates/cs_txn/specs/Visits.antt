@@ -7,7 +7,7 @@ use Rattle.cs_parse.specs.Verdict.{Reading, query, verdict}
 use Rattle.cs_plan.specs.Simple.{is_simple}
 use Rattle.cs_meaning.specs.Hits.{cost}
 use Rattle.cs_patch.specs.Patched.{Patch, paths, first_fault}
-use Rattle.cs_patch.specs.Targets.{if_some}
+use Rattle.cs_targets.specs.Targets.{if_some}
 use Rattle.cs_body.specs.Transaction.{Aim, one, asked, Action, create, replace, if_none, remove, change}
 use Rattle.cs_txn.specs.Refused.{Outcome}
 use Rattle.cs_txn.specs.Mutated.{mutated}

@@ -32,7 +32,8 @@ use Rattle.cs_syntax.proofs.Views.{expression_call}
 use Rattle.cs_parts.proofs.Trees.{tree_of_null}
 use Rattle.cs_expr.specs.Choosing.{chosen, chosen_looked}
 use Rattle.cs_expr.proofs.Calling.{none_left, selected_here, selected_looks_here, selected_on, selected_looks_on, chosen_weight, within_path, within_list, path_looked, path_weight}
-use Rattle.cs_expr.proofs.Sorting.{keys_values_more, keys_looked_more, keys_weight_more, ordered_list, pushed_values}
+use Rattle.cs_past.proofs.Keyed.{keys_values_more}
+use Rattle.cs_expr.proofs.Sorting.{keys_looked_more, keys_weight_more, ordered_list, pushed_values}
 use Rattle.cs_expr.proofs.Starting.{array_enters, array_looks, array_fits, entering_weight, starting_fits, step_looks, base_enters, base_looks, no_pipe_value, no_pipe_looks, pipe_weight, pipe_turn_value, pipe_turn_looks}
 use Rattle.cs_expr.proofs.Nodes.{entry_left_looks, entry_met_looks, entry_taken_looks}
 use Rattle.cs_expr.proofs.Answered.{on_ok, run_parts, run_keys, one_after_another, pipe_parts, kept_docs, kept_keys, star_value, star_looked, is_everything_then, kind_behind, kinds_behind, step_looks_on}

@@ -1,5 +1,5 @@
 use Rattle.std.proofs.Common.{◌∙◌, rules}
-use Rattle.cs_kept.specs.Keys.{all_keys}
+use Rattle.cs_keys.specs.Keys.{all_keys}
 use Rattle.cs_kept.proofs.Coded.{coded-of}
 use Rattle.cs_kept.proofs.evaluated.evaluate.Goals as goal
 

@@ -6,11 +6,10 @@ use Rattle.cs_view.specs.declared.key.Key.{Key}
 use Rattle.cs_plan.specs.Simple.{query_key}
 use Rattle.cs_meaning.specs.Hits.{hits, tail_looked, tail_over}
 use Rattle.cs_meaning.specs.Looked.{query_looked}
-use Rattle.cs_kept.specs.Fits.{SameKeys}
-use Rattle.cs_kept.specs.Keys.{all_keys, rest_of}
+use Rattle.cs_keys.specs.Keys.{SameKeys, all_keys, own_of, rest_of}
 use Rattle.cs_hits.proofs.Behinds.{behind_settles}
 use Rattle.cs_kept.proofs.Coded.{coded-of}
-use Rattle.cs_kept.proofs.Keyed.{own_keys, with_own}
+use Rattle.cs_keys.proofs.Keyed.{own_keys, with_own}
 use Rattle.cs_kept.proofs.evaluated.evaluate_behind.Goals as goal
 
 pub returns-clause-evaluated : goal.returns-clause-evaluated
@@ -27,10 +26,10 @@ returns-clause-evaluated g c =
     let own = c.in_ok-keys.ensures.own in
     record {
       answer = c.in_ok-answer.ensures.value ∙ (ap (tail_over docs e ps) c.docs-docs.ensures ∙ (value ∙ sym windowed.0));
-      keys = own_keys (rest_of found) found.own (tail_looked docs e ps (hits e ps docs)) (query_looked docs ps e) (query_key e ps)
+      keys = own_keys (rest_of found) (own_of found) (tail_looked docs e ps (hits e ps docs)) (query_looked docs ps e) (query_key e ps)
           (subst (λ (ks : List Key). SameKeys (rest_of found) ks) looked c.in_ok-keys.ensures.rest) (own ∙ ap (λ (k : Key). k ∷ []) c.in_ok-own.ensures) windowed.1;
       coded = coded-of c.args.seed.now (all_keys found) (c.tail_over.new.keys ++ c.in_ok-own.own ∷ []) found.codes.items
-          (with_own (rest_of found) found.own c.tail_over.new.keys c.in_ok-own.own c.in_ok-keys.ensures.rest own) c.in_ok-keys.ensures.codes;
+          (with_own (rest_of found) (own_of found) c.tail_over.new.keys c.in_ok-own.own c.in_ok-keys.ensures.rest own) c.in_ok-keys.ensures.codes;
     }
 
 pub returns-clause-fits : goal.returns-clause-fits

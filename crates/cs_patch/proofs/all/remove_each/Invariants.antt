@@ -1,7 +1,7 @@
 use Rattle.std.proofs.Common.{◌≡◌, ◌≤◌, ℕ, List, length, drop, map}
 use Rattle.cs_value.specs.View.{tree}
 use Rattle.cs_alter.specs.Within.{removed}
-use Rattle.cs_patch.specs.Seen.{seen, each_seen}
+use Rattle.cs_targets.specs.Seen.{seen, each_seen}
 use Rattle.cs_patch.proofs.all.remove_each.Given as goal
 
 abbrev pub invariant-loop-left : goal.invariant-loop-left

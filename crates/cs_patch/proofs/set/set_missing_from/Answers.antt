@@ -2,8 +2,8 @@ use Rattle.std.proofs.Common.{◌≡◌, [], map, filter, ap, subst, ◌∙◌}
 use Rattle.cs_value.specs.View.{tree}
 use Rattle.cs_jsonmatch.specs.View.{locations}
 use Rattle.cs_alter.specs.Within.{given}
-use Rattle.cs_patch.specs.Targets.{targets_from}
-use Rattle.cs_patch.specs.Seen.{seen, seen_of, outer_seen, is_missing, are_standing}
+use Rattle.cs_targets.specs.Targets.{targets_from}
+use Rattle.cs_targets.specs.Seen.{seen, seen_of, outer_seen, is_missing, are_standing}
 use Rattle.cs_patch.specs.Outcomes.{Answers, outcome_of}
 use Rattle.cs_patch.specs.declared.refusal.Ask.TheVariants as ask
 use Rattle.cs_patch.proofs.Deep.{missing_standing}

@@ -8,8 +8,8 @@ use Rattle.cs_view.proofs.Booleans.{and-left}
 use Rattle.cs_codes.specs.declared.seed.Seed.{Seed}
 use Rattle.cs_interest.specs.Interest.{Entered, Left}
 use Rattle.cs_kept.specs.Found.{IsCoded}
-use Rattle.cs_kept.specs.Keys.{all_keys, rest_of}
-use Rattle.cs_kept.specs.declared.keys.Keys.{Keys}
+use Rattle.cs_keys.specs.Keys.{all_keys, rest_of}
+use Rattle.cs_keys.specs.declared.keys.Keys.{Keys}
 use Rattle.cs_kept.specs.declared.kept.Kept.TheVariants.{ByRecord}
 use Rattle.cs_kept.specs.declared.recorded.Recorded.{Recorded}
 use Rattle.cs_kept.proofs.Found.{keeps-all, found-moved, others-moved}

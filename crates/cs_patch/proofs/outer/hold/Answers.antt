@@ -1,4 +1,0 @@
-use Rattle.cs_patch.proofs.outer.hold.Goals as goal
-
-pub returns : goal.returns
-returns c = λ l. c.in_ok-insert.ensures.updates.0 (record { ref_ptr = c.args.location.ref_ptr; now = l })

@@ -1,0 +1,4 @@
+pub mod Held
+pub mod Runs
+pub mod Seen
+pub mod Targets
