@@ -61,7 +61,13 @@ impl Kept {
         if simple(&query) {
             return Ok(Kept::InRows(Rows::build(alloc, seed, query, params, view, steps)?));
         }
-        if mapped(alloc, &query)? {
+        // A query is dropped by name: left to the compiler, its whole drop would stand, and be
+        // proved, at each place.
+        let Ok(is_mapped) = mapped(alloc, &query) else {
+            drop((query, params));
+            return Err(NoMemory);
+        };
+        if is_mapped {
             return Ok(Kept::InShares(Mapped::build(alloc, seed, query, params, view, steps)?));
         }
         Ok(Kept::ByRecord(Recorded::build(alloc, seed, query, params, view, steps)?))

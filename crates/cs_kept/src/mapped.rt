@@ -92,10 +92,24 @@ impl Mapped {
     {
         mapped_is_filtered();
         mapped_is_shares_of_hits();
-        let shares = find_shares(alloc, &query, &params, view, steps)?;
-        let last = answer_of(alloc, &shares)?;
-        let own = query_key(alloc, &query, &params)?;
-        let codes = listed(alloc, seed, &own, &shares)?;
+        // A query is dropped by name: left to the compiler, its whole drop would stand, and be
+        // proved, at each place.
+        let Ok(shares) = find_shares(alloc, &query, &params, view, steps) else {
+            drop((query, params));
+            return Err(NoMemory);
+        };
+        let Ok(own) = query_key(alloc, &query, &params) else {
+            drop((query, params));
+            return Err(NoMemory);
+        };
+        let Ok(codes) = listed(alloc, seed, &own, &shares) else {
+            drop((query, params, own));
+            return Err(NoMemory);
+        };
+        let Ok(last) = answer_of(alloc, &shares) else {
+            drop((query, params, own));
+            return Err(NoMemory);
+        };
         Ok(Mapped {
             query,
             params,

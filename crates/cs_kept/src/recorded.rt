@@ -60,7 +60,12 @@ impl Recorded {
         if windowed(&query) {
             return Recorded::build_windowed(alloc, seed, query, params, view, steps);
         }
-        let found = evaluate(alloc, seed, &query, &params, view, steps)?;
+        // A query is dropped by name: left to the compiler, its whole drop would stand, and be
+        // proved, at each place.
+        let Ok(found) = evaluate(alloc, seed, &query, &params, view, steps) else {
+            drop((query, params));
+            return Err(NoMemory);
+        };
         Ok(Recorded {
             query,
             params,
@@ -86,8 +91,15 @@ impl Recorded {
         ensures coded { IfOk result (λ r. IsCoded seed.now (Kept.ByRecord r)) }
     {
         windowed_is_filtered();
-        let mut behind = Behind::find(alloc, &query, &params, view, steps)?;
-        let found = evaluate_behind(&mut behind, alloc, seed, &query, &params, view, steps)?;
+        let Ok(mut behind) = Behind::find(alloc, &query, &params, view, steps) else {
+            drop((query, params));
+            return Err(NoMemory);
+        };
+        let found = evaluate_behind(&mut behind, alloc, seed, &query, &params, view, steps);
+        let Ok(found) = found else {
+            drop((query, params, behind));
+            return Err(NoMemory);
+        };
         Ok(Recorded {
             query,
             params,

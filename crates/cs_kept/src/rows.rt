@@ -72,9 +72,20 @@ impl Rows {
         simple_is_filtered();
         simple_is_tail_of_hits();
         window_settles_tail();
-        let hits = Hits::find(alloc, &query, &params, view, steps)?;
-        let answer = tail(alloc, &query, &params, hits.settling())?;
-        let codes = codes(alloc, seed, &query, &params)?;
+        // A query is dropped by name: left to the compiler, its whole drop would stand, and be
+        // proved, at each place.
+        let Ok(codes) = codes(alloc, seed, &query, &params) else {
+            drop((query, params));
+            return Err(NoMemory);
+        };
+        let Ok(hits) = Hits::find(alloc, &query, &params, view, steps) else {
+            drop((query, params));
+            return Err(NoMemory);
+        };
+        let Ok(answer) = tail(alloc, &query, &params, hits.settling()) else {
+            drop((query, params));
+            return Err(NoMemory);
+        };
         Ok(Rows {
             query,
             params,

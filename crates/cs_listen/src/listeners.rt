@@ -119,7 +119,10 @@ impl Listeners {
             Ok(predicate) => {
                 self.add_predicate(name, predicate, params, include_result, include_previous)
             }
-            Err(_query) => Err(ListenFault::NotListenable),
+            Err(query) => {
+                drop((name, query, params));
+                Err(ListenFault::NotListenable)
+            }
         }
     }
 
@@ -139,10 +142,14 @@ impl Listeners {
         ensures fault { IfErr result (NotTaken name (listeners self.old)) }
         ensures unchanged { OnErr result (listeners self.new ≡ listeners self.old) }
     {
+        // A query is dropped by name: left to the compiler, its whole drop would stand, and be
+        // proved, at each place.
         if self.has(name.as_str()) {
+            drop((name, predicate, params));
             return Err(ListenFault::NameUsed);
         }
         if self.made.len() >= MOST_LISTENERS as usize {
+            drop((name, predicate, params));
             return Err(ListenFault::Full);
         }
         match self.push(name, predicate, params, include_result, include_previous) {
@@ -166,10 +173,17 @@ impl Listeners {
     {
         let number = self.next;
         if number >= HIGHEST {
+            drop((name, predicate, params));
             return Err(NoMemory);
         }
-        let code = filter_code(self.alloc, &self.seed, &predicate, &params)?;
-        post(&mut self.postings, code, number)?;
+        let Ok(code) = filter_code(self.alloc, &self.seed, &predicate, &params) else {
+            drop((name, predicate, params));
+            return Err(NoMemory);
+        };
+        let Ok(()) = post(&mut self.postings, code, number) else {
+            drop((name, predicate, params));
+            return Err(NoMemory);
+        };
         let listening = Listening {
             name,
             number,
@@ -183,7 +197,8 @@ impl Listeners {
                 self.next = number + 1;
                 Ok(())
             }
-            Err(_refused) => {
+            Err(refused) => {
+                drop(refused);
                 withdraw(&mut self.postings, number);
                 Err(NoMemory)
             }

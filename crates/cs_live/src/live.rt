@@ -168,7 +168,12 @@ impl Live {
         ensures visits { is_simple (expression_of query) ≡ true
             → steps.new ≤ steps.old + cost (expression_of query) (fields params) (V.docs view.now) }
     {
-        self.find_room(name.as_str())?;
+        // A query is dropped by name: left to the compiler, its whole drop would stand, and be
+        // proved, at each place.
+        if let Err(fault) = self.find_room(name.as_str()) {
+            drop((name, query, params));
+            return Err(fault);
+        }
         match self.enter(name, query, params, view, steps) {
             Ok(line) => Ok(line),
             Err(NoMemory) => Err(LiveFault::NoMemory),
@@ -198,11 +203,15 @@ impl Live {
     {
         let number = self.next;
         if number >= HIGHEST {
+            drop((name, query, params));
             return Err(NoMemory);
         }
         let seed = self.interest.seed();
         let entry = Entry::make(self.alloc, name, number, seed, query, params, view, steps)?;
-        let line = entry.line(self.alloc)?;
+        let Ok(line) = entry.line(self.alloc) else {
+            drop(entry);
+            return Err(NoMemory);
+        };
         self.push(entry)?;
         self.next = number + 1;
         Ok(line)
@@ -219,7 +228,10 @@ impl Live {
         ensures seed { self.new.interest.seed ≡ self.old.interest.seed }
         ensures next { self.new.next ≡ self.old.next }
     {
-        self.interest.enter(entry.number, entry.kept.codes())?;
+        let Ok(()) = self.interest.enter(entry.number, entry.kept.codes()) else {
+            drop(entry);
+            return Err(NoMemory);
+        };
         match self.entries.push(entry) {
             Ok(()) => Ok(()),
             Err(failed) => {

@@ -10,24 +10,24 @@ use Rattle.cs_kept.proofs.mapped.Mapped.build.Goals as goal
 
 pub returns-clause-coded : goal.returns-clause-coded
 returns-clause-coded g c =
-    subst (λ (ss : List Share). AreListed c.args.seed.now c.in_ok-own.own (shares_looked ss) c.in_ok-codes.codes.items) c.deref-2.ensures.value c.in_ok-codes.ensures
+    subst (λ (ss : List Share). AreListed c.args.seed.now c.in-Ok-query_key.own (shares_looked ss) c.in-Ok-listed.codes.items) c.deref.ensures.value c.in-Ok-listed.ensures
 
 pub returns-clause-answers : goal.returns-clause-answers
 returns-clause-answers g c =
     let docs = g.V.View.docs c.args.view.now in let e = expression_of c.args.query in let params = fields c.args.params in
-    let shares = c.in_ok-shares.shares in
-    let last : tree c.in_ok-last.last ≡ list_of (share_values shares.items)
-    = c.in_ok-last.ensures ∙ ap (λ (ss : List Share). list_of (share_values ss)) c.deref.ensures.value in
+    let shares = c.in-Ok.shares in
+    let last : tree c.in-Ok-answer_of.last ≡ list_of (share_values shares.items)
+    = c.in-Ok-answer_of.ensures ∙ ap (λ (ss : List Share). list_of (share_values ss)) c.deref-2.ensures.value in
     record {
       query = refl;
       params = refl;
-      last = shares-value c.mapped_is_shares_of_hits.ensures docs e params shares.items (tree c.in_ok-last.last) c.requires.mapped c.in_ok-shares.ensures.hits c.in_ok-shares.ensures.shares last;
+      last = shares-value c.mapped_is_shares_of_hits.ensures docs e params shares.items (tree c.in-Ok-answer_of.last) c.requires.mapped c.in-Ok.ensures.hits c.in-Ok.ensures.shares last;
       fits = record {
         compound = c.requires.compound;
         mapped = c.requires.mapped;
-        own = c.in_ok-own.ensures;
-        hits = c.in_ok-shares.ensures.hits;
-        shares = c.in_ok-shares.ensures.shares;
+        own = c.in-Ok-query_key.ensures;
+        hits = c.in-Ok.ensures.hits;
+        shares = c.in-Ok.ensures.shares;
         last = last;
       };
     }

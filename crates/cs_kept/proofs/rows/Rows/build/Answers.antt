@@ -9,15 +9,15 @@ use Rattle.cs_hits.proofs.Nearing.{settled_by}
 use Rattle.cs_kept.proofs.rows.Rows.build.Goals as goal
 
 pub returns-clause-coded : goal.returns-clause-coded
-returns-clause-coded g c = coded-one c.args.seed.now (hit_key (expression_of c.args.query) (fields c.args.params)) c.in_ok-codes.codes.items c.in_ok-codes.ensures
+returns-clause-coded g c = coded-one c.args.seed.now (hit_key (expression_of c.args.query) (fields c.args.params)) c.in-Ok.codes.items c.in-Ok.ensures
 
 pub returns-clause-answers : goal.returns-clause-answers
 returns-clause-answers g c =
     let docs = g.V.View.docs c.args.view.now in let e = expression_of c.args.query in let ps = fields c.args.params in
-    let found = c.in_ok-hits.hits in
-    let h = c.in_ok-hits.ensures.hits in
+    let found = c.in-Ok-find.hits in
+    let h = c.in-Ok-find.ensures.hits in
     let value = settled_by e ps (tail e ps) (λ bound xs ys n s. (c.window_settles_tail.ensures e ps bound xs ys n s).0) found.near (docs_of found) h.near h.enough in
-    let answered = c.in_ok-answer.ensures ∙ (ap (tail e ps) c.settling.ensures ∙ value) in
+    let answered = c.in-Ok-tail.ensures ∙ (ap (tail e ps) c.settling.ensures ∙ value) in
     record {
       query = refl;
       params = refl;

@@ -4,8 +4,8 @@ use Rattle.cs_listen.specs.declared.listening.Listening.{Listening}
 use Rattle.cs_listen.proofs.Keeping.{posted_one, still_posted, undone}
 use Rattle.cs_listen.proofs.listeners.Listeners.push.Goals as goal
 
-pub invariant_of-self-in-Ok : goal.invariant_of-self-in-Ok
-invariant_of-self-in-Ok c =
+pub invariant_of-self-in-Ok-push : goal.invariant_of-self-in-Ok-push
+invariant_of-self-in-Ok-push c =
     let old = c.args.self.now in
     let one : Listening = record {
       name = c.args.name;
@@ -17,10 +17,10 @@ invariant_of-self-in-Ok c =
     } in
     let postings = c.post.new.postings.items in
     record {
-      posted = subst (ArePosted old.seed postings (old.next + 1)) (sym c.in-Ok.ensures.items)
-          (posted_one old.seed old.postings.items postings old.next c.in_ok-code.code old.made.items one
-          c.in_ok-post.ensures.posted refl c.in_ok-code.ensures old.posted);
-      ascend = c.in_ok-post.ensures.ascend;
+      posted = subst (ArePosted old.seed postings (old.next + 1)) (sym c.in-Ok-push.ensures.items)
+          (posted_one old.seed old.postings.items postings old.next c.in-Ok.code old.made.items one
+          c.in-Ok-post.ensures.posted refl c.in-Ok.ensures old.posted);
+      ascend = c.in-Ok-post.ensures.ascend;
     }
 
 pub invariant_of-self-in-Err : goal.invariant_of-self-in-Err
@@ -31,7 +31,7 @@ invariant_of-self-in-Err c =
     record {
       posted = subst (ArePosted old.seed after old.next) (sym c.in-Err.ensures.items)
           (still_posted old.seed old.postings.items after old.next old.made.items
-          (undone old.next c.in_ok-code.code old.postings.items posted after
-          c.in_ok-post.ensures.posted c.withdraw.ensures.withdrawn) old.posted);
+          (undone old.next c.in-Ok.code old.postings.items posted after
+          c.in-Ok-post.ensures.posted c.withdraw.ensures.withdrawn) old.posted);
       ascend = c.withdraw.ensures.ascend;
     }

@@ -25,7 +25,7 @@ returns-clause-fits g c = λ h.
 
 pub returns-clause-line : goal.returns-clause-line
 returns-clause-line g c =
-    c.in_ok-line.ensures (g.V.View.docs c.args.view.now) c.in_ok-entry.ensures.fits ∙ ap (λ (q : LiveQuery). worded (say q)) c.in_ok-entry.ensures.made
+    c.in-Ok.ensures (g.V.View.docs c.args.view.now) c.in_ok-entry.ensures.fits ∙ ap (λ (q : LiveQuery). worded (say q)) c.in_ok-entry.ensures.made
 
 pub returns-in_err-push-clause-fits_still : goal.returns-in_err-push-clause-fits_still
 returns-in_err-push-clause-fits_still g c = on_err c.from_residual-in_err-push.result (λ docs h.

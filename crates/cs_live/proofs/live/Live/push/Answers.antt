@@ -11,4 +11,4 @@ returns-in-Err-clause-left c =
     let same = c.in-Err.ensures.value_returned in
     undone i j c.leave.new.self e.number c.in-Err.failed.value.number (codes_of e.kept) c.codes-in-Err.result.now
     (ap (λ (x : Entry). x.number) same) (c.codes-in-Err.ensures ∙ ap (λ (x : Entry). codes_of x.kept) same)
-    (subst (λ (cs : List ℕ). Entered e.number cs i j) c.codes.ensures c.in_ok-enter.ensures.entered) c.leave.ensures.left
+    (subst (λ (cs : List ℕ). Entered e.number cs i j) c.codes.ensures c.in-Ok.ensures.entered) c.leave.ensures.left
