@@ -8,7 +8,7 @@ ghost use Rattle.cs_view.specs.View.{document_of};
 ghost use Rattle.cs_window.specs.Mapped.{has_pipe, is_elementwise, is_mapped, is_piped, maps_each, share, share_looked};
 
 use crate::queries::parts;
-use cs_expr::through;
+use cs_expr::{Setting, through};
 use cs_parts::{Entrance, Form, Got, entrance_of, first_kind, form_of, kinds};
 use cs_plan::is_quiet;
 use cs_syntax::{Query, Step};
@@ -102,6 +102,11 @@ pub fn share<V: View<L>, L: Ledger>(
     };
     let kinds = kinds(alloc, later)?;
     let this = Got::Part(doc.val());
-    let share = through(alloc, later, &kinds, &root, params, view, this, keys, steps)?;
+    let setting = Setting {
+        alloc,
+        params,
+        source: view,
+    };
+    let share = through(&setting, later, &kinds, &root, this, keys, steps)?;
     share.into_val(alloc)
 }

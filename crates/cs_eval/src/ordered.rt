@@ -14,7 +14,7 @@ ghost use Rattle.cs_order.specs.Ranked.{ranked as ranked_of};
 ghost use Rattle.cs_parts.specs.Parts.{got};
 
 use crate::queries::NO_DOCS;
-use cs_expr::{holds, rank_into};
+use cs_expr::{Setting, holds, rank_into};
 use cs_levels::list_in_order;
 use cs_order::Ranked;
 use cs_parts::{Got, Item, directions};
@@ -44,29 +44,23 @@ fn rank_hits<'k, 's: 'k>(
         (map (λ r. tree r.now) docs.entry.items)))) }
 {
     let silent = are_quiet(order);
+    let setting = Setting {
+        alloc,
+        params,
+        source: &NO_DOCS,
+    };
     let mut aside = Record::new(alloc);
     let mut nothing = ();
     let mut kept = Vec::new(alloc);
     for doc in docs {
-        if holds(
-            alloc,
-            condition,
-            frame,
-            params,
-            &NO_DOCS,
-            doc,
-            &mut aside,
-            &mut nothing,
-        )? {
+        if holds(&setting, condition, frame, doc, &mut aside, &mut nothing)? {
             rank_into(
-                alloc,
+                &setting,
                 order,
                 directions,
                 limit,
                 silent,
                 frame,
-                params,
-                &NO_DOCS,
                 Item::Lent(doc),
                 &mut kept,
                 &mut aside,

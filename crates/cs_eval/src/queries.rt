@@ -20,7 +20,7 @@ ghost use Rattle.cs_window.specs.Windowed.{is_filtered};
 
 use crate::ordered::hits_in_order;
 use crate::windows::order_of;
-use cs_expr::{enter, eval as evaluate, holds, keep_lent, pipes};
+use cs_expr::{Setting, enter, eval as evaluate, holds, keep_lent, pipes};
 use cs_order::first_asked;
 use cs_parts::{Got, NoDocs, Source, head_filter, kinds, push};
 use cs_plan::{choose, filter_keys, first_by_kind, simple};
@@ -64,7 +64,12 @@ pub fn eval<'s, V: View<L>, L: Ledger>(
     if simple(query) {
         return simple_value(alloc, query, &root, params, view, keys, steps);
     }
-    evaluate(alloc, query.expr(), &root, params, view, keys, steps)
+    let setting = Setting {
+        alloc,
+        params,
+        source: view,
+    };
+    evaluate(&setting, query.expr(), &root, keys, steps)
 }
 
 /// Whether the filter of a query is true of the document, where no dataset is asked. It visits
@@ -83,12 +88,15 @@ pub fn hit(alloc: Global, query: &Query, params: &Fields, doc: &Doc) -> Result<b
     };
     let mut aside = Record::new(alloc);
     let mut nothing = ();
-    holds(
+    let setting = Setting {
         alloc,
+        params,
+        source: &NO_DOCS,
+    };
+    holds(
+        &setting,
         condition,
         &root,
-        params,
-        &NO_DOCS,
         doc.val(),
         &mut aside,
         &mut nothing,
@@ -239,24 +247,25 @@ fn tail_from<'s>(
     let kinds = kinds(alloc, steps)?;
     let mut aside = Record::new(alloc);
     let mut nothing = ();
-    let first = enter(
+    let setting = Setting {
         alloc,
+        params,
+        source: &NO_DOCS,
+    };
+    let first = enter(
+        &setting,
         steps,
         &kinds,
         frame,
-        params,
-        &NO_DOCS,
         list,
         &mut aside,
         &mut nothing,
     )?;
     pipes(
-        alloc,
+        &setting,
         steps,
         &kinds,
         frame,
-        params,
-        &NO_DOCS,
         first,
         &mut aside,
         &mut nothing,
@@ -286,16 +295,12 @@ fn tail_of_hits<'s>(
     }
     let mut aside = Record::new(alloc);
     let mut nothing = ();
-    let kept = keep_lent(
+    let setting = Setting {
         alloc,
-        condition,
-        frame,
         params,
-        &NO_DOCS,
-        docs,
-        &mut aside,
-        &mut nothing,
-    )?;
+        source: &NO_DOCS,
+    };
+    let kept = keep_lent(&setting, condition, frame, docs, &mut aside, &mut nothing)?;
     tail_from(alloc, steps, frame, params, Got::Parts(kept))
 }
 

@@ -17,7 +17,7 @@ ghost use Rattle.cs_window.specs.Windowed.{is_filtered, is_windowed};
 ghost use Rattle.cs_window.specs.Window.{by_order, is_near, keys_at, not_behind, order_keys, order_of, window};
 
 use crate::queries::{NO_DOCS, parts, vals_of};
-use cs_expr::{enter, pipes, rank_each, rank_keys};
+use cs_expr::{Setting, enter, pipes, rank_each, rank_keys};
 use cs_order::{Ranked, first_asked, is_above, pipe_of};
 use cs_parts::{Got, Item, directions, kinds, lend_all, push};
 use cs_past::{are_quiet, compare_parts};
@@ -130,16 +130,12 @@ fn ranked<'k>(
 {
     let mut aside = Record::new(alloc);
     let mut nothing = ();
-    let by = rank_keys(
+    let setting = Setting {
         alloc,
-        order,
-        root,
         params,
-        &NO_DOCS,
-        this,
-        &mut aside,
-        &mut nothing,
-    )?;
+        source: &NO_DOCS,
+    };
+    let by = rank_keys(&setting, order, root, this, &mut aside, &mut nothing)?;
     Ok(Ranked {
         by,
         item: Item::Lent(this),
@@ -163,14 +159,17 @@ fn first_ranked<'k>(
     let items = lent_docs(alloc, docs)?;
     let mut aside = Record::new(alloc);
     let mut nothing = ();
-    rank_each(
+    let setting = Setting {
         alloc,
+        params,
+        source: &NO_DOCS,
+    };
+    rank_each(
+        &setting,
         order,
         &directions,
         Some(limit),
         root,
-        params,
-        &NO_DOCS,
         items,
         &mut aside,
         &mut nothing,
@@ -313,9 +312,12 @@ pub fn tail_over<'s, V: View<L>, L: Ledger>(
     };
     let kinds = kinds(alloc, later)?;
     let list = Got::Parts(vals_of(alloc, hits)?);
-    let first = enter(alloc, later, &kinds, &root, params, view, list, keys, steps)?;
-    let all = pipes(
-        alloc, later, &kinds, &root, params, view, first, keys, steps,
-    )?;
+    let setting = Setting {
+        alloc,
+        params,
+        source: view,
+    };
+    let first = enter(&setting, later, &kinds, &root, list, keys, steps)?;
+    let all = pipes(&setting, later, &kinds, &root, first, keys, steps)?;
     all.into_val(alloc)
 }

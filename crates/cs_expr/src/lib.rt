@@ -4,8 +4,10 @@
 mod calls;
 mod chains;
 mod expressions;
+mod setting;
 mod steps;
 
 pub use chains::{enter, pipes, through};
 pub use expressions::eval;
+pub use setting::Setting;
 pub use steps::{holds, keep_lent, rank_each, rank_into, rank_keys};

@@ -17,6 +17,7 @@ ghost use Rattle.cs_order.specs.Ranked.{ranked as ranked_of};
 ghost use Rattle.cs_parts.specs.Parts.{got, item};
 
 use crate::expressions::{is_met, object, settled};
+use crate::setting::Setting;
 use cs_levels::{InBracket, in_bracket, list_in_order, ordered_elements};
 use cs_meaning::quiet_asks_nothing;
 use cs_order::{Ranked, admit, owned};
@@ -25,37 +26,34 @@ use cs_parts::{
 };
 use cs_past::{are_quiet, is_past};
 use cs_syntax::{Entry, Expr, OrderKey, Step};
-use cs_value::{Fields, NoMemory, Txt, Val};
+use cs_value::{NoMemory, Txt, Val};
 use cs_view::{Record, Scope};
-use std::alloc::Global;
 
 // One step.
 #[cycle(eval)]
 #[tactic(auto, using(crate::proofs::Sets::step), unfolding(cs_syntax::proofs::Open::of_step))]
 pub(crate) fn one_step<'s, S: Source<C>, C>(
-    alloc: Global,
+    setting: &Setting<'s, S>,
     step: &'s Step,
     frame: &Scope<'s>,
-    params: &'s Fields,
-    source: &'s S,
     value: Got<'s>,
     keys: &mut Record,
     count: &mut C,
 ) -> Result<Got<'s>, NoMemory>
-    ensures value { IfOk result (λ g. got g ≡ step_value (S.docs source.now) (fields params.now)
-        (step_of step.now) (scope_of frame.now) (got value.entry)) }
-    ensures keys { OnOk result (keys.new ≡ keys.old ++ step_looked (S.docs source.now) (fields
-        params.now) (step_of step.now) (scope_of frame.now) (got value.entry)) }
+    ensures value { IfOk result (λ g. got g ≡ step_value (S.docs setting.now.source.now) (fields
+        setting.now.params.now) (step_of step.now) (scope_of frame.now) (got value.entry)) }
+    ensures keys { OnOk result (keys.new ≡ keys.old ++ step_looked (S.docs setting.now.source.now)
+        (fields setting.now.params.now) (step_of step.now) (scope_of frame.now) (got value.entry)) }
 {
     match step {
         Step::Attr(name) => Ok(attribute(value, name)),
-        Step::Deref => deref(alloc, value, source, keys, count),
+        Step::Deref => deref(setting.alloc, value, setting.source, keys, count),
         Step::Each => Ok(each(value)),
-        Step::Slice { from, to, closed } => sliced(alloc, value, from, to, *closed),
-        Step::Bracket(inner) => bracketed(alloc, inner, frame, params, source, value, keys, count),
-        Step::Project(list) => project(alloc, list, frame, params, source, value, keys, count),
+        Step::Slice { from, to, closed } => sliced(setting.alloc, value, from, to, *closed),
+        Step::Bracket(inner) => bracketed(setting, inner, frame, value, keys, count),
+        Step::Project(list) => project(setting, list, frame, value, keys, count),
         Step::Pipe { name, keys: order } => ordered(
-            alloc, name, order, None, frame, params, source, value, keys, count,
+            setting, name, order, None, frame, value, keys, count,
         ),
     }
 }
@@ -63,27 +61,25 @@ pub(crate) fn one_step<'s, S: Source<C>, C>(
 // An element, an attribute, or what a condition leaves.
 #[cycle(eval)]
 fn bracketed<'s, S: Source<C>, C>(
-    alloc: Global,
+    setting: &Setting<'s, S>,
     inner: &'s Expr,
     frame: &Scope<'s>,
-    params: &'s Fields,
-    source: &'s S,
     value: Got<'s>,
     keys: &mut Record,
     count: &mut C,
 ) -> Result<Got<'s>, NoMemory>
     ensures value { IfOk result (λ g. got g ≡ in_bracket (bracketed (expression inner.now)) (λ x.
-        is_true_tree (value_of (S.docs source.now) (fields params.now) (expression inner.now) (x ∷
-        (scope_of frame.now)))) (got value.entry)) }
+        is_true_tree (value_of (S.docs setting.now.source.now) (fields setting.now.params.now)
+        (expression inner.now) (x ∷ (scope_of frame.now)))) (got value.entry)) }
     ensures keys { OnOk result (keys.new ≡ keys.old ++ bracket_looked (bracketed (expression
-        inner.now)) (λ x. looked (S.docs source.now) (fields params.now) (expression inner.now) (x
-        ∷ (scope_of frame.now))) (got value.entry)) }
+        inner.now)) (λ x. looked (S.docs setting.now.source.now) (fields setting.now.params.now)
+        (expression inner.now) (x ∷ (scope_of frame.now))) (got value.entry)) }
 {
-    match in_bracket(alloc, inner, value)? {
+    match in_bracket(setting.alloc, inner, value)? {
         InBracket::Given(found) => Ok(found),
         InBracket::Tried(items) => {
-            let kept = keep(alloc, inner, frame, params, source, items, keys, count)?;
-            gather(alloc, kept)
+            let kept = keep(setting, inner, frame, items, keys, count)?;
+            gather(setting.alloc, kept)
         }
     }
 }
@@ -91,25 +87,27 @@ fn bracketed<'s, S: Source<C>, C>(
 // The elements of which the condition is true.
 #[cycle(eval)]
 pub(crate) fn keep<'s, S: Source<C>, C>(
-    alloc: Global,
+    setting: &Setting<'s, S>,
     inner: &'s Expr,
     frame: &Scope<'s>,
-    params: &'s Fields,
-    source: &'s S,
     items: Vec<Item<'s>>,
     keys: &mut Record,
     count: &mut C,
 ) -> Result<Vec<Item<'s>>, NoMemory>
     ensures value { IfOk result (λ v. map item v.items ≡ filter (λ x. is_true_tree (value_of
-        (S.docs source.now) (fields params.now) (expression inner.now) (x ∷ (scope_of frame.now))))
-        (map item items.entry.items)) }
-    ensures keys { OnOk result (keys.new ≡ keys.old ++ flat_map (λ x. looked (S.docs source.now)
-        (fields params.now) (expression inner.now) (x ∷ (scope_of frame.now))) (map item
-        items.entry.items)) }
+        (S.docs setting.now.source.now) (fields setting.now.params.now) (expression inner.now) (x ∷
+        (scope_of frame.now)))) (map item items.entry.items)) }
+    ensures keys { OnOk result (keys.new ≡ keys.old ++ flat_map (λ x. looked (S.docs
+        setting.now.source.now) (fields setting.now.params.now) (expression inner.now) (x ∷
+        (scope_of frame.now))) (map item items.entry.items)) }
 {
-    let mut out = Vec::new(alloc);
+    let mut out = Vec::new(setting.alloc);
     for i in items {
-        if holds(alloc, inner, frame, params, source, i.val(), keys, count)? {
+        let Ok(is_kept) = holds(setting, inner, frame, i.val(), keys, count) else {
+            drop(i);
+            return Err(NoMemory);
+        };
+        if is_kept {
             push(&mut out, i)?;
         } else {
             drop(i);
@@ -121,25 +119,23 @@ pub(crate) fn keep<'s, S: Source<C>, C>(
 /// The borrowed values of which the condition is true.
 #[cycle(eval)]
 pub fn keep_lent<'s, S: Source<C>, C>(
-    alloc: Global,
+    setting: &Setting<'s, S>,
     inner: &'s Expr,
     frame: &Scope<'s>,
-    params: &'s Fields,
-    source: &'s S,
     parts: Vec<&'s Val>,
     keys: &mut Record,
     count: &mut C,
 ) -> Result<Vec<&'s Val>, NoMemory>
     ensures value { IfOk result (λ v. map (λ r. tree r.now) v.items ≡ filter (λ x. is_true_tree
-        (value_of (S.docs source.now) (fields params.now) (expression inner.now)
-        (x ∷ (scope_of frame.now)))) (map (λ r. tree r.now) parts.entry.items)) }
-    ensures keys { OnOk result (keys.new ≡ keys.old ++ flat_map (λ x. looked (S.docs source.now)
-        (fields params.now) (expression inner.now) (x ∷ (scope_of frame.now)))
-        (map (λ r. tree r.now) parts.entry.items)) }
+        (value_of (S.docs setting.now.source.now) (fields setting.now.params.now) (expression
+        inner.now) (x ∷ (scope_of frame.now)))) (map (λ r. tree r.now) parts.entry.items)) }
+    ensures keys { OnOk result (keys.new ≡ keys.old ++ flat_map (λ x. looked (S.docs
+        setting.now.source.now) (fields setting.now.params.now) (expression inner.now) (x ∷
+        (scope_of frame.now))) (map (λ r. tree r.now) parts.entry.items)) }
 {
-    let mut out = Vec::with_capacity(alloc, parts.len())?;
+    let mut out = Vec::with_capacity(setting.alloc, parts.len())?;
     for part in parts {
-        if holds(alloc, inner, frame, params, source, part, keys, count)? {
+        if holds(setting, inner, frame, part, keys, count)? {
             push(&mut out, part)?;
         }
     }
@@ -149,57 +145,58 @@ pub fn keep_lent<'s, S: Source<C>, C>(
 /// Whether the condition is true in the scope of the value in front.
 #[cycle(eval)]
 pub fn holds<S: Source<C>, C>(
-    alloc: Global,
+    setting: &Setting<'_, S>,
     inner: &Expr,
     frame: &Scope<'_>,
-    params: &Fields,
-    source: &S,
     this: &Val,
     keys: &mut Record,
     count: &mut C,
 ) -> Result<bool, NoMemory>
-    ensures value { IfOk result (λ b. b ≡ is_true_tree (value_of (S.docs source.now) (fields
-        params.now) (expression inner.now) (tree this.now ∷ (scope_of frame.now)))) }
-    ensures keys { OnOk result (keys.new ≡ keys.old ++ looked (S.docs source.now) (fields
-        params.now) (expression inner.now) (tree this.now ∷ (scope_of frame.now))) }
+    ensures value { IfOk result (λ b. b ≡ is_true_tree (value_of (S.docs setting.now.source.now)
+        (fields setting.now.params.now) (expression inner.now) (tree this.now ∷ (scope_of
+        frame.now)))) }
+    ensures keys { OnOk result (keys.new ≡ keys.old ++ looked (S.docs setting.now.source.now)
+        (fields setting.now.params.now) (expression inner.now) (tree this.now ∷ (scope_of
+        frame.now))) }
 {
     let near = Scope {
         this,
         parent: Some(frame),
     };
-    is_met(alloc, inner, &near, params, source, keys, count)
+    is_met(&*setting, inner, &near, keys, count)
 }
 
 // The object of these entries in the scope of the object in front.
 #[cycle(eval)]
 #[tactic(auto, using(crate::proofs::Sets::projection))]
 fn project<'s, S: Source<C>, C>(
-    alloc: Global,
+    setting: &Setting<'_, S>,
     list: &[Entry],
     frame: &Scope<'_>,
-    params: &Fields,
-    source: &S,
     value: Got<'_>,
     keys: &mut Record,
     count: &mut C,
 ) -> Result<Got<'s>, NoMemory>
-    ensures value { IfOk result (λ g. got g ≡ projected (entries_pairs (S.docs source.now) (fields
-        params.now) (entries_of (map entry_of list.now)) ((got value.entry) ∷ (scope_of frame.now))
-        no_pairs) (got value.entry)) }
+    ensures value { IfOk result (λ g. got g ≡ projected (entries_pairs (S.docs
+        setting.now.source.now) (fields setting.now.params.now) (entries_of (map entry_of
+        list.now)) ((got value.entry) ∷ (scope_of frame.now)) no_pairs) (got value.entry)) }
     ensures keys { OnOk result (keys.new ≡ keys.old ++ (if is_object_tree (got value.entry) then
-        entries_looked (S.docs source.now) (fields params.now) (entries_of (map entry_of
-        list.now)) ((got value.entry) ∷ (scope_of frame.now)) else [])) }
+        entries_looked (S.docs setting.now.source.now) (fields setting.now.params.now) (entries_of
+        (map entry_of list.now)) ((got value.entry) ∷ (scope_of frame.now)) else [])) }
 {
-    let only = settle(alloc, value)?;
+    let only = settle(setting.alloc, value)?;
     let this = only.val();
     if !is_object(this) {
+        drop(only);
         return Ok(Got::Whole(Val::Null));
     }
     let near = Scope {
         this,
         parent: Some(frame),
     };
-    object(alloc, list, &near, params, source, keys, count)
+    let made = object(setting, list, &near, keys, count);
+    drop(only);
+    made
 }
 
 // A piped call: a list in the order of its elements' keys, which are found once each. The first
@@ -207,41 +204,37 @@ fn project<'s, S: Source<C>, C>(
 #[cycle(eval)]
 #[tactic(auto, using(cs_parts::proofs::Trees::tree_of_null, cs_order::proofs::Enters::first_null))]
 pub(crate) fn ordered<'s, S: Source<C>, C>(
-    alloc: Global,
+    setting: &Setting<'s, S>,
     name: &Txt,
     order: &'s [OrderKey],
     limit: Option<usize>,
     frame: &Scope<'s>,
-    params: &'s Fields,
-    source: &'s S,
     value: Got<'s>,
     keys: &mut Record,
     count: &mut C,
 ) -> Result<Got<'s>, NoMemory>
-    ensures value { IfOk result (λ g. got g ≡ first_elements limit (step_value
-        (S.docs source.now) (fields params.now) (pipe name.now (keys_of (map order_key_of
-        order.now))) (scope_of frame.now) (got value.entry))) }
-    ensures keys { OnOk result (keys.new ≡ keys.old ++ step_looked (S.docs source.now) (fields
-        params.now) (pipe name.now (keys_of (map order_key_of order.now))) (scope_of frame.now) (got
-        value.entry)) }
+    ensures value { IfOk result (λ g. got g ≡ first_elements limit (step_value (S.docs
+        setting.now.source.now) (fields setting.now.params.now) (pipe name.now (keys_of (map
+        order_key_of order.now))) (scope_of frame.now) (got value.entry))) }
+    ensures keys { OnOk result (keys.new ≡ keys.old ++ step_looked (S.docs setting.now.source.now)
+        (fields setting.now.params.now) (pipe name.now (keys_of (map order_key_of order.now)))
+        (scope_of frame.now) (got value.entry)) }
 {
-    let Some(unsorted) = ordered_elements(alloc, name.as_str(), value)? else {
+    let Some(unsorted) = ordered_elements(setting.alloc, name.as_str(), value)? else {
         return Ok(Got::Whole(Val::Null));
     };
-    let directions = directions(alloc, order)?;
+    let directions = directions(setting.alloc, order)?;
     let ranked = rank_each(
-        alloc,
+        &*setting,
         &*order,
         &directions,
         limit,
         &*frame,
-        &*params,
-        &*source,
         unsorted,
         keys,
         count,
     )?;
-    list_in_order(alloc, ranked, &directions, limit)
+    list_in_order(setting.alloc, ranked, &directions, limit)
 }
 
 /// Each element beside the values of its keys, or those alone that are among the first, where there
@@ -250,31 +243,29 @@ pub(crate) fn ordered<'s, S: Source<C>, C>(
 #[cycle(eval)]
 #[tactic(auto, using(cs_order::proofs::Kept::can_keep_none))]
 pub fn rank_each<'k, 's: 'k, S: Source<C>, C>(
-    alloc: Global,
+    setting: &Setting<'k, S>,
     order: &'k [OrderKey],
     directions: &[bool],
     limit: Option<usize>,
     frame: &'k Scope<'k>,
-    params: &'k Fields,
-    source: &'k S,
     items: Vec<Item<'s>>,
     keys: &mut Record,
     count: &mut C,
 ) -> Result<Vec<Ranked<'k, 's>>, NoMemory>
-    ensures value { IfOk result (λ v. map ranked_of v.items ≡ all_kept directions.now limit []
-        (map (ranked (λ x. keys_values (S.docs source.now) (fields params.now) (keys_of (map
-        order_key_of order.now)) (x ∷ (scope_of frame.now)))) (map item items.entry.items))) }
+    ensures value { IfOk result (λ v. map ranked_of v.items ≡ all_kept directions.now limit [] (map
+        (ranked (λ x. keys_values (S.docs setting.now.source.now) (fields setting.now.params.now)
+        (keys_of (map order_key_of order.now)) (x ∷ (scope_of frame.now)))) (map item
+        items.entry.items))) }
     ensures keys { OnOk result (keys.new ≡ keys.old ++ flat_map (λ x. keys_looked (S.docs
-        source.now) (fields params.now) (keys_of (map order_key_of order.now)) (x ∷ (scope_of
-        frame.now))) (map item items.entry.items)) }
+        setting.now.source.now) (fields setting.now.params.now) (keys_of (map order_key_of
+        order.now)) (x ∷ (scope_of frame.now))) (map item items.entry.items)) }
 {
     // Where a key may look something up, each element's keys are found, since the record has them.
     let silent = are_quiet(order);
-    let mut kept = Vec::new(alloc);
+    let mut kept = Vec::new(setting.alloc);
     for i in items {
         rank_into(
-            alloc, order, directions, limit, silent, frame, params, source, i, &mut kept, keys,
-            count,
+            setting, order, directions, limit, silent, frame, i, &mut kept, keys, count,
         )?;
     }
     Ok(kept)
@@ -286,14 +277,12 @@ pub fn rank_each<'k, 's: 'k, S: Source<C>, C>(
 /// `NoMemory` where the allocator has no room for a value or for the element.
 #[cycle(eval)]
 pub fn rank_into<'k, 's: 'k, S: Source<C>, C>(
-    alloc: Global,
+    setting: &Setting<'k, S>,
     order: &'k [OrderKey],
     directions: &[bool],
     limit: Option<usize>,
     silent: bool,
     frame: &'k Scope<'k>,
-    params: &'k Fields,
-    source: &'k S,
     one: Item<'s>,
     kept: &mut Vec<Ranked<'k, 's>>,
     keys: &mut Record,
@@ -302,18 +291,20 @@ pub fn rank_into<'k, 's: 'k, S: Source<C>, C>(
     requires silent { silent ≡ true → quiet_keys (keys_of (map order_key_of order.now)) ≡ true }
     requires can { CanKeep directions.now limit (map ranked_of kept.now.items) }
     ensures kept { OnOk result (map ranked_of kept.new.items ≡ kept_with directions.now limit
-        (ranked (λ x. keys_values (S.docs source.now) (fields params.now) (keys_of (map
-        order_key_of order.now)) (x ∷ (scope_of frame.now))) (item one.entry))
-        (map ranked_of kept.old.items)) }
+        (ranked (λ x. keys_values (S.docs setting.now.source.now) (fields setting.now.params.now)
+        (keys_of (map order_key_of order.now)) (x ∷ (scope_of frame.now))) (item one.entry)) (map
+        ranked_of kept.old.items)) }
     ensures can { OnOk result (CanKeep directions.now limit (map ranked_of kept.new.items)) }
-    ensures keys { OnOk result (keys.new ≡ keys.old ++ keys_looked (S.docs source.now) (fields
-        params.now) (keys_of (map order_key_of order.now)) (item one.entry ∷ scope_of frame.now)) }
+    ensures keys { OnOk result (keys.new ≡ keys.old ++ keys_looked (S.docs setting.now.source.now)
+        (fields setting.now.params.now) (keys_of (map order_key_of order.now)) (item one.entry ∷
+        scope_of frame.now)) }
 {
     quiet_asks_nothing();
     if silent && is_past(directions, order, limit, frame, one.val(), kept) {
+        drop(one);
         return Ok(());
     }
-    let one = rank_one(alloc, order, frame, params, source, one, keys, count)?;
+    let one = rank_one(setting, order, frame, one, keys, count)?;
     admit(kept, one, directions, limit)
 }
 
@@ -321,33 +312,29 @@ pub fn rank_into<'k, 's: 'k, S: Source<C>, C>(
 // the element is moved.
 #[cycle(eval)]
 fn rank_one<'k, 's: 'k, S: Source<C>, C>(
-    alloc: Global,
+    setting: &Setting<'k, S>,
     order: &'k [OrderKey],
     frame: &'k Scope<'k>,
-    params: &'k Fields,
-    source: &'k S,
     one: Item<'s>,
     keys: &mut Record,
     count: &mut C,
 ) -> Result<Ranked<'k, 's>, NoMemory>
-    ensures value { IfOk result (λ r. ranked_of r ≡ ranked (λ x. keys_values (S.docs source.now)
-        (fields params.now) (keys_of (map order_key_of order.now)) (x ∷ (scope_of frame.now)))
-        (item one.entry)) }
-    ensures keys { OnOk result (keys.new ≡ keys.old ++ keys_looked (S.docs source.now) (fields
-        params.now) (keys_of (map order_key_of order.now))
-        (item one.entry ∷ scope_of frame.now)) }
+    ensures value { IfOk result (λ r. ranked_of r ≡ ranked (λ x. keys_values (S.docs
+        setting.now.source.now) (fields setting.now.params.now) (keys_of (map order_key_of
+        order.now)) (x ∷ (scope_of frame.now))) (item one.entry)) }
+    ensures keys { OnOk result (keys.new ≡ keys.old ++ keys_looked (S.docs setting.now.source.now)
+        (fields setting.now.params.now) (keys_of (map order_key_of order.now)) (item one.entry ∷
+        scope_of frame.now)) }
 {
     match one {
         Item::Lent(val) => Ok(Ranked {
-            by: rank_keys(alloc, order, frame, params, source, val, keys, count)?,
+            by: rank_keys(setting, order, frame, val, keys, count)?,
             item: Item::Lent(val),
         }),
         Item::Made(val) => {
-            let by = rank_keys(
-                alloc, &*order, &*frame, &*params, &*source, &val, keys, count,
-            )?;
+            let by = rank_keys(&*setting, &*order, &*frame, &val, keys, count)?;
             Ok(Ranked {
-                by: owned(alloc, by)?,
+                by: owned(setting.alloc, by)?,
                 item: Item::Made(val),
             })
         }
@@ -358,49 +345,49 @@ fn rank_one<'k, 's: 'k, S: Source<C>, C>(
 /// up.
 #[cycle(eval)]
 pub fn rank_keys<'k, S: Source<C>, C>(
-    alloc: Global,
+    setting: &Setting<'k, S>,
     order: &'k [OrderKey],
     frame: &'k Scope<'k>,
-    params: &'k Fields,
-    source: &'k S,
     this: &'k Val,
     keys: &mut Record,
     count: &mut C,
 ) -> Result<Vec<Item<'k>>, NoMemory>
-    ensures value { IfOk result (λ v. map item v.items ≡ keys_values (S.docs source.now) (fields
-        params.now) (keys_of (map order_key_of order.now)) (tree this.now ∷ (scope_of frame.now))) }
-    ensures keys { OnOk result (keys.new ≡ keys.old ++ keys_looked (S.docs source.now) (fields
-        params.now) (keys_of (map order_key_of order.now)) (tree this.now ∷ (scope_of frame.now))) }
+    ensures value { IfOk result (λ v. map item v.items ≡ keys_values (S.docs
+        setting.now.source.now) (fields setting.now.params.now) (keys_of (map order_key_of
+        order.now)) (tree this.now ∷ (scope_of frame.now))) }
+    ensures keys { OnOk result (keys.new ≡ keys.old ++ keys_looked (S.docs setting.now.source.now)
+        (fields setting.now.params.now) (keys_of (map order_key_of order.now)) (tree this.now ∷
+        (scope_of frame.now))) }
 {
     let near = Scope {
         this,
         parent: Some(frame),
     };
-    order_keys(alloc, order, &near, params, source, keys, count)
+    order_keys(setting, order, &near, keys, count)
 }
 
 // The values of an order's keys.
 #[cycle(eval)]
 #[tactic(auto, using(cs_syntax::proofs::Views::key_seen))]
 fn order_keys<'k, S: Source<C>, C>(
-    alloc: Global,
+    setting: &Setting<'k, S>,
     order: &'k [OrderKey],
     frame: &Scope<'k>,
-    params: &'k Fields,
-    source: &'k S,
     keys: &mut Record,
     count: &mut C,
 ) -> Result<Vec<Item<'k>>, NoMemory>
-    ensures value { IfOk result (λ v. map item v.items ≡ keys_values (S.docs source.now) (fields
-        params.now) (keys_of (map order_key_of order.now)) (scope_of frame.now)) }
-    ensures keys { OnOk result (keys.new ≡ keys.old ++ keys_looked (S.docs source.now) (fields
-        params.now) (keys_of (map order_key_of order.now)) (scope_of frame.now)) }
+    ensures value { IfOk result (λ v. map item v.items ≡ keys_values (S.docs
+        setting.now.source.now) (fields setting.now.params.now) (keys_of (map order_key_of
+        order.now)) (scope_of frame.now)) }
+    ensures keys { OnOk result (keys.new ≡ keys.old ++ keys_looked (S.docs setting.now.source.now)
+        (fields setting.now.params.now) (keys_of (map order_key_of order.now)) (scope_of
+        frame.now)) }
 {
-    let mut out = Vec::with_capacity(alloc, order.len())?;
+    let mut out = Vec::with_capacity(setting.alloc, order.len())?;
     let mut behind = order;
     while let Some((first, later)) = behind.split_first() {
-        let key = settled(alloc, &first.key, frame, params, source, keys, count)?;
-        push(&mut out, key.made_if_small(alloc)?)?;
+        let key = settled(setting, &first.key, frame, keys, count)?;
+        push(&mut out, key.made_if_small(setting.alloc)?)?;
         behind = later;
     }
     Ok(out)

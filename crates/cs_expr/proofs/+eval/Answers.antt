@@ -33,7 +33,7 @@ use Rattle.cs_parts.proofs.Trees.{tree_of_null}
 use Rattle.cs_expr.specs.Choosing.{chosen, chosen_looked}
 use Rattle.cs_expr.proofs.Calling.{none_left, selected_here, selected_looks_here, selected_on, selected_looks_on, chosen_weight, within_path, within_list, path_looked, path_weight}
 use Rattle.cs_past.proofs.Keyed.{keys_values_more}
-use Rattle.cs_expr.proofs.Sorting.{keys_looked_more, keys_weight_more, ordered_list, pushed_values}
+use Rattle.cs_expr.proofs.Sorting.{keys_looked_more, keys_weight_more, ordered_list, ordered_looks, pushed_values}
 use Rattle.cs_expr.proofs.Starting.{array_enters, array_looks, array_fits, entering_weight, starting_fits, step_looks, base_enters, base_looks, no_pipe_value, no_pipe_looks, pipe_weight, pipe_turn_value, pipe_turn_looks}
 use Rattle.cs_expr.proofs.Nodes.{entry_left_looks, entry_met_looks, entry_taken_looks}
 use Rattle.cs_expr.proofs.Answered.{on_ok, run_parts, run_keys, one_after_another, pipe_parts, kept_docs, kept_keys, star_value, star_looked, is_everything_then, kind_behind, kinds_behind, step_looks_on}
@@ -64,8 +64,8 @@ expressions::eval-run-requires g t c κs within =
 
 pub expressions::eval-returns-in_ok-left-in-Run-clause-keys : goal.expressions::eval-returns-in_ok-left-in-Run-clause-keys
 expressions::eval-returns-in_ok-left-in-Run-clause-keys g t c =
-    let docs = g.S.Source.docs c.args.source.now in
-    let ps = fields c.args.params.now in
+    let docs = g.S.Source.docs c.args.setting.now.source.now in
+    let ps = fields c.args.setting.now.params.now in
     let sc = scope_of c.args.frame.now in
     let b = expression c.deref-in-Run.result.now in
     let xs = operands_of (operands c.deref-in-Run-2.result.now) in
@@ -79,8 +79,8 @@ expressions::eval-returns-in_ok-left-in-Run-clause-keys g t c =
 
 pub steps::one_step-returns-in-Pipe-clause-value : goal.steps::one_step-returns-in-Pipe-clause-value
 steps::one_step-returns-in-Pipe-clause-value g t c =
-    let docs = g.S.Source.docs c.args.source.now in
-    let ps = fields c.args.params.now in
+    let docs = g.S.Source.docs c.args.setting.now.source.now in
+    let ps = fields c.args.setting.now.params.now in
     let sc = scope_of c.args.frame.now in
     subst (λ (y : Tree). IfOk c.ordered.result (λ g'. got g' ≡ y))
     (ap (λ (s : Step). step_value docs ps s sc (got c.args.value)) (pipe_parts c.args.step.now c.in-Pipe.name c.in-Pipe.order c.deref-in-Pipe.result.now c.in-Pipe.is c.deref-in-Pipe.ensures.value))
@@ -88,8 +88,8 @@ steps::one_step-returns-in-Pipe-clause-value g t c =
 
 pub calls::select-eval-requires : goal.calls::select-eval-requires
 calls::select-eval-requires g t c κs within =
-    let docs = g.S.Source.docs c.args.source.now in
-    let ps = fields c.args.params.now in
+    let docs = g.S.Source.docs c.args.setting.now.source.now in
+    let ps = fields c.args.setting.now.params.now in
     let sc = scope_of c.args.frame.now in
     let l = c.loop-first in
     let is = c.in-Some.ensures.cases.0 in
@@ -102,8 +102,8 @@ calls::select-eval-requires g t c κs within =
 
 pub calls::select-returns-in-Some-2-clause-value : goal.calls::select-returns-in-Some-2-clause-value
 calls::select-returns-in-Some-2-clause-value g t c =
-    let docs = g.S.Source.docs c.args.source.now in
-    let ps = fields c.args.params.now in
+    let docs = g.S.Source.docs c.args.setting.now.source.now in
+    let ps = fields c.args.setting.now.params.now in
     let sc = scope_of c.args.frame.now in
     let l = c.loop-first in
     let is = c.in-Some.ensures.cases.0 in
@@ -117,8 +117,8 @@ calls::select-returns-in-Some-2-clause-value g t c =
 
 pub calls::select-returns-in-Some-2-clause-keys : goal.calls::select-returns-in-Some-2-clause-keys
 calls::select-returns-in-Some-2-clause-keys g t c =
-    let docs = g.S.Source.docs c.args.source.now in
-    let ps = fields c.args.params.now in
+    let docs = g.S.Source.docs c.args.setting.now.source.now in
+    let ps = fields c.args.setting.now.params.now in
     let sc = scope_of c.args.frame.now in
     let l = c.loop-first in
     let is = c.in-Some.ensures.cases.0 in
@@ -134,8 +134,8 @@ calls::select-returns-in-Some-2-clause-keys g t c =
 
 pub calls::select-loop-first-preserved : goal.calls::select-loop-first-preserved
 calls::select-loop-first-preserved g t c =
-    let docs = g.S.Source.docs c.args.source.now in
-    let ps = fields c.args.params.now in
+    let docs = g.S.Source.docs c.args.setting.now.source.now in
+    let ps = fields c.args.setting.now.params.now in
     let sc = scope_of c.args.frame.now in
     let l = c.loop-first in
     let is = c.in-Some.ensures.cases.0 in
@@ -153,8 +153,8 @@ calls::select-loop-first-preserved g t c =
 
 pub calls::select-returns-clause-value : goal.calls::select-returns-clause-value
 calls::select-returns-clause-value g t c =
-    let docs = g.S.Source.docs c.args.source.now in
-    let ps = fields c.args.params.now in
+    let docs = g.S.Source.docs c.args.setting.now.source.now in
+    let ps = fields c.args.setting.now.params.now in
     let sc = scope_of c.args.frame.now in
     let l = c.loop-first in
     tree_of_null ∙ (ap (λ (ys : List CodeArg). selected docs ps (arguments_of (map argument_of ys)) sc) (sym (none_left l.behind.now c.in_default.ensures.cases)) ∙ l.invariant.value)
@@ -174,10 +174,10 @@ expressions::within-arguments-requires g t c κs within =
     let w : weight right ≡ 9 + arguments_weight xs = path_weight right xs h in
     (omega (arith, w), within)
 
-pub expressions::within-returns-in_ok-values-in-Some-clause-value : goal.expressions::within-returns-in_ok-values-in-Some-clause-value
-expressions::within-returns-in_ok-values-in-Some-clause-value g t c =
-    let docs = g.S.Source.docs c.args.source.now in
-    let ps = fields c.args.params.now in
+pub expressions::within-returns-in-Ok-clause-value : goal.expressions::within-returns-in-Ok-clause-value
+expressions::within-returns-in-Ok-clause-value g t c =
+    let docs = g.S.Source.docs c.args.setting.now.source.now in
+    let ps = fields c.args.setting.now.params.now in
     let sc = scope_of c.args.frame.now in
     let left = expression c.args.left.now in
     let right = expression c.args.right.now in
@@ -185,35 +185,35 @@ expressions::within-returns-in_ok-values-in-Some-clause-value g t c =
     let here = item c.in_ok-here.here in
     let h : path_arguments right ≡ Some xs = sym c.path_arguments.ensures ∙ ap (λ o. option_map (λ ys. arguments_of (map argument_of ys.now)) o) c.in-Some.is in
     subst (λ (y : Tree). IfOk c.matches_path.result (λ g'. got g' ≡ y))
-    (ap (λ (us : List Tree). in_path here (sole us)) c.in_ok-values-in-Some.ensures.value
+    (ap (λ (us : List Tree). in_path here (sole us)) c.in-Ok.ensures.value
     ∙ within_path docs ps left right sc xs here c.in_ok-here.ensures.value h)
     c.matches_path.ensures
 
-pub expressions::within-returns-in_ok-values-in-Some-clause-keys : goal.expressions::within-returns-in_ok-values-in-Some-clause-keys
-expressions::within-returns-in_ok-values-in-Some-clause-keys g t c =
-    let docs = g.S.Source.docs c.args.source.now in
-    let ps = fields c.args.params.now in
+pub expressions::within-returns-in-Ok-clause-keys : goal.expressions::within-returns-in-Ok-clause-keys
+expressions::within-returns-in-Ok-clause-keys g t c =
+    let docs = g.S.Source.docs c.args.setting.now.source.now in
+    let ps = fields c.args.setting.now.params.now in
     let sc = scope_of c.args.frame.now in
     let left = expression c.args.left.now in
     let right = expression c.args.right.now in
     let xs = arguments_of (map argument_of c.in-Some.args.now) in
     let h : path_arguments right ≡ Some xs = sym c.path_arguments.ensures ∙ ap (λ o. option_map (λ ys. arguments_of (map argument_of ys.now)) o) c.in-Some.is in
     on_ok c.matches_path.result
-    (c.in_ok-values-in-Some.ensures.keys
+    (c.in-Ok.ensures.keys
     ∙ one_after_another c.args.keys.now c.settled.new.keys (looked docs ps left sc ++ looked docs ps right sc) (looked docs ps left sc) (arguments_looked docs ps xs sc) c.in_ok-here.ensures.keys
     (ap (λ (ks : List Key). looked docs ps left sc ++ ks) (path_looked docs ps right sc xs h)))
 
-pub expressions::within-returns-in_ok-list-in-None-clause-value : goal.expressions::within-returns-in_ok-list-in-None-clause-value
-expressions::within-returns-in_ok-list-in-None-clause-value g t c =
-    let docs = g.S.Source.docs c.args.source.now in
-    let ps = fields c.args.params.now in
+pub expressions::within-returns-in-Ok-eval-clause-value : goal.expressions::within-returns-in-Ok-eval-clause-value
+expressions::within-returns-in-Ok-eval-clause-value g t c =
+    let docs = g.S.Source.docs c.args.setting.now.source.now in
+    let ps = fields c.args.setting.now.params.now in
     let sc = scope_of c.args.frame.now in
     let left = expression c.args.left.now in
     let right = expression c.args.right.now in
     let h : path_arguments right ≡ None = sym c.path_arguments.ensures ∙ ap (λ o. option_map (λ ys. arguments_of (map argument_of ys.now)) o) c.in-None.is in
     c.is_among.ensures ∙ within_list docs ps left right sc (item c.in_ok-here.here)
-    (got c.in_ok-list-in-None.list) c.in_ok-here.ensures.value
-    c.in_ok-list-in-None.ensures.value h
+    (got c.in-Ok-eval.list) c.in_ok-here.ensures.value
+    c.in-Ok-eval.ensures.value h
 
 pub steps::one_step-ordered-requires : goal.steps::one_step-ordered-requires
 steps::one_step-ordered-requires g t c κs within =
@@ -223,8 +223,8 @@ steps::one_step-ordered-requires g t c κs within =
 
 pub chains::climb-loop-levels-init : goal.chains::climb-loop-levels-init
 chains::climb-loop-levels-init g t c =
-    let docs = g.S.Source.docs c.args.source.now in
-    let ps = fields c.args.params.now in
+    let docs = g.S.Source.docs c.args.setting.now.source.now in
+    let ps = fields c.args.setting.now.params.now in
     let sc = scope_of c.args.frame.now in
     record {
       value = first_value docs ps sc c.args.first c.new-levels.result.items
@@ -239,8 +239,8 @@ chains::climb-loop-levels-init g t c =
 -- what waits, where a value goes through a rest next
 pub chains::climb-loop-levels-preserved : goal.chains::climb-loop-levels-preserved
 chains::climb-loop-levels-preserved g t c =
-    let docs = g.S.Source.docs c.args.source.now in
-    let ps = fields c.args.params.now in
+    let docs = g.S.Source.docs c.args.setting.now.source.now in
+    let ps = fields c.args.setting.now.params.now in
     let sc = scope_of c.args.frame.now in
     let l = c.loop-levels in
     let ws = levels_waiting c.next_task.new.levels.items in
@@ -264,8 +264,8 @@ chains::climb-loop-levels-preserved g t c =
 
 pub chains::climb-loop-levels-smaller : goal.chains::climb-loop-levels-smaller
 chains::climb-loop-levels-smaller g t c =
-    let docs = g.S.Source.docs c.args.source.now in
-    let ps = fields c.args.params.now in
+    let docs = g.S.Source.docs c.args.setting.now.source.now in
+    let ps = fields c.args.setting.now.params.now in
     let sc = scope_of c.args.frame.now in
     let l = c.loop-levels in
     let ws = levels_waiting c.next_task.new.levels.items in
@@ -277,8 +277,8 @@ chains::climb-loop-levels-smaller g t c =
 
 pub chains::climb-returns-in-Done-clause-value : goal.chains::climb-returns-in-Done-clause-value
 chains::climb-returns-in-Done-clause-value g t c =
-    let docs = g.S.Source.docs c.args.source.now in
-    let ps = fields c.args.params.now in
+    let docs = g.S.Source.docs c.args.setting.now.source.now in
+    let ps = fields c.args.setting.now.params.now in
     let sc = scope_of c.args.frame.now in
     let l = c.loop-levels in
     let rest = rest_of docs ps sc in
@@ -288,8 +288,8 @@ chains::climb-returns-in-Done-clause-value g t c =
 
 pub chains::climb-returns-in-Done-clause-keys : goal.chains::climb-returns-in-Done-clause-keys
 chains::climb-returns-in-Done-clause-keys g t c =
-    let docs = g.S.Source.docs c.args.source.now in
-    let ps = fields c.args.params.now in
+    let docs = g.S.Source.docs c.args.setting.now.source.now in
+    let ps = fields c.args.setting.now.params.now in
     let sc = scope_of c.args.frame.now in
     let l = c.loop-levels in
     let old = reached_waiting l.here ++ levels_waiting l.levels.items in
@@ -301,30 +301,30 @@ chains::climb-returns-in-Done-clause-keys g t c =
 pub expressions::is_met-returns-in-Some-clause-value :
     goal.expressions::is_met-returns-in-Some-clause-value
 expressions::is_met-returns-in-Some-clause-value g t c =
-    c.is_true.ensures ∙ ap is_true (c.in-Some.ensures.value (g.S.Source.docs c.args.source.now))
+    c.is_true.ensures ∙ ap is_true (c.in-Some.ensures.value (g.S.Source.docs c.args.setting.now.source.now))
 
 pub expressions::is_met-returns-in-Some-clause-keys :
     goal.expressions::is_met-returns-in-Some-clause-keys
 expressions::is_met-returns-in-Some-clause-keys g t c =
     sym (ap (λ (ks : List Key). c.args.keys.now ++ ks)
-    (c.in-Some.ensures.quiet (g.S.Source.docs c.args.source.now)) ∙ append-nil c.args.keys.now)
+    (c.in-Some.ensures.quiet (g.S.Source.docs c.args.setting.now.source.now)) ∙ append-nil c.args.keys.now)
 
 pub expressions::settled-returns-in-Some-clause-value :
     goal.expressions::settled-returns-in-Some-clause-value
 expressions::settled-returns-in-Some-clause-value g t c =
-    c.in-Some.ensures.value (g.S.Source.docs c.args.source.now) (fields c.args.params.now)
+    c.in-Some.ensures.value (g.S.Source.docs c.args.setting.now.source.now) (fields c.args.setting.now.params.now)
 
 pub expressions::settled-returns-in-Some-clause-keys :
     goal.expressions::settled-returns-in-Some-clause-keys
 expressions::settled-returns-in-Some-clause-keys g t c =
     sym (ap (λ (ks : List Key). c.args.keys.now ++ ks)
-    (c.in-Some.ensures.quiet (g.S.Source.docs c.args.source.now) (fields c.args.params.now))
+    (c.in-Some.ensures.quiet (g.S.Source.docs c.args.setting.now.source.now) (fields c.args.setting.now.params.now))
     ∙ append-nil c.args.keys.now)
 
 pub steps::order_keys-loop-first-preserved : goal.steps::order_keys-loop-first-preserved
 steps::order_keys-loop-first-preserved g t c =
-    let docs = g.S.Source.docs c.args.source.now in
-    let ps = fields c.args.params.now in
+    let docs = g.S.Source.docs c.args.setting.now.source.now in
+    let ps = fields c.args.setting.now.params.now in
     let sc = scope_of c.args.frame.now in
     let l = c.loop-first in
     let is = c.in-Some.ensures.cases.0 in
@@ -343,8 +343,8 @@ steps::order_keys-loop-first-preserved g t c =
 
 pub steps::rank_into-returns-then-is_past-clause-kept : goal.steps::rank_into-returns-then-is_past-clause-kept
 steps::rank_into-returns-then-is_past-clause-kept g t c =
-    let docs = g.S.Source.docs c.args.source.now in
-    let ps = fields c.args.params.now in
+    let docs = g.S.Source.docs c.args.setting.now.source.now in
+    let ps = fields c.args.setting.now.params.now in
     let sc = scope_of c.args.frame.now in
     let ks = keys_of (map order_key_of c.args.order.now) in
     let ds = c.args.directions.now in
@@ -360,13 +360,13 @@ pub steps::rank_into-returns-then-is_past-clause-keys : goal.steps::rank_into-re
 steps::rank_into-returns-then-is_past-clause-keys g t c =
     let ks = keys_of (map order_key_of c.args.order.now) in
     sym (ap (λ (xs : List Key). c.args.keys.now ++ xs)
-    (keys_quiet c.quiet_asks_nothing.ensures (g.S.Source.docs c.args.source.now) (fields c.args.params.now) ks (item c.args.one ∷ scope_of c.args.frame.now) (c.requires.silent c.if-silent.true))
+    (keys_quiet c.quiet_asks_nothing.ensures (g.S.Source.docs c.args.setting.now.source.now) (fields c.args.setting.now.params.now) ks (item c.args.one ∷ scope_of c.args.frame.now) (c.requires.silent c.if-silent.true))
     ∙ append-nil c.args.keys.now)
 
 pub steps::ordered-returns-clause-value : goal.steps::ordered-returns-clause-value
 steps::ordered-returns-clause-value g t c =
-    let docs = g.S.Source.docs c.args.source.now in
-    let ps = fields c.args.params.now in
+    let docs = g.S.Source.docs c.args.setting.now.source.now in
+    let ps = fields c.args.setting.now.params.now in
     let sc = scope_of c.args.frame.now in
     let ks = keys_of (map order_key_of c.args.order.now) in
     let ts = map item c.in-Some.unsorted.items in
@@ -383,10 +383,24 @@ steps::ordered-returns-clause-value g t c =
     (c.deref-2.ensures.value ∙ c.in_ok-directions.ensures)))
     c.list_in_order.ensures
 
+pub steps::ordered-returns-clause-keys : goal.steps::ordered-returns-clause-keys
+steps::ordered-returns-clause-keys g t c =
+    let docs = g.S.Source.docs c.args.setting.now.source.now in
+    let ps = fields c.args.setting.now.params.now in
+    let sc = scope_of c.args.frame.now in
+    let ks = keys_of (map order_key_of c.args.order.now) in
+    let ts = map item c.in-Some.unsorted.items in
+    on_ok c.list_in_order.result
+    (c.in_ok-ranked.ensures.keys
+    ∙ ap (λ (xs : List Key). c.args.keys.now ++ xs)
+    (ordered_looks docs ps c.args.name.now ks sc (got c.args.value) ts
+    (sym (ap (λ (n : List ℕ). cond (is_order_name n) (as_list (got c.args.value)) None) c.as_str.ensures)
+    ∙ (sym c.in_ok-unsorted.ensures ∙ ap (λ o. option_map (λ v. map item v.items) o) c.in-Some.is))))
+
 pub chains::trail-returns-clause-value : goal.chains::trail-returns-clause-value
 chains::trail-returns-clause-value g t c =
     IfOk-weaker c.follow.result _ _
-    (λ u h. trail_value (g.S.Source.docs c.args.source.now) (fields c.args.params.now)
+    (λ u h. trail_value (g.S.Source.docs c.args.setting.now.source.now) (fields c.args.setting.now.params.now)
     (expression c.args.base.now) (steps_of (map step_of c.args.steps.now))
     (scope_of c.args.frame.now) (got c.in_ok-value.value) (got u) c.requires.trail c.requires.single
     c.in_ok-value.ensures.value h)
@@ -395,7 +409,7 @@ chains::trail-returns-clause-value g t c =
 pub chains::trail-returns-clause-keys : goal.chains::trail-returns-clause-keys
 chains::trail-returns-clause-keys g t c =
     on_ok_weaker c.follow.result
-    (λ h. trail_keys (g.S.Source.docs c.args.source.now) (fields c.args.params.now)
+    (λ h. trail_keys (g.S.Source.docs c.args.setting.now.source.now) (fields c.args.setting.now.params.now)
     (expression c.args.base.now) (steps_of (map step_of c.args.steps.now))
     (scope_of c.args.frame.now) (got c.in_ok-value.value) c.args.keys.now c.eval.new.keys
     c.follow.new.keys c.requires.trail c.requires.single c.in_ok-value.ensures.value
@@ -404,8 +418,8 @@ chains::trail-returns-clause-keys g t c =
 
 pub chains::start-returns-in-Some-clause-value : goal.chains::start-returns-in-Some-clause-value
 chains::start-returns-in-Some-clause-value g t c =
-    let docs = g.S.Source.docs c.args.source.now in
-    let ps = fields c.args.params.now in
+    let docs = g.S.Source.docs c.args.setting.now.source.now in
+    let ps = fields c.args.setting.now.params.now in
     let sc = scope_of c.args.frame.now in
     let e = expression c.in-Some.condition.now in
     let found = map (λ r. tree r.now) c.in_ok-found.found.items in
@@ -422,8 +436,8 @@ chains::start-returns-in-Some-clause-value g t c =
 
 pub chains::start-returns-in-Some-clause-keys : goal.chains::start-returns-in-Some-clause-keys
 chains::start-returns-in-Some-clause-keys g t c =
-    let docs = g.S.Source.docs c.args.source.now in
-    let ps = fields c.args.params.now in
+    let docs = g.S.Source.docs c.args.setting.now.source.now in
+    let ps = fields c.args.setting.now.params.now in
     let sc = scope_of c.args.frame.now in
     let b = expression c.args.base.now in
     let e = expression c.in-Some.condition.now in
@@ -445,7 +459,7 @@ chains::start-returns-in-Some-clause-keys g t c =
 
 pub chains::start-returns-clause-value : goal.chains::start-returns-clause-value
 chains::start-returns-clause-value g t c =
-    base_enters (g.S.Source.docs c.args.source.now) (fields c.args.params.now)
+    base_enters (g.S.Source.docs c.args.setting.now.source.now) (fields c.args.setting.now.params.now)
     (scope_of c.args.frame.now) (expression c.args.base.now) c.entering-2.result
     c.base_entrance-entrance.result c.first_kind-2.result c.in_ok-value.value c.args.rest
     c.entering-2.ensures c.base_entrance-entrance.ensures c.first_kind-2.ensures c.requires
@@ -453,7 +467,7 @@ chains::start-returns-clause-value g t c =
 
 pub chains::start-returns-clause-keys : goal.chains::start-returns-clause-keys
 chains::start-returns-clause-keys g t c =
-    base_looks (g.S.Source.docs c.args.source.now) (fields c.args.params.now)
+    base_looks (g.S.Source.docs c.args.setting.now.source.now) (fields c.args.setting.now.params.now)
     (scope_of c.args.frame.now) (expression c.args.base.now) c.entering-2.result
     c.base_entrance-entrance.result c.first_kind-2.result c.in_ok-value.value c.args.rest
     c.args.keys.now c.eval.new.keys c.entering-2.ensures c.base_entrance-entrance.ensures
@@ -504,8 +518,8 @@ chains::pipes-loop-pipe-smaller g t c =
 
 pub chains::pipes-loop-pipe-preserved : goal.chains::pipes-loop-pipe-preserved
 chains::pipes-loop-pipe-preserved g t c =
-    let docs = g.S.Source.docs c.args.source.now in
-    let ps = fields c.args.params.now in
+    let docs = g.S.Source.docs c.args.setting.now.source.now in
+    let ps = fields c.args.setting.now.params.now in
     let sc = scope_of c.args.frame.now in
     let l = c.loop-pipe in
     let pipe = c.in-Some.pipe in
@@ -541,7 +555,7 @@ chains::pipes-loop-pipe-preserved g t c =
 pub chains::pipes-returns-clause-value : goal.chains::pipes-returns-clause-value
 chains::pipes-returns-clause-value g t c =
     let l = c.loop-pipe in
-    sym (no_pipe_value (g.S.Source.docs c.args.source.now) (fields c.args.params.now)
+    sym (no_pipe_value (g.S.Source.docs c.args.setting.now.source.now) (fields c.args.setting.now.params.now)
     (steps_in l.left) (scope_of c.args.frame.now) (got l.here) c.in_default.ensures.none)
     ∙ l.invariant.value
 
@@ -549,14 +563,14 @@ pub chains::pipes-returns-clause-keys : goal.chains::pipes-returns-clause-keys
 chains::pipes-returns-clause-keys g t c =
     let l = c.loop-pipe in
     sym (append-nil l.keys) ∙ (ap (λ (ks : List Key). l.keys ++ ks)
-    (sym (no_pipe_looks (g.S.Source.docs c.args.source.now) (fields c.args.params.now)
+    (sym (no_pipe_looks (g.S.Source.docs c.args.setting.now.source.now) (fields c.args.setting.now.params.now)
     (steps_in l.left) (scope_of c.args.frame.now) (got l.here) c.in_default.ensures.none))
     ∙ l.invariant.keys)
 
 pub expressions::one_entry-returns-then-not-branch-clause-keys : goal.expressions::one_entry-returns-then-not-branch-clause-keys
 expressions::one_entry-returns-then-not-branch-clause-keys g t c =
-    let docs = g.S.Source.docs c.args.source.now in
-    let ps = fields c.args.params.now in
+    let docs = g.S.Source.docs c.args.setting.now.source.now in
+    let ps = fields c.args.setting.now.params.now in
     let sc = scope_of c.args.frame.now in
     let e = expression c.in-Some.condition.now in
     c.in_ok-is_met.ensures.keys ∙ ap (λ (ks : List Key). c.args.keys.now ++ ks)
@@ -566,8 +580,8 @@ expressions::one_entry-returns-then-not-branch-clause-keys g t c =
 
 pub expressions::one_entry-returns-clause-keys : goal.expressions::one_entry-returns-clause-keys
 expressions::one_entry-returns-clause-keys g t c =
-    let docs = g.S.Source.docs c.args.source.now in
-    let ps = fields c.args.params.now in
+    let docs = g.S.Source.docs c.args.setting.now.source.now in
+    let ps = fields c.args.setting.now.params.now in
     let sc = scope_of c.args.frame.now in
     let x = entry_of c.args.entry.now in
     let e = expression c.entry_expr-expr.result.now in
@@ -593,8 +607,8 @@ expressions::one_entry-returns-clause-keys g t c =
 
 pub chains::step_on-loop-first-preserved : goal.chains::step_on-loop-first-preserved
 chains::step_on-loop-first-preserved g t c =
-    let docs = g.S.Source.docs c.args.source.now in
-    let ps = fields c.args.params.now in
+    let docs = g.S.Source.docs c.args.setting.now.source.now in
+    let ps = fields c.args.setting.now.params.now in
     let sc = scope_of c.args.frame.now in
     let l = c.loop-first in
     let r : Remaining = record { steps = c.in-Some.steps; kinds = c.behind-kinds.result } in
@@ -634,8 +648,8 @@ chains::step_on-loop-first-preserved g t c =
 
 pub chains::step_on-returns-then-not-is_whole-clause-stop : goal.chains::step_on-returns-then-not-is_whole-clause-stop
 chains::step_on-returns-then-not-is_whole-clause-stop g t c =
-    let docs = g.S.Source.docs c.args.source.now in
-    let ps = fields c.args.params.now in
+    let docs = g.S.Source.docs c.args.setting.now.source.now in
+    let ps = fields c.args.setting.now.params.now in
     let sc = scope_of c.args.frame.now in
     let l = c.loop-first in
     let r : Remaining = record { steps = c.in-Some.steps; kinds = c.behind-kinds.result } in
@@ -657,8 +671,8 @@ chains::step_on-returns-then-not-is_whole-clause-stop g t c =
 
 pub chains::step_on-returns-then-not-is_whole-clause-keys : goal.chains::step_on-returns-then-not-is_whole-clause-keys
 chains::step_on-returns-then-not-is_whole-clause-keys g t c =
-    let docs = g.S.Source.docs c.args.source.now in
-    let ps = fields c.args.params.now in
+    let docs = g.S.Source.docs c.args.setting.now.source.now in
+    let ps = fields c.args.setting.now.params.now in
     let sc = scope_of c.args.frame.now in
     let l = c.loop-first in
     let r : Remaining = record { steps = c.in-Some.steps; kinds = c.behind-kinds.result } in

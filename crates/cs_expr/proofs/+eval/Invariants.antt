@@ -93,8 +93,8 @@ decreases-steps::project g l = entries_weight (entries_of (map entry_of l.list.n
 
 abbrev pub invariant-expressions::run-loop-first : goal.invariant-expressions::run-loop-first
 invariant-expressions::run-loop-first g l = record {
-  value : run_value (g.S.Source.docs l.source) (fields l.params) (operands_of (operands l.behind)) (scope_of l.frame) (got l.here) ≡ run_value (g.S.Source.docs l.source) (fields l.params) (operands_of (operands l.list)) (scope_of l.frame) (got l.fn.left);
-  keys : l.keys ++ run_looked (g.S.Source.docs l.source) (fields l.params) (operands_of (operands l.behind)) (scope_of l.frame) (got l.here) ≡ l.initial.keys ++ run_looked (g.S.Source.docs l.source) (fields l.params) (operands_of (operands l.list)) (scope_of l.frame) (got l.fn.left);
+  value : run_value (g.S.Source.docs l.setting.source.now) (fields l.setting.params.now) (operands_of (operands l.behind)) (scope_of l.frame) (got l.here) ≡ run_value (g.S.Source.docs l.setting.source.now) (fields l.setting.params.now) (operands_of (operands l.list)) (scope_of l.frame) (got l.fn.left);
+  keys : l.keys ++ run_looked (g.S.Source.docs l.setting.source.now) (fields l.setting.params.now) (operands_of (operands l.behind)) (scope_of l.frame) (got l.here) ≡ l.initial.keys ++ run_looked (g.S.Source.docs l.setting.source.now) (fields l.setting.params.now) (operands_of (operands l.list)) (scope_of l.frame) (got l.fn.left);
   lighter : operands_weight (operands_of (operands l.behind)) ≤ operands_weight (operands_of (operands l.list));
 }
 
@@ -103,8 +103,8 @@ decreases-expressions::run-loop-first g l = length l.behind
 
 abbrev pub invariant-expressions::array-loop-first : goal.invariant-expressions::array-loop-first
 invariant-expressions::array-loop-first g l = record {
-  value : map item l.items.items ++ elements_values (g.S.Source.docs l.source) (fields l.params) (elements_of (map element_of l.behind)) (scope_of l.frame) ≡ elements_values (g.S.Source.docs l.source) (fields l.params) (elements_of (map element_of l.list)) (scope_of l.frame);
-  keys : l.keys ++ elements_looked (g.S.Source.docs l.source) (fields l.params) (elements_of (map element_of l.behind)) (scope_of l.frame) ≡ l.initial.keys ++ elements_looked (g.S.Source.docs l.source) (fields l.params) (elements_of (map element_of l.list)) (scope_of l.frame);
+  value : map item l.items.items ++ elements_values (g.S.Source.docs l.setting.source.now) (fields l.setting.params.now) (elements_of (map element_of l.behind)) (scope_of l.frame) ≡ elements_values (g.S.Source.docs l.setting.source.now) (fields l.setting.params.now) (elements_of (map element_of l.list)) (scope_of l.frame);
+  keys : l.keys ++ elements_looked (g.S.Source.docs l.setting.source.now) (fields l.setting.params.now) (elements_of (map element_of l.behind)) (scope_of l.frame) ≡ l.initial.keys ++ elements_looked (g.S.Source.docs l.setting.source.now) (fields l.setting.params.now) (elements_of (map element_of l.list)) (scope_of l.frame);
   lighter : elements_weight (elements_of (map element_of l.behind)) ≤ elements_weight (elements_of (map element_of l.list));
 }
 
@@ -113,8 +113,8 @@ decreases-expressions::array-loop-first g l = length l.behind
 
 abbrev pub invariant-expressions::object-loop-first : goal.invariant-expressions::object-loop-first
 invariant-expressions::object-loop-first g l = record {
-  value : entries_pairs (g.S.Source.docs l.source) (fields l.params) (entries_of (map entry_of l.behind)) (scope_of l.frame) (fields l.pairs) ≡ entries_pairs (g.S.Source.docs l.source) (fields l.params) (entries_of (map entry_of l.list)) (scope_of l.frame) (fields l.initial.pairs);
-  keys : l.keys ++ entries_looked (g.S.Source.docs l.source) (fields l.params) (entries_of (map entry_of l.behind)) (scope_of l.frame) ≡ l.initial.keys ++ entries_looked (g.S.Source.docs l.source) (fields l.params) (entries_of (map entry_of l.list)) (scope_of l.frame);
+  value : entries_pairs (g.S.Source.docs l.setting.source.now) (fields l.setting.params.now) (entries_of (map entry_of l.behind)) (scope_of l.frame) (fields l.pairs) ≡ entries_pairs (g.S.Source.docs l.setting.source.now) (fields l.setting.params.now) (entries_of (map entry_of l.list)) (scope_of l.frame) (fields l.initial.pairs);
+  keys : l.keys ++ entries_looked (g.S.Source.docs l.setting.source.now) (fields l.setting.params.now) (entries_of (map entry_of l.behind)) (scope_of l.frame) ≡ l.initial.keys ++ entries_looked (g.S.Source.docs l.setting.source.now) (fields l.setting.params.now) (entries_of (map entry_of l.list)) (scope_of l.frame);
   lighter : entries_weight (entries_of (map entry_of l.behind)) ≤ entries_weight (entries_of (map entry_of l.list));
 }
 
@@ -123,12 +123,12 @@ decreases-expressions::object-loop-first g l = length l.behind
 
 abbrev pub invariant-chains::step_on-loop-first : goal.invariant-chains::step_on-loop-first
 invariant-chains::step_on-loop-first g l = record {
-  stop : stop (g.S.Source.docs l.source) (fields l.params) (steps_in l.left) (scope_of l.frame)
-      (got l.here) ≡ stop (g.S.Source.docs l.source) (fields l.params) (steps_in l.fn.rest)
+  stop : stop (g.S.Source.docs l.setting.source.now) (fields l.setting.params.now) (steps_in l.left) (scope_of l.frame)
+      (got l.here) ≡ stop (g.S.Source.docs l.setting.source.now) (fields l.setting.params.now) (steps_in l.fn.rest)
       (scope_of l.frame) (got l.fn.value);
-  keys : l.keys ++ rest_looked (g.S.Source.docs l.source) (fields l.params) (steps_in l.left)
-      (scope_of l.frame) (got l.here) ≡ l.initial.keys ++ rest_looked (g.S.Source.docs l.source)
-      (fields l.params) (steps_in l.fn.rest) (scope_of l.frame) (got l.fn.value);
+  keys : l.keys ++ rest_looked (g.S.Source.docs l.setting.source.now) (fields l.setting.params.now) (steps_in l.left)
+      (scope_of l.frame) (got l.here) ≡ l.initial.keys ++ rest_looked (g.S.Source.docs l.setting.source.now)
+      (fields l.setting.params.now) (steps_in l.fn.rest) (scope_of l.frame) (got l.fn.value);
   kinds : l.left.kinds.now ≡ kinds_of (map step_of l.left.steps.now);
   lighter : steps_weight (steps_in l.left) ≤ steps_weight (steps_in l.fn.rest);
 }
@@ -138,30 +138,30 @@ decreases-chains::step_on-loop-first g l = length l.left.steps.now
 
 abbrev pub invariant-chains::climb-loop-levels : goal.invariant-chains::climb-loop-levels
 invariant-chains::climb-loop-levels g l = record {
-  value : unwound (rest_of (g.S.Source.docs l.source) (fields l.params) (scope_of l.frame))
-      l.levels.items (reached_value (rest_of (g.S.Source.docs l.source) (fields l.params)
+  value : unwound (rest_of (g.S.Source.docs l.setting.source.now) (fields l.setting.params.now) (scope_of l.frame))
+      l.levels.items (reached_value (rest_of (g.S.Source.docs l.setting.source.now) (fields l.setting.params.now)
       (scope_of l.frame)) l.here)
-      ≡ stop_value (g.S.Source.docs l.source) (fields l.params) (scope_of l.frame) (stopped l.fn.first);
-  keys : l.keys ++ flat_map (looked_of (g.S.Source.docs l.source) (fields l.params)
+      ≡ stop_value (g.S.Source.docs l.setting.source.now) (fields l.setting.params.now) (scope_of l.frame) (stopped l.fn.first);
+  keys : l.keys ++ flat_map (looked_of (g.S.Source.docs l.setting.source.now) (fields l.setting.params.now)
       (scope_of l.frame)) (reached_waiting l.here ++ levels_waiting l.levels.items)
-      ≡ l.initial.keys ++ stop_looked (g.S.Source.docs l.source) (fields l.params)
+      ≡ l.initial.keys ++ stop_looked (g.S.Source.docs l.setting.source.now) (fields l.setting.params.now)
       (scope_of l.frame) (stopped l.fn.first);
   fit : AllFit (reached_weight l.fn.first)
       (reached_waiting l.here ++ levels_waiting l.levels.items);
 }
 
 abbrev pub decreases-chains::climb-loop-levels : goal.decreases-chains::climb-loop-levels
-decreases-chains::climb-loop-levels g l = length (flat_map (tally_of (g.S.Source.docs l.source)
-    (fields l.params) (scope_of l.frame)) (reached_waiting l.here ++ levels_waiting l.levels.items))
+decreases-chains::climb-loop-levels g l = length (flat_map (tally_of (g.S.Source.docs l.setting.source.now)
+    (fields l.setting.params.now) (scope_of l.frame)) (reached_waiting l.here ++ levels_waiting l.levels.items))
 
 abbrev pub invariant-chains::pipes-loop-pipe : goal.invariant-chains::pipes-loop-pipe
 invariant-chains::pipes-loop-pipe g l = record {
-  value : pipes_value (g.S.Source.docs l.source) (fields l.params) (steps_in l.left) (scope_of l.frame)
-      (got l.here) ≡ pipes_value (g.S.Source.docs l.source) (fields l.params)
+  value : pipes_value (g.S.Source.docs l.setting.source.now) (fields l.setting.params.now) (steps_in l.left) (scope_of l.frame)
+      (got l.here) ≡ pipes_value (g.S.Source.docs l.setting.source.now) (fields l.setting.params.now)
       (steps_of (map step_of l.steps)) (scope_of l.frame) (got l.fn.value);
-  keys : l.keys ++ pipes_looked (g.S.Source.docs l.source) (fields l.params) (steps_in l.left)
-      (scope_of l.frame) (got l.here) ≡ l.initial.keys ++ pipes_looked (g.S.Source.docs l.source)
-      (fields l.params) (steps_of (map step_of l.steps)) (scope_of l.frame) (got l.fn.value);
+  keys : l.keys ++ pipes_looked (g.S.Source.docs l.setting.source.now) (fields l.setting.params.now) (steps_in l.left)
+      (scope_of l.frame) (got l.here) ≡ l.initial.keys ++ pipes_looked (g.S.Source.docs l.setting.source.now)
+      (fields l.setting.params.now) (steps_of (map step_of l.steps)) (scope_of l.frame) (got l.fn.value);
   kinds : l.left.kinds.now ≡ kinds_of (map step_of l.left.steps.now);
   lighter : steps_weight (steps_in l.left) ≤ steps_weight (steps_of (map step_of l.steps));
 }
@@ -171,28 +171,28 @@ decreases-chains::pipes-loop-pipe g l = steps_weight (steps_in l.left)
 
 abbrev pub invariant-chains::step_of_each-loop-i : goal.invariant-chains::step_of_each-loop-i
 invariant-chains::step_of_each-loop-i g l = record {
-  value : map item l.out.items ++ map (step_value (g.S.Source.docs l.source) (fields l.params) (step_of l.step) (scope_of l.frame)) (map item (into_iter_items l.i-iterator)) ≡ map (step_value (g.S.Source.docs l.source) (fields l.params) (step_of l.step) (scope_of l.frame)) (map item (into_iter_items l.initial.i-iterator));
-  keys : l.keys ++ flat_map (step_looked (g.S.Source.docs l.source) (fields l.params) (step_of l.step) (scope_of l.frame)) (map item (into_iter_items l.i-iterator)) ≡ l.initial.keys ++ flat_map (step_looked (g.S.Source.docs l.source) (fields l.params) (step_of l.step) (scope_of l.frame)) (map item (into_iter_items l.initial.i-iterator));
+  value : map item l.out.items ++ map (step_value (g.S.Source.docs l.setting.source.now) (fields l.setting.params.now) (step_of l.step) (scope_of l.frame)) (map item (into_iter_items l.i-iterator)) ≡ map (step_value (g.S.Source.docs l.setting.source.now) (fields l.setting.params.now) (step_of l.step) (scope_of l.frame)) (map item (into_iter_items l.initial.i-iterator));
+  keys : l.keys ++ flat_map (step_looked (g.S.Source.docs l.setting.source.now) (fields l.setting.params.now) (step_of l.step) (scope_of l.frame)) (map item (into_iter_items l.i-iterator)) ≡ l.initial.keys ++ flat_map (step_looked (g.S.Source.docs l.setting.source.now) (fields l.setting.params.now) (step_of l.step) (scope_of l.frame)) (map item (into_iter_items l.initial.i-iterator));
 }
 
 abbrev pub invariant-steps::keep-loop-i : goal.invariant-steps::keep-loop-i
 invariant-steps::keep-loop-i g l = record {
-  value : map item l.out.items ++ filter (λ x. is_true (value (g.S.Source.docs l.source) (fields l.params) (expression l.inner) (x ∷ scope_of l.frame))) (map item (into_iter_items l.i-iterator)) ≡ filter (λ x. is_true (value (g.S.Source.docs l.source) (fields l.params) (expression l.inner) (x ∷ scope_of l.frame))) (map item (into_iter_items l.initial.i-iterator));
-  keys : l.keys ++ flat_map (λ x. looked (g.S.Source.docs l.source) (fields l.params) (expression l.inner) (x ∷ scope_of l.frame)) (map item (into_iter_items l.i-iterator)) ≡ l.initial.keys ++ flat_map (λ x. looked (g.S.Source.docs l.source) (fields l.params) (expression l.inner) (x ∷ scope_of l.frame)) (map item (into_iter_items l.initial.i-iterator));
+  value : map item l.out.items ++ filter (λ x. is_true (value (g.S.Source.docs l.setting.source.now) (fields l.setting.params.now) (expression l.inner) (x ∷ scope_of l.frame))) (map item (into_iter_items l.i-iterator)) ≡ filter (λ x. is_true (value (g.S.Source.docs l.setting.source.now) (fields l.setting.params.now) (expression l.inner) (x ∷ scope_of l.frame))) (map item (into_iter_items l.initial.i-iterator));
+  keys : l.keys ++ flat_map (λ x. looked (g.S.Source.docs l.setting.source.now) (fields l.setting.params.now) (expression l.inner) (x ∷ scope_of l.frame)) (map item (into_iter_items l.i-iterator)) ≡ l.initial.keys ++ flat_map (λ x. looked (g.S.Source.docs l.setting.source.now) (fields l.setting.params.now) (expression l.inner) (x ∷ scope_of l.frame)) (map item (into_iter_items l.initial.i-iterator));
 }
 
 abbrev pub invariant-steps::keep_lent-loop-part : goal.invariant-steps::keep_lent-loop-part
 invariant-steps::keep_lent-loop-part g l = record {
   value : map (λ r. tree r.now) l.out.items ++ filter (λ x. is_true (value
-      (g.S.Source.docs l.source) (fields l.params) (expression l.inner) (x ∷ scope_of l.frame)))
+      (g.S.Source.docs l.setting.source.now) (fields l.setting.params.now) (expression l.inner) (x ∷ scope_of l.frame)))
       (map (λ r. tree r.now) (into_iter_items l.part-iterator))
-      ≡ filter (λ x. is_true (value (g.S.Source.docs l.source) (fields l.params)
+      ≡ filter (λ x. is_true (value (g.S.Source.docs l.setting.source.now) (fields l.setting.params.now)
       (expression l.inner) (x ∷ scope_of l.frame)))
       (map (λ r. tree r.now) (into_iter_items l.initial.part-iterator));
-  keys : l.keys ++ flat_map (λ x. looked (g.S.Source.docs l.source) (fields l.params)
+  keys : l.keys ++ flat_map (λ x. looked (g.S.Source.docs l.setting.source.now) (fields l.setting.params.now)
       (expression l.inner) (x ∷ scope_of l.frame))
       (map (λ r. tree r.now) (into_iter_items l.part-iterator))
-      ≡ l.initial.keys ++ flat_map (λ x. looked (g.S.Source.docs l.source) (fields l.params)
+      ≡ l.initial.keys ++ flat_map (λ x. looked (g.S.Source.docs l.setting.source.now) (fields l.setting.params.now)
       (expression l.inner) (x ∷ scope_of l.frame))
       (map (λ r. tree r.now) (into_iter_items l.initial.part-iterator));
 }
@@ -220,8 +220,8 @@ decreases-steps::order_keys g l = keys_weight (keys_of (map order_key_of l.order
 
 abbrev pub invariant-steps::order_keys-loop-first : goal.invariant-steps::order_keys-loop-first
 invariant-steps::order_keys-loop-first g l = record {
-  value : map item l.out.items ++ keys_values (g.S.Source.docs l.source) (fields l.params) (keys_of (map order_key_of l.behind)) (scope_of l.frame) ≡ keys_values (g.S.Source.docs l.source) (fields l.params) (keys_of (map order_key_of l.order)) (scope_of l.frame);
-  keys : l.keys ++ keys_looked (g.S.Source.docs l.source) (fields l.params) (keys_of (map order_key_of l.behind)) (scope_of l.frame) ≡ l.initial.keys ++ keys_looked (g.S.Source.docs l.source) (fields l.params) (keys_of (map order_key_of l.order)) (scope_of l.frame);
+  value : map item l.out.items ++ keys_values (g.S.Source.docs l.setting.source.now) (fields l.setting.params.now) (keys_of (map order_key_of l.behind)) (scope_of l.frame) ≡ keys_values (g.S.Source.docs l.setting.source.now) (fields l.setting.params.now) (keys_of (map order_key_of l.order)) (scope_of l.frame);
+  keys : l.keys ++ keys_looked (g.S.Source.docs l.setting.source.now) (fields l.setting.params.now) (keys_of (map order_key_of l.behind)) (scope_of l.frame) ≡ l.initial.keys ++ keys_looked (g.S.Source.docs l.setting.source.now) (fields l.setting.params.now) (keys_of (map order_key_of l.order)) (scope_of l.frame);
   lighter : keys_weight (keys_of (map order_key_of l.behind)) ≤ keys_weight (keys_of (map order_key_of l.order));
 }
 
@@ -231,16 +231,16 @@ decreases-steps::order_keys-loop-first g l = length l.behind
 abbrev pub invariant-steps::rank_each-loop-i : goal.invariant-steps::rank_each-loop-i
 invariant-steps::rank_each-loop-i g l = record {
   value : all_kept l.directions l.limit (map ranked_of l.kept.items) (map (ranked (λ x. keys_values
-      (g.S.Source.docs l.source) (fields l.params) (keys_of (map order_key_of l.order))
+      (g.S.Source.docs l.setting.source.now) (fields l.setting.params.now) (keys_of (map order_key_of l.order))
       (x ∷ scope_of l.frame))) (map item (into_iter_items l.i-iterator)))
       ≡ all_kept l.directions l.limit [] (map (ranked (λ x. keys_values
-      (g.S.Source.docs l.source) (fields l.params) (keys_of (map order_key_of l.order))
+      (g.S.Source.docs l.setting.source.now) (fields l.setting.params.now) (keys_of (map order_key_of l.order))
       (x ∷ scope_of l.frame))) (map item (into_iter_items l.initial.i-iterator)));
   can : CanKeep l.directions l.limit (map ranked_of l.kept.items);
-  keys : l.keys ++ flat_map (λ x. keys_looked (g.S.Source.docs l.source) (fields l.params)
+  keys : l.keys ++ flat_map (λ x. keys_looked (g.S.Source.docs l.setting.source.now) (fields l.setting.params.now)
       (keys_of (map order_key_of l.order)) (x ∷ scope_of l.frame)) (map item (into_iter_items l.i-iterator))
-      ≡ l.initial.keys ++ flat_map (λ x. keys_looked (g.S.Source.docs l.source)
-      (fields l.params) (keys_of (map order_key_of l.order)) (x ∷ scope_of l.frame))
+      ≡ l.initial.keys ++ flat_map (λ x. keys_looked (g.S.Source.docs l.setting.source.now)
+      (fields l.setting.params.now) (keys_of (map order_key_of l.order)) (x ∷ scope_of l.frame))
       (map item (into_iter_items l.initial.i-iterator));
 }
 
@@ -267,8 +267,8 @@ decreases-expressions::within g l = weight (expression l.left.now) + weight (exp
 
 abbrev pub invariant-calls::coalesce-loop-first : goal.invariant-calls::coalesce-loop-first
 invariant-calls::coalesce-loop-first g l = record {
-  value : coalesced (g.S.Source.docs l.source) (fields l.params) (arguments_of (map argument_of l.behind)) (scope_of l.frame) ≡ coalesced (g.S.Source.docs l.source) (fields l.params) (arguments_of (map argument_of l.args)) (scope_of l.frame);
-  keys : l.keys ++ coalesced_looked (g.S.Source.docs l.source) (fields l.params) (arguments_of (map argument_of l.behind)) (scope_of l.frame) ≡ l.initial.keys ++ coalesced_looked (g.S.Source.docs l.source) (fields l.params) (arguments_of (map argument_of l.args)) (scope_of l.frame);
+  value : coalesced (g.S.Source.docs l.setting.source.now) (fields l.setting.params.now) (arguments_of (map argument_of l.behind)) (scope_of l.frame) ≡ coalesced (g.S.Source.docs l.setting.source.now) (fields l.setting.params.now) (arguments_of (map argument_of l.args)) (scope_of l.frame);
+  keys : l.keys ++ coalesced_looked (g.S.Source.docs l.setting.source.now) (fields l.setting.params.now) (arguments_of (map argument_of l.behind)) (scope_of l.frame) ≡ l.initial.keys ++ coalesced_looked (g.S.Source.docs l.setting.source.now) (fields l.setting.params.now) (arguments_of (map argument_of l.args)) (scope_of l.frame);
   lighter : arguments_weight (arguments_of (map argument_of l.behind)) ≤ arguments_weight (arguments_of (map argument_of l.args));
 }
 
@@ -277,8 +277,8 @@ decreases-calls::coalesce-loop-first g l = length l.behind
 
 abbrev pub invariant-calls::select-loop-first : goal.invariant-calls::select-loop-first
 invariant-calls::select-loop-first g l = record {
-  value : selected (g.S.Source.docs l.source) (fields l.params) (arguments_of (map argument_of l.behind)) (scope_of l.frame) ≡ selected (g.S.Source.docs l.source) (fields l.params) (arguments_of (map argument_of l.args)) (scope_of l.frame);
-  keys : l.keys ++ selected_looked (g.S.Source.docs l.source) (fields l.params) (arguments_of (map argument_of l.behind)) (scope_of l.frame) ≡ l.initial.keys ++ selected_looked (g.S.Source.docs l.source) (fields l.params) (arguments_of (map argument_of l.args)) (scope_of l.frame);
+  value : selected (g.S.Source.docs l.setting.source.now) (fields l.setting.params.now) (arguments_of (map argument_of l.behind)) (scope_of l.frame) ≡ selected (g.S.Source.docs l.setting.source.now) (fields l.setting.params.now) (arguments_of (map argument_of l.args)) (scope_of l.frame);
+  keys : l.keys ++ selected_looked (g.S.Source.docs l.setting.source.now) (fields l.setting.params.now) (arguments_of (map argument_of l.behind)) (scope_of l.frame) ≡ l.initial.keys ++ selected_looked (g.S.Source.docs l.setting.source.now) (fields l.setting.params.now) (arguments_of (map argument_of l.args)) (scope_of l.frame);
   lighter : arguments_weight (arguments_of (map argument_of l.behind)) ≤ arguments_weight (arguments_of (map argument_of l.args));
 }
 
@@ -287,8 +287,8 @@ decreases-calls::select-loop-first g l = length l.behind
 
 abbrev pub invariant-calls::arguments-loop-first : goal.invariant-calls::arguments-loop-first
 invariant-calls::arguments-loop-first g l = record {
-  value : map got l.out.items ++ arguments_values (g.S.Source.docs l.source) (fields l.params) (arguments_of (map argument_of l.behind)) (scope_of l.frame) ≡ arguments_values (g.S.Source.docs l.source) (fields l.params) (arguments_of (map argument_of l.args)) (scope_of l.frame);
-  keys : l.keys ++ arguments_looked (g.S.Source.docs l.source) (fields l.params) (arguments_of (map argument_of l.behind)) (scope_of l.frame) ≡ l.initial.keys ++ arguments_looked (g.S.Source.docs l.source) (fields l.params) (arguments_of (map argument_of l.args)) (scope_of l.frame);
+  value : map got l.out.items ++ arguments_values (g.S.Source.docs l.setting.source.now) (fields l.setting.params.now) (arguments_of (map argument_of l.behind)) (scope_of l.frame) ≡ arguments_values (g.S.Source.docs l.setting.source.now) (fields l.setting.params.now) (arguments_of (map argument_of l.args)) (scope_of l.frame);
+  keys : l.keys ++ arguments_looked (g.S.Source.docs l.setting.source.now) (fields l.setting.params.now) (arguments_of (map argument_of l.behind)) (scope_of l.frame) ≡ l.initial.keys ++ arguments_looked (g.S.Source.docs l.setting.source.now) (fields l.setting.params.now) (arguments_of (map argument_of l.args)) (scope_of l.frame);
   lighter : arguments_weight (arguments_of (map argument_of l.behind)) ≤ arguments_weight (arguments_of (map argument_of l.args));
 }
 

@@ -10,7 +10,7 @@ use Rattle.cs_expr.proofs.chains.enter.Goals as goal
 pub returns-clause-value : goal.returns-clause-value
 returns-clause-value g c =
     subst (λ (y : Tree). IfOk c.climb.result (λ g'. got g' ≡ y))
-    (array_enters (g.S.Source.docs c.args.source.now) (fields c.args.params.now)
+    (array_enters (g.S.Source.docs c.args.setting.now.source.now) (fields c.args.setting.now.params.now)
     (scope_of c.args.frame.now) c.entering-first.result c.entrance_of-entrance.result
     c.first_kind.result c.args.value _ c.entering-first.ensures c.entrance_of-entrance.ensures
     c.first_kind.ensures c.requires)
@@ -19,7 +19,7 @@ returns-clause-value g c =
 pub returns-clause-keys : goal.returns-clause-keys
 returns-clause-keys g c =
     subst (λ (ks : List Key). OnOk c.climb.result (c.climb.new.keys ≡ c.args.keys.now ++ ks))
-    (array_looks (g.S.Source.docs c.args.source.now) (fields c.args.params.now)
+    (array_looks (g.S.Source.docs c.args.setting.now.source.now) (fields c.args.setting.now.params.now)
     (scope_of c.args.frame.now) c.entering-first.result c.entrance_of-entrance.result
     c.first_kind.result c.args.value _ c.entering-first.ensures c.entrance_of-entrance.ensures
     c.first_kind.ensures c.requires)
