@@ -51,10 +51,13 @@ impl Core {
                 line,
                 out,
             ),
-            Err(fault) => match no_query(&fault) {
-                Some(why) => self.state.refuse(why, line, out),
-                None => Err(NoMemory),
-            },
+            Err(fault) => {
+                drop((name, params));
+                match no_query(&fault) {
+                    Some(why) => self.state.refuse(why, line, out),
+                    None => Err(NoMemory),
+                }
+            }
         }
     }
 
@@ -75,12 +78,18 @@ impl Core {
             (listened_filter (expression_of query)))) }
         ensures kept { OnErr result (IsKept self.old self.new) }
     {
-        let Ok(predicate) = Plain::from_query(query) else {
-            return self.state.refuse(Refusal::NotListenable, line, out);
+        let predicate = match Plain::from_query(query) {
+            Ok(predicate) => predicate,
+            Err(query) => {
+                drop((query, params));
+                return self.state.refuse(Refusal::NotListenable, line, out);
+            }
         };
         if self.state.live.has(name.as_str()) {
             let name = name.as_str();
-            return self.state.refuse(Refusal::NameUsed { name }, line, out);
+            let told = self.state.refuse(Refusal::NameUsed { name }, line, out);
+            drop((predicate, params));
+            return told;
         }
         self.welcome(
             name,
@@ -112,9 +121,15 @@ impl Core {
             (Some (filter_of predicate)))) }
         ensures kept { OnErr result (IsKept self.old self.new) }
     {
-        let named = name.copy(self.alloc)?;
+        let Ok(named) = name.copy(self.alloc) else {
+            drop((predicate, params));
+            return Err(NoMemory);
+        };
         let begun = out.len();
-        Reply::Welcome(named.as_str()).write(self.alloc, line, out)?;
+        let Ok(()) = Reply::Welcome(named.as_str()).write(self.alloc, line, out) else {
+            drop((predicate, params));
+            return Err(NoMemory);
+        };
         match self
             .state
             .listeners

@@ -47,13 +47,19 @@ impl Core {
     {
         match parse(self.alloc, text) {
             Ok(query) => {
-                self.make_ready(&query)?;
+                let Ok(()) = self.make_ready(&query) else {
+                    drop((query, params));
+                    return Err(NoMemory);
+                };
                 self.subscribe(name, query, params, line, steps, out)
             }
-            Err(fault) => match no_query(&fault) {
-                Some(why) => self.state.refuse(why, line, out),
-                None => Err(NoMemory),
-            },
+            Err(fault) => {
+                drop((name, params));
+                match no_query(&fault) {
+                    Some(why) => self.state.refuse(why, line, out),
+                    None => Err(NoMemory),
+                }
+            }
         }
     }
 
@@ -78,9 +84,14 @@ impl Core {
     {
         if self.state.listeners.has(name.as_str()) {
             let name = name.as_str();
-            return self.state.refuse(Refusal::NameUsed { name }, line, out);
+            let told = self.state.refuse(Refusal::NameUsed { name }, line, out);
+            drop((query, params));
+            return told;
         }
-        let named = name.copy(self.alloc)?;
+        let Ok(named) = name.copy(self.alloc) else {
+            drop((query, params));
+            return Err(NoMemory);
+        };
         match self.add_live(name, query, params, steps) {
             Ok(first) => match write_answer(self.alloc, &first, line, out) {
                 Ok(()) => Ok(ONE_ANSWER),

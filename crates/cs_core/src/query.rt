@@ -119,8 +119,14 @@ impl Core {
     {
         match parse(self.alloc, text) {
             Ok(query) => {
-                self.make_ready(&query)?;
-                find(self.alloc, &self.state, &query, params, line, steps, out)?;
+                let Ok(()) = self.make_ready(&query) else {
+                    drop(query);
+                    return Err(NoMemory);
+                };
+                let Ok(()) = find(self.alloc, &self.state, &query, params, line, steps, out) else {
+                    drop(query);
+                    return Err(NoMemory);
+                };
                 self.recent.keep(text, query);
                 Ok(ONE_REPLY)
             }

@@ -74,6 +74,7 @@ impl Recent {
         requires { verdict text.now ≡ query (expression_of read) }
     {
         if !self.marks.note(text) {
+            drop(read);
             return;
         }
         match short_copy(self.alloc, text) {

@@ -34,7 +34,11 @@ fn kinds_of_text(alloc: Global, text: &str) -> Result<Vec<KeyKind>, NoMemory> {
         return Ok(Vec::new(alloc));
     }
     match parse(alloc, text) {
-        Ok(query) => wanted_kinds(alloc, &query),
+        Ok(query) => {
+            let kinds = wanted_kinds(alloc, &query);
+            drop(query);
+            kinds
+        }
         Err(_) => Ok(Vec::new(alloc)),
     }
 }

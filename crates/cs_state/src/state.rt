@@ -64,12 +64,16 @@ impl State {
         ensures begun { IfOk result (λ held. state held ≡ begun (docs_of docs)) }
         ensures usable { IfOk result (λ held. IsUsable held) }
     {
+        let Ok(moment) = Txt::copy_of(alloc, FIRST_MOMENT) else {
+            drop(docs);
+            return Err(NoMemory);
+        };
         let index = Index::new(alloc, seed);
         Ok(State {
             alloc,
             docs,
             index,
-            moment: Txt::copy_of(alloc, FIRST_MOMENT)?,
+            moment,
             used: IndexSet::new(alloc),
             live: Live::new(alloc, seed),
             listeners: Listeners::new(alloc, seed),

@@ -198,7 +198,10 @@ impl State {
             (transaction_cost (state self.old) (plain txn)) self.old
             (by_transaction (state self.old) (plain txn)) steps.old steps.new }
     {
-        self.make_ready_for(txn.mutations.as_slice())?;
+        let Ok(()) = self.make_ready_for(txn.mutations.as_slice()) else {
+            drop(txn);
+            return Err(NoMemory);
+        };
         self.do_all(txn, line, steps, out)
     }
 
@@ -227,10 +230,16 @@ impl State {
         let Txn { id: tx, mutations } = txn;
         let id = tx.as_str();
         if self.used.contains(id) {
-            return self.refuse(Refusal::TxUsed { id }, line, out);
+            let told = self.refuse(Refusal::TxUsed { id }, line, out);
+            drop(mutations);
+            return told;
         }
         match self.prepare(&tx, mutations, steps) {
-            Ok(prepared) => self.accept(&tx, &prepared, line, steps, out),
+            Ok(prepared) => {
+                let told = self.accept(&tx, &prepared, line, steps, out);
+                drop(prepared);
+                told
+            }
             Err(refusal) => {
                 write_refused(self.alloc, &refusal, line, out)?;
                 Ok(ONE_REFUSAL)

@@ -25,7 +25,7 @@ returns-in-Ok-clause-does g c =
     let told =
     subst (λ (t : State). Appended c.args.out.now.items c.find.new.out.items
     (reply_tree c.args.line (found (query_value t.docs ps e)))) same
-    c.in_ok-find-in-Ok.ensures.appended in
+    c.in-Ok-find.ensures.appended in
     does_as _ _ _ core.state c.args.line _ _ is
     (says _ _ _ core s c.args.line (found (query_value s.docs ps e)) same
     c.make_ready.ensures.usable

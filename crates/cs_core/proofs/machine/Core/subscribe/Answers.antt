@@ -20,20 +20,20 @@ returns-then-has-clause-does g c =
     let first = made s.docs c.args.name (expression_of c.args.query) (fields c.args.params) in
     let taken = taken_by_listener s c.args.name _ (length s.lives) (lively s first)
     c.as_str-name.ensures (search rules) in
-    IfOk-weaker c.refuse.result _ _ (λ t h. does_as _ _ t core.state c.args.line _ _ taken h)
-    c.refuse.ensures
+    IfOk-weaker c.refuse-told.result _ _ (λ t h. does_as _ _ t core.state c.args.line _ _ taken h)
+    c.refuse-told.ensures
 
 pub returns-then-has-clause-kept : goal.returns-then-has-clause-kept
 returns-then-has-clause-kept g c =
-    kept_on c.refuse.result (same_kept c.args.self.now.state c.requires.usable)
+    kept_on c.refuse-told.result (same_kept c.args.self.now.state c.requires.usable)
 
-pub returns-in-Ok-clause-kept : goal.returns-in-Ok-clause-kept
-returns-in-Ok-clause-kept g c =
+pub returns-in-Ok-add_live-clause-kept : goal.returns-in-Ok-add_live-clause-kept
+returns-in-Ok-add_live-clause-kept g c =
     record {
       state_is = c.forget_live.ensures.state
           ∙ taken_back (state c.args.self.now) (state c.add_live.new.self) c.args.name
           c.as_str-in-Err.result.now (expression_of c.args.query) (fields c.args.params)
-          c.in-Ok.ensures.state c.in-Ok.ensures.room (search rules);
+          c.in-Ok-add_live.ensures.state c.in-Ok-add_live.ensures.room (search rules);
       usable = c.forget_live.ensures.usable;
     }
 
@@ -46,9 +46,9 @@ returns-in-Ok-write_answer-clause-does g c =
     = cc (c.has.ensures, c.if-has.false) in
     does_as c.args.out.now.items c.write_answer.new.out.items _ core.state c.args.line (lively s m) _
     (made_with_room s c.args.name c.as_str.result.now (lively s m) c.as_str.ensures none
-    c.in-Ok.ensures.room)
+    c.in-Ok-add_live.ensures.room)
     (says c.args.out.now.items c.write_answer.new.out.items _ core
-    (with_lives (s.lives ++ m ∷ []) s) c.args.line (live m.name m.last) c.in-Ok.ensures.state
+    (with_lives (s.lives ++ m ∷ []) s) c.args.line (live m.name m.last) c.in-Ok-add_live.ensures.state
     c.add_live.ensures.usable
     (record { replies = refl; events = refl; live = refl; refused = refl })
-    (c.in-Ok-write_answer.ensures (say m) c.in-Ok.ensures.line))
+    (c.in-Ok-write_answer.ensures (say m) c.in-Ok-add_live.ensures.line))

@@ -21,8 +21,8 @@ returns-in-Ok-clause-does g c =
     let row = row_known c.commits_keep_datasets.ensures c.changes_are_computed.ensures
     c.changes_are_one_list.ensures (state held) (txn c.args.txn) (prepared c.in-Ok.prepared)
     (is_dataset_of held.docs) (search rules) c.in-Ok.ensures.accepted c.in-Ok.ensures.changes in
-    IfOk-weaker c.accept.result _ _ (λ t h. does_as _ _ t c.accept.new.self c.args.line _ _ row h)
-    c.accept.ensures.does
+    IfOk-weaker c.accept-told.result _ _ (λ t h. does_as _ _ t c.accept-told.new.self c.args.line _ _ row h)
+    c.accept-told.ensures.does
 
 pub returns-in-Ok-clause-leaves : goal.returns-in-Ok-clause-leaves
 returns-in-Ok-clause-leaves g c =
@@ -30,8 +30,8 @@ returns-in-Ok-clause-leaves g c =
     let row = row_known c.commits_keep_datasets.ensures c.changes_are_computed.ensures
     c.changes_are_one_list.ensures (state held) (txn c.args.txn) (prepared c.in-Ok.prepared)
     (is_dataset_of held.docs) (search rules) c.in-Ok.ensures.accepted c.in-Ok.ensures.changes in
-    on_err_weaker c.accept.result (λ h. leaves_as held c.accept.new.self _ _ row h)
-    c.accept.ensures.leaves
+    on_err_weaker c.accept-told.result (λ h. leaves_as held c.accept-told.new.self _ _ row h)
+    c.accept-told.ensures.leaves
 
 pub returns-clause-does : goal.returns-clause-does
 returns-clause-does g c =
@@ -73,8 +73,8 @@ returns-in-Ok-clause-visits g c =
     let are = changes_known c.commits_keep_datasets.ensures c.changes_are_computed.ensures
     c.changes_are_one_list.ensures s x cs (is_dataset_of held.docs)
     c.in-Ok.ensures.accepted c.in-Ok.ensures.changes in
-    few_accepted held x cs c.args.steps.now c.prepare.new.steps c.accept.new.steps (search rules)
-    row are c.prepare.ensures.visits c.accept.ensures.quiet
+    few_accepted held x cs c.args.steps.now c.prepare.new.steps c.accept-told.new.steps (search rules)
+    row are c.prepare.ensures.visits c.accept-told.ensures.quiet
 
 pub returns-clause-visits : goal.returns-clause-visits
 returns-clause-visits g c =
